@@ -1,0 +1,67 @@
+-- Laws of `Gives`: what a call answers that goes on with the value of another call.
+use Rattle.std.proofs.Common.{◌≡◌, ◌++◌, append_assoc, refl, sym, subst, ap, ◌∙◌, ◌∷◌, [], List}
+use Rattle.std.specs.Prelude.{Result, Ok, Err, Option, Some, None}
+use Rattle.std.specs.Option.{option_map}
+use Rattle.go_base.specs.Gives.{Unless, Gives, ◌>>=◌}
+
+-- ---- `Unless`
+
+pub unless_map : {F : Type 0} (o : Option F) (P Q : F → Type 0) → ((f : F) → P f → Q f) → Unless o P → Unless o Q
+unless_map None P Q h u = tt
+unless_map (Some f) P Q h u = h f u
+
+pub unless_all : {F : Type 0} (o : Option F) (P : F → Type 0) → ((f : F) → P f) → Unless o P
+unless_all None P h = tt
+unless_all (Some f) P h = h f
+
+-- the refusal is named by another error, and perhaps by another name
+pub unless_named : {F G : Type 0} (name : F → G) (o : Option F) (p : Option G) (P : F → Type 0) (Q : G → Type 0) → p ≡ option_map name o → ((f : F) → P f → Q (name f)) → Unless o P → Unless p Q
+unless_named name None None P Q e h u = tt
+unless_named name None (Some g) P Q e h u = cc
+unless_named name (Some f) None P Q e h u = cc
+unless_named {G = G} name (Some f) (Some g) P Q e h u =
+    let same : g ≡ name f = cc in
+    subst Q (sym same) (h f u)
+
+-- ---- `Gives` at one of its cases
+
+pub gives_ok : {X Y E F : Type 0} (view : X → Y) (refusal_of : E → Option F) (r : Result X E) (x : X) (answer : Result Y F) → r ≡ Ok x → Gives view refusal_of r answer → answer ≡ Ok (view x)
+gives_ok view refusal_of (Ok z) x answer e g = let same : z ≡ x = cc in g ∙ ap (λ w. Ok (view w)) same
+gives_ok view refusal_of (Err z) x answer e g = cc
+
+pub gives_err : {X Y E F : Type 0} (view : X → Y) (refusal_of : E → Option F) (r : Result X E) (e : E) (answer : Result Y F) → r ≡ Err e → Gives view refusal_of r answer → Unless (refusal_of e) (λ f. answer ≡ Err f)
+gives_err view refusal_of (Ok z) e answer is g = cc
+gives_err view refusal_of (Err z) e answer is g = let same : z ≡ e = cc in subst (λ w. Unless (refusal_of w) (λ f. answer ≡ Err f)) same g
+
+-- an answer that is another one's
+pub gives_same : {X Y E F : Type 0} (view : X → Y) (refusal_of : E → Option F) (r : Result X E) (a b : Result Y F) → a ≡ b → Gives view refusal_of r a → Gives view refusal_of r b
+gives_same view refusal_of r a b e g = subst (Gives view refusal_of r) e g
+
+-- ---- going on by `?`
+
+-- The inner call's refusal is the whole's.
+pub gives_stop : {E F A B : Type 0} (refusal_of : E → Option F) (e : E) (inner : Result A F) (f : A → Result B F) → Unless (refusal_of e) (λ r. inner ≡ Err r) → Unless (refusal_of e) (λ r. (inner >>= f) ≡ Err r)
+gives_stop refusal_of e inner f = unless_map (refusal_of e) (λ r. inner ≡ Err r) (λ r. (inner >>= f) ≡ Err r) (λ r is. ap (λ x. x >>= f) is)
+
+-- The inner call's value goes on.
+pub gives_go : {X Y A E F : Type 0} (view : X → Y) (refusal_of : E → Option F) (r : Result X E) (inner : Result A F) (f : A → Result Y F) (a : A) → inner ≡ Ok a → Gives view refusal_of r (f a) → Gives view refusal_of r (inner >>= f)
+gives_go view refusal_of r inner f a is g = subst (Gives view refusal_of r) (sym (ap (λ x. x >>= f) is)) g
+
+-- ---- a loop that collects the values of calls, one for each item
+
+-- the answer with these values in front of its own
+abbrev pub onto : {A F : Type 0} → List A → Result (List A) F → Result (List A) F
+onto front (Ok xs) = Ok (front ++ xs)
+onto front (Err f) = Err f
+
+pub onto_nil : {A F : Type 0} (r : Result (List A) F) → onto [] r ≡ r
+onto_nil (Ok xs) = refl
+onto_nil (Err f) = refl
+
+pub onto_append : {A F : Type 0} (front : List A) (x : A) (r : Result (List A) F) → onto (front ++ x ∷ []) r ≡ onto front (onto (x ∷ []) r)
+onto_append front x (Ok xs) = ap Ok (append_assoc front (x ∷ []) xs)
+onto_append front x (Err f) = refl
+
+-- The refusal of what is left is the whole's.
+pub gives_left : {E F A : Type 0} (refusal_of : E → Option F) (e : E) (front : List A) (rest whole : Result (List A) F) → onto front rest ≡ whole → Unless (refusal_of e) (λ r. rest ≡ Err r) → Unless (refusal_of e) (λ r. whole ≡ Err r)
+gives_left refusal_of e front rest whole is = unless_map (refusal_of e) (λ r. rest ≡ Err r) (λ r. whole ≡ Err r) (λ r stop. sym is ∙ ap (onto front) stop)

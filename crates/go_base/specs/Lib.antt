@@ -1,0 +1,5 @@
+pub mod Gives
+pub mod Name
+pub mod Fault
+pub mod Steps
+pub mod Package

@@ -1,0 +1,5 @@
+/// The most files of a package.
+pub const MAX_FILES: u32 = 256;
+
+/// The most bytes of a package.
+pub const MAX_BYTES: u32 = 1_048_576;
