@@ -1,0 +1,5 @@
+pub mod Faults
+pub mod Streams
+pub mod Held
+pub mod Folders
+pub mod Stored

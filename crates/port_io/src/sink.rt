@@ -1,0 +1,218 @@
+ghost use Rattle.std.specs.Prelude.{◌≡◌, ℕ, ◌<◌, ◌≤◌, List, [], ◌++◌, length, take, Option, Some, None, IfOk, IfErr, OnOk, OnErr, IfSome};
+ghost use Rattle.port_io.specs.Faults.{CountsWrite};
+
+use crate::calls::{Calls, raise};
+use std::alloc::{AllocError, Global};
+use std::io::{ErrorKind, Write};
+use thiserror::Error;
+
+/// Why a sink took nothing.
+#[derive(Clone, Copy, Debug, PartialEq, Eq, Error)]
+pub enum SinkError {
+    #[error("a write failed")]
+    Failed,
+    #[error("out of memory")]
+    Memory,
+}
+
+impl From<AllocError> for SinkError {
+    ghost use Rattle.port_io.specs.declared.sink.SinkError.TheVariants as errors;
+
+    ghost from_gives = { λ _ e. e ≡ errors.Memory };
+
+    fn from(_error: AllocError) -> SinkError {
+        SinkError::Memory
+    }
+}
+
+/// Where bytes go.
+pub trait Sink {
+    /// The bytes that were written, where they are told.
+    ghost written: { Self → Option (List ℕ) };
+
+    /// How many writes failed. The count stands still at 2^64 - 1.
+    ghost faults: { Self → ℕ };
+
+    /// Appends bytes of the front of the piece, one or more, and answers how many.
+    fn write(&mut self, bytes: &[u8]) -> Result<usize, SinkError>
+        requires { 0 < length bytes.now }
+        ensures some { IfOk result (λ n. 1 ≤ n) }
+        ensures bound { IfOk result (λ n. n ≤ length bytes.now) }
+        ensures appended { IfOk result (λ n. IfSome (written self.old) (λ before.
+            written self.new ≡ Some (before ++ take n bytes.now))) }
+        ensures kept { OnErr result (written self.new ≡ written self.old) }
+        ensures count { CountsWrite result (faults self.old) (faults self.new) };
+}
+
+/// What was written.
+#[derive(Drop)]
+struct Record {
+    bytes: Vec<u8>,
+}
+
+impl Record {
+    fn new(alloc: Global) -> Record
+        ensures { result.bytes.items ≡ [] }
+    {
+        Record {
+            bytes: Vec::new(alloc),
+        }
+    }
+
+    fn append(&mut self, bytes: &[u8]) -> Result<usize, SinkError>
+        ensures ok { IfOk result (λ n. n ≡ length bytes.now) }
+        ensures appended { OnOk result (self.new.bytes.items ≡ self.old.bytes.items ++ bytes.now) }
+        ensures kept { OnErr result (self.new.bytes.items ≡ self.old.bytes.items) }
+        ensures memory { IfErr result (λ e. e ≡ SinkError.Memory) }
+    {
+        self.bytes.extend_from_slice(bytes)?;
+        Ok(bytes.len())
+    }
+}
+
+/// Memory that keeps what is written, with writes that fail by their numbers, counted from 1.
+#[derive(Drop)]
+pub struct MemSink {
+    kept: Record,
+    calls: Calls,
+    faults: u64,
+}
+
+impl MemSink {
+    /// An empty sink, of which the calls with these numbers fail.
+    pub fn new(alloc: Global, failing: Vec<u64>) -> MemSink
+        ensures written { ⟦<MemSink as Sink>⟧.written result ≡ Some [] }
+        ensures faults { ⟦<MemSink as Sink>⟧.faults result ≡ 0 }
+    {
+        MemSink {
+            kept: Record::new(alloc),
+            calls: Calls::new(failing),
+            faults: 0,
+        }
+    }
+
+    /// What was written.
+    pub fn written(&self) -> &[u8]
+        ensures { ⟦<MemSink as Sink>⟧.written self.now ≡ Some result.now }
+    {
+        self.kept.bytes.as_slice()
+    }
+}
+
+impl Sink for MemSink {
+    ghost written = { λ s. Some s.kept.bytes.items };
+
+    ghost faults = { λ s. s.faults };
+
+    fn write(&mut self, bytes: &[u8]) -> Result<usize, SinkError> {
+        if self.calls.next_fails() {
+            self.faults = raise(self.faults);
+            return Err(SinkError::Failed);
+        }
+        self.kept.append(bytes)
+    }
+}
+
+/// Memory that keeps what is written, whose writes never fail.
+#[derive(Drop)]
+pub struct SureSink {
+    kept: Record,
+}
+
+impl SureSink {
+    /// An empty sink.
+    pub fn new(alloc: Global) -> SureSink
+        ensures { ⟦<SureSink as Sink>⟧.written result ≡ Some [] }
+    {
+        SureSink {
+            kept: Record::new(alloc),
+        }
+    }
+
+    /// What was written.
+    pub fn written(&self) -> &[u8]
+        ensures { ⟦<SureSink as Sink>⟧.written self.now ≡ Some result.now }
+    {
+        self.kept.bytes.as_slice()
+    }
+}
+
+impl Sink for SureSink {
+    ghost written = { λ s. Some s.kept.bytes.items };
+
+    ghost faults = { λ _. 0 };
+
+    fn write(&mut self, bytes: &[u8]) -> Result<usize, SinkError> {
+        self.kept.append(bytes)
+    }
+}
+
+/// A stream of std, as a file or standard output. It tells no contents.
+#[derive(Drop)]
+pub struct FileSink<W: Write> {
+    writer: W,
+    faults: u64,
+}
+
+impl<W: Write> FileSink<W> {
+    /// A sink that writes to the writer.
+    pub fn new(writer: W) -> FileSink<W> {
+        FileSink { writer, faults: 0 }
+    }
+}
+
+impl<W: Write> Sink for FileSink<W> {
+    ghost written = { λ _. None };
+
+    ghost faults = { λ s. s.faults };
+
+    fn write(&mut self, bytes: &[u8]) -> Result<usize, SinkError> {
+        match self.writer.write(bytes) {
+            Ok(n) if n > 0 => Ok(n),
+            Err(error) if error.kind() == ErrorKind::OutOfMemory => Err(SinkError::Memory),
+            _ => {
+                self.faults = raise(self.faults);
+                Err(SinkError::Failed)
+            }
+        }
+    }
+}
+
+#[cfg(test)]
+mod tests {
+    use super::*;
+    use std::test::Fail;
+
+    fn write_twice<K: Sink>(sink: &mut K) -> Result<usize, SinkError> {
+        let n = sink.write(b"classes ")?;
+        let m = sink.write(b"0\n")?;
+        Ok(n.wrapping_add(m))
+    }
+
+    #[test]
+    fn writes_to_memory(rt: HostRuntime) -> Result<(), Fail> {
+        let alloc = rt.alloc();
+        let mut sink = SureSink::new(alloc);
+        assert_eq!(rt; write_twice(&mut sink), Ok(10));
+        assert_eq!(rt; sink.written(), b"classes 0\n".as_slice());
+        let mut sink = MemSink::new(alloc, vec![in alloc; 2]?);
+        assert_eq!(rt; write_twice(&mut sink), Err(SinkError::Failed));
+        assert_eq!(rt; sink.written(), b"classes ".as_slice());
+        assert_eq!(rt; sink.write(b"1\n"), Ok(2));
+        assert_eq!(rt; sink.written(), b"classes 1\n".as_slice());
+        Ok(())
+    }
+
+    #[test]
+    fn writes_to_a_stream(rt: HostRuntime) -> Result<(), Fail> {
+        let mut bytes = Vec::new(rt.alloc());
+        assert_eq!(rt; write_twice(&mut FileSink::new(&mut bytes)), Ok(10));
+        assert_eq!(rt; bytes.as_slice(), b"classes 0\n".as_slice());
+        let mut full = [0u8; 8];
+        assert_eq!(rt;
+            write_twice(&mut FileSink::new(full.as_mut_slice())),
+            Err(SinkError::Failed)
+        );
+        Ok(())
+    }
+}
