@@ -1,0 +1,88 @@
+//! Constants, the operations on them, and why one has no value.
+use go_base::{Bytes, Memory};
+use go_ints::Op;
+use std::alloc::{AllocError, AllocFailed};
+use thiserror::Error;
+
+/// The value of a constant (Go specification, "Constants").
+#[derive(Debug, Drop)]
+pub enum Const {
+    /// A boolean.
+    Bool(bool),
+    /// An integer, or a rune where the mark is set.
+    Int { value: i128, rune: bool },
+    /// The bytes of a string.
+    Text(Bytes),
+}
+
+/// A binary operation on constants (Go specification, "Constant expressions").
+#[derive(Clone, Copy, PartialEq, Eq, Debug)]
+pub enum ConstOp {
+    /// An operator on integers. `Add` also joins texts.
+    Arith(Op),
+    /// `==`
+    Eq,
+    /// `!=`
+    Ne,
+    /// `<`
+    Lt,
+    /// `<=`
+    Le,
+    /// `>`
+    Gt,
+    /// `>=`
+    Ge,
+    /// `&&`
+    Both,
+    /// `||`
+    Either,
+}
+
+/// Why an operation on constants has no value.
+#[derive(Clone, Copy, PartialEq, Eq, Debug, Error)]
+pub enum ConstFault {
+    /// The value lies outside -2^127 to 2^127-1.
+    #[error("the constant is too wide")]
+    TooWide,
+    /// The divisor is 0.
+    #[error("division by zero")]
+    DivideZero,
+    /// The operation is not defined on these operands, or the count of a shift is negative.
+    #[error("the operation is not defined on these operands")]
+    Operands,
+    #[error("out of memory")]
+    Memory,
+}
+
+impl From<Memory> for ConstFault {
+    ghost use Rattle.std.specs.Prelude.{◌≡◌};
+    ghost use Rattle.go_constants.specs.declared.values.ConstFault.TheVariants as faults;
+
+    ghost from_gives = { λ _ e. e ≡ faults.Memory };
+
+    fn from(_error: Memory) -> ConstFault {
+        ConstFault::Memory
+    }
+}
+
+impl From<AllocError> for ConstFault {
+    ghost use Rattle.std.specs.Prelude.{◌≡◌};
+    ghost use Rattle.go_constants.specs.declared.values.ConstFault.TheVariants as faults;
+
+    ghost from_gives = { λ _ e. e ≡ faults.Memory };
+
+    fn from(_error: AllocError) -> ConstFault {
+        ConstFault::Memory
+    }
+}
+
+impl<T: Drop> From<AllocFailed<T>> for ConstFault {
+    ghost use Rattle.std.specs.Prelude.{◌≡◌};
+    ghost use Rattle.go_constants.specs.declared.values.ConstFault.TheVariants as faults;
+
+    ghost from_gives = { λ _ e. e ≡ faults.Memory };
+
+    fn from(_error: AllocFailed<T>) -> ConstFault {
+        ConstFault::Memory
+    }
+}
