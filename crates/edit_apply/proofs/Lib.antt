@@ -1,0 +1,5 @@
+mod Order
+mod Lists
+mod AtPlace
+mod Applied
+mod OneFile

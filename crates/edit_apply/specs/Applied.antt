@@ -1,0 +1,38 @@
+-- Many edits of a package, one after the other.
+use Rattle.std.specs.Prelude.{◌≡◌, ℕ, zero, suc, ◌<◌, ◌≤◌, List, [], ◌∷◌, length}
+use Rattle.std.specs.List.{AllByRecursion, HoldsAt}
+use Rattle.go_base.specs.declared.bytes.FileText.{FileText}
+use Rattle.go_base.specs.declared.package.TheConstants.{MAX_BYTES}
+use Rattle.go_base.specs.Package.{total_bytes}
+use Rattle.edit_apply.specs.declared.edits.Edit.{Edit}
+use Rattle.edit_apply.specs.Edited.{file_of, spliced}
+
+-- the file with the number is edited, and all others stay
+abbrev pub edited_number : List FileText → ℕ → ℕ → ℕ → List ℕ → List FileText
+edited_number [] number start end new = []
+edited_number (f ∷ fs) zero start end new = file_of f.name (spliced f.bytes start end new) ∷ fs
+edited_number (f ∷ fs) (suc number) start end new = f ∷ edited_number fs number start end new
+
+abbrev pub edited_by : List FileText → Edit → List FileText
+edited_by files e = edited_number files e.file e.start e.end e.text
+
+-- the edits in the given order
+abbrev pub applied : List FileText → List Edit → List FileText
+applied files [] = files
+applied files (e ∷ es) = applied (edited_by files e) es
+
+-- The file is held, and the range lies in it.
+pub record IsInRange (files : List FileText) (e : Edit) : Type 0 where
+  pub file : e.file < length files
+  pub range : e.start ≤ e.end
+  pub within : HoldsAt (λ f. e.end ≤ length f.bytes) files e.file
+
+-- The edits of one file go from its end to its start, and don't overlap.
+abbrev pub Descends : List Edit → Type 0
+Descends [] = Unit {0}
+Descends (e ∷ es) = AllByRecursion (λ later. later.file ≡ e.file → later.end ≤ e.start) es × Descends es
+
+pub record AreApplicable (files : List FileText) (edits : List Edit) : Type 0 where
+  pub ranges : AllByRecursion (IsInRange files) edits
+  pub descends : Descends edits
+  pub small : total_bytes (applied files edits) ≤ MAX_BYTES

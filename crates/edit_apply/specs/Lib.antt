@@ -1,0 +1,4 @@
+pub mod Edited
+pub mod Answers
+pub mod Places
+pub mod Applied
