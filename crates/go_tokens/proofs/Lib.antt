@@ -1,0 +1,16 @@
+pub mod Lists
+pub mod Numbers
+pub mod Shapes
+pub mod Unique
+pub mod Seams
+pub mod Replace
+pub mod Texts
+pub mod Widths
+pub mod First
+pub mod SoFar
+pub mod Elements
+pub mod Encodings
+pub mod Ordered
+pub mod Files
+pub mod Places
+pub mod Examples

@@ -1,0 +1,8 @@
+use Rattle.std.proofs.Common.{rules, arith}
+use Rattle.std.proofs.lemmas.Grind.{common_steps}
+use Rattle.go_tokens.specs.Spellings.{keywords}
+use Rattle.go_tokens.proofs.spelling.word_kind.Goals as goal
+
+pub returns : goal.returns
+unfolding keywords
+returns c = first_of (search rules, grind (arith, common_steps))

@@ -1,0 +1,30 @@
+-- The lexing of a file's bytes, or its fault.
+use Rattle.std.specs.Prelude.{ℕ, ◌⊎◌, List}
+use Rattle.go_base.specs.declared.Span.{Span}
+use Rattle.go_base.specs.declared.Fault.{Fault}
+use Rattle.go_tokens.specs.declared.token.Token.{Token}
+use Rattle.go_tokens.specs.declared.error.LexError.{LexError}
+use Rattle.go_tokens.specs.declared.error.LexError.TheVariants as errors
+use Rattle.go_tokens.specs.Encoding.{IsText, IsEncodingFault}
+use Rattle.go_tokens.specs.Lexing.{Lexes, IsTokenFault}
+
+-- These are the tokens and comments of the file.
+pub record IsLexing (file : ℕ) (bytes : List ℕ) (ts : List Token) (cs : List Span) : Type 0 where
+  pub text : List ℕ
+  pub is_text : IsText text bytes
+  pub lexes : Lexes file text ts cs
+
+-- A fault of the tokens of the file, whose encoding has none.
+pub record IsLaterFault (file : ℕ) (bytes : List ℕ) (fault : Fault) : Type 0 where
+  pub text : List ℕ
+  pub is_text : IsText text bytes
+  pub is_fault : IsTokenFault file text fault
+
+-- This is the fault of the file: its first one of the encoding, or else its first one of the tokens.
+abbrev pub IsFault : ℕ → List ℕ → Fault → Type 0
+IsFault file bytes fault = IsEncodingFault file bytes fault ⊎ IsLaterFault file bytes fault
+
+-- unless memory ran out, the fault is one of which this holds
+abbrev pub Blames : LexError → (Fault → Type 0) → Type 0
+Blames errors.Memory P = Unit {0}
+Blames (errors.Fault fault) P = P fault

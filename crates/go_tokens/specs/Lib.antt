@@ -1,0 +1,11 @@
+pub mod Characters
+pub mod Spellings
+pub mod Literals
+pub mod Pieces
+pub mod Lexing
+pub mod Encoding
+pub mod Files
+pub mod Progress
+pub mod Replacing
+pub mod Editing
+pub mod Tokens
