@@ -1,0 +1,11 @@
+pub mod Complete
+pub mod Cut
+pub mod Examples
+pub mod Parts
+pub mod Ranges
+pub mod Shapes
+pub mod Sound
+pub mod Steps
+pub mod Tables
+pub mod Unique
+pub mod Words

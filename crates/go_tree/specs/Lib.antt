@@ -1,0 +1,10 @@
+pub mod File
+pub mod Grammar
+pub mod Reader
+pub mod Symbols
+pub mod Trees
+pub mod Views
+pub mod Words
+pub mod Windows
+pub mod Sameness
+pub mod Classes

@@ -1,0 +1,10 @@
+-- Which word a token is, as a test.
+use Rattle.std.specs.Prelude.{Bool, false, Option, Some, None}
+use Rattle.go_tokens.specs.declared.token.TokenKind.{TokenKind}
+use Rattle.go_tokens.specs.contracts.token.TokenKind.{the_type}
+use denote.Enum.Bare.{sameb}
+
+-- is there a token, and is it w
+abbrev pub is_word : Option TokenKind → TokenKind → Bool
+is_word None w = false
+is_word (Some v) w = sameb the_type v w
