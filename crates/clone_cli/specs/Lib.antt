@@ -1,0 +1,5 @@
+pub mod Bodies
+pub mod Members
+pub mod Names
+pub mod Usage
+pub mod Serving
