@@ -1,0 +1,133 @@
+//! The table `lexing`: a name, a text in hexadecimal digits (`-` for none), and its tokens with their
+//! spans and the number of its comments, or its fault. The values of literals are passed over.
+
+ghost use Rattle.std.specs.Prelude.{◌≤◌, length};
+
+use crate::tables::Table;
+use go_tokens::error::LexError;
+use go_tokens::lex::lex;
+use go_tokens::token::TokenKind;
+use go_tokens::tokens::Tokens;
+use std::alloc::{AllocError, Global};
+
+/// The bytes of the longest text.
+const LONGEST: usize = 1_048_576;
+
+pub struct Lexing;
+
+impl Table for Lexing {
+    fn name(&self) -> &'static str {
+        "lexing"
+    }
+
+    fn difference(&self, alloc: Global, fields: &[&str]) -> Result<Option<String>, AllocError> {
+        let [_, text, wanted] = fields else {
+            return Ok(Some(String::from_str(alloc, "not three fields")?));
+        };
+        let bytes = bytes_of(alloc, text)?;
+        if bytes.len() > LONGEST {
+            return Ok(Some(String::from_str(alloc, "too long")?));
+        }
+        let got = answer(alloc, &bytes)?;
+        let wanted = without_values(alloc, wanted)?;
+        if got.as_str() == wanted.as_str() {
+            Ok(None)
+        } else {
+            Ok(Some(got))
+        }
+    }
+}
+
+/// The bytes that pairs of hexadecimal digits write.
+fn bytes_of(alloc: Global, text: &str) -> Result<Vec<u8>, AllocError> {
+    let mut bytes = Vec::new(alloc);
+    for pair in text.as_bytes().chunks_exact(2) {
+        if let [high, low] = pair {
+            bytes.push(digit(*high) << 4 | digit(*low))?;
+        }
+    }
+    Ok(bytes)
+}
+
+fn digit(byte: u8) -> u8 {
+    match byte {
+        b'0'..=b'9' => byte - b'0',
+        b'a'..=b'f' => byte - b'a' + 10,
+        _ => 0,
+    }
+}
+
+/// The tokens or the fault, as the table writes them.
+fn answer(alloc: Global, bytes: &[u8]) -> Result<String, AllocError>
+    requires { length bytes.now ≤ 1048576 }
+{
+    match lex(alloc, 0, bytes) {
+        Ok(tokens) => shown(alloc, &tokens),
+        Err(LexError::Fault(fault)) => {
+            format!(in alloc;
+                "fault {} {}-{}",
+                fault.code.number(),
+                fault.span.start,
+                fault.span.end
+            )
+        }
+        Err(LexError::Memory) => String::from_str(alloc, "out of memory"),
+    }
+}
+
+fn shown(alloc: Global, tokens: &Tokens) -> Result<String, AllocError> {
+    let mut line = String::from_str(alloc, "tokens")?;
+    if tokens.count() == 0 {
+        line.push_str(" none")?;
+    }
+    for i in 0..tokens.count() {
+        let token = tokens.get(i);
+        let word = word(token.kind);
+        let span = token.span;
+        let shown = format!(in alloc; " {word}:{}-{}", span.start, span.end)?;
+        line.push_str(shown.as_str())?;
+    }
+    let comments = format!(in alloc; " comments {}", tokens.comments(0, tokens.length()))?;
+    line.push_str(comments.as_str())?;
+    Ok(line)
+}
+
+fn word(kind: TokenKind) -> &'static str {
+    match kind {
+        TokenKind::Identifier => "ident",
+        TokenKind::Integer => "int",
+        TokenKind::Rune => "rune",
+        TokenKind::Text => "str",
+        TokenKind::Break
+        | TokenKind::Case
+        | TokenKind::Const
+        | TokenKind::Continue
+        | TokenKind::Default
+        | TokenKind::Else
+        | TokenKind::Fallthrough
+        | TokenKind::For
+        | TokenKind::Func
+        | TokenKind::If
+        | TokenKind::Import
+        | TokenKind::Package
+        | TokenKind::Range
+        | TokenKind::Return
+        | TokenKind::Struct
+        | TokenKind::Switch
+        | TokenKind::Type
+        | TokenKind::Var => "kw",
+        _ => "op",
+    }
+}
+
+/// What the table wants, without `=` and the value behind it.
+fn without_values(alloc: Global, wanted: &str) -> Result<String, AllocError> {
+    let mut line = String::new(alloc);
+    for (i, word) in wanted.split(' ').enumerate() {
+        if i > 0 {
+            line.push_str(" ")?;
+        }
+        line.push_str(word.split('=').next().unwrap_or(""))?;
+    }
+    Ok(line)
+}

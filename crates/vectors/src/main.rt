@@ -1,0 +1,19 @@
+//! Compares the crates with tables of cases whose answers come from real Go.
+//!
+//! The tables lie in the folder that the program is run in, each as a file `NAME.tsv`. A table that
+//! is not there is passed over. Each difference is printed, and for each table a line, as
+//! `arith 3625 of 3625`: how many of its cases agree.
+#![tactic(auto)]
+
+mod arithmetic;
+mod lexing;
+mod tables;
+
+use arithmetic::Arithmetic;
+use lexing::Lexing;
+use tables::run;
+
+fn main(rt: HostRuntime) -> anyhow::Result<()> {
+    run(&rt, &Arithmetic)?;
+    run(&rt, &Lexing)
+}
