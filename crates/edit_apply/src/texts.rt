@@ -177,6 +177,7 @@ impl Texts {
 #[cfg(test)]
 mod tests {
     use super::*;
+    use crate::Edits;
     use go_base::Bytes;
     use std::test::Fail;
 
@@ -262,6 +263,21 @@ mod tests {
         assert_eq!(rt; texts.length(&name), Some(119));
         assert!(rt; edited.starts_with(b"ymain"));
         assert!(rt; edited.ends_with(b"x"));
+        Ok(())
+    }
+
+    #[test]
+    fn lists_edits(rt: HostRuntime) -> Result<(), Fail> {
+        let edit = Edit {
+            file: 0,
+            start: 1,
+            end: 2,
+            text: Bytes::from_slice(rt.alloc(), b"x")?,
+        };
+        let edits = Edits::of(vec![in rt.alloc(); edit]?);
+        let first = edits.as_slice().first().ok_or("an edit")?;
+        assert_eq!(rt; first.end, 2);
+        assert_eq!(rt; first.text.as_slice(), b"x".as_slice());
         Ok(())
     }
 

@@ -436,6 +436,9 @@ mod tests {
         assert_eq!(rt; all.as_slice(), b"package a\npackage q\n".as_slice());
         let all = rewrite(alloc, &mut folder, "e")?;
         assert_eq!(rt; all.as_slice(), b"package q\npackage c\n".as_slice());
+        let found = folder.find("d", &name_of(alloc, "a.go")?);
+        assert!(rt; found.is_some_and(|bytes| bytes.as_slice() == b"package a\n".as_slice()));
+        assert!(rt; folder.find("d", &name_of(alloc, "c.go")?).is_none());
         Ok(())
     }
 
