@@ -13,4 +13,5 @@ pub mod Encodings
 pub mod Ordered
 pub mod Files
 pub mod Places
+pub mod Spelled
 pub mod Examples

@@ -3,6 +3,7 @@ use Rattle.std.proofs.Common.{◌≡◌, cond, ℕ, ◌+◌, ◌<◌, ◌≤◌,
 use Rattle.std.specs.List.{list_all}
 use Rattle.go_base.specs.declared.Span.{Span}
 use Rattle.go_tokens.specs.declared.token.Token.{Token}
+use Rattle.go_tokens.specs.declared.token.TokenKind.TheVariants.{Semicolon}
 use Rattle.go_tokens.specs.Characters.{is_white}
 use Rattle.go_tokens.specs.Spellings.{ends_statement_kind}
 use Rattle.go_tokens.specs.Pieces.{begun_by, goes, is_piece, is_good}
@@ -44,13 +45,20 @@ place_end : (file at n : ℕ) → (span file at n).end ≡ at + n
 unfolding span
 place_end file at n = refl
 
-not_written : (file at : ℕ) → IsWritten (inserted file at) → ⊥
-unfolding span
-not_written file at w = omega (arith, w)
+-- An inserted semicolon.
+pub record IsInserted (t : Token) : Type 0 where
+  pub kind_is : t.kind ≡ Semicolon
+  pub empty : t.span.end ≡ t.span.start
 
-found_here : (file : ℕ) (p : List ℕ) (ps : List (List ℕ)) (at : ℕ) (e b : Bool) (t : Token) → is_token p ≡ b → IsAmong (cond b (token file (token_kind p) at (width p) ∷ (cond e (inserted file (at + width p) ∷ []) [])) []) t → IsWritten t → Found (p ∷ ps) at t
-found_here file p ps at e false t f h w = absurd h
-found_here file p ps at e true t f (inl g) w = record {
+inserted_is : (file at : ℕ) (t : Token) → inserted file at ≡ t → IsInserted t
+inserted_is file at t e = record {
+  kind_is = ap (λ (u : Token). u.kind) (sym e);
+  empty = ap (λ (u : Token). u.span.end) (sym e) ∙ place_end file at 0 ∙ (let z : at + 0 ≡ at = omega arith in z) ∙ sym (place_start file at 0) ∙ ap (λ (u : Token). u.span.start) e;
+}
+
+found_here : (file : ℕ) (p : List ℕ) (ps : List (List ℕ)) (at : ℕ) (e b : Bool) (t : Token) → is_token p ≡ b → IsAmong (cond b (token file (token_kind p) at (width p) ∷ (cond e (inserted file (at + width p) ∷ []) [])) []) t → Found (p ∷ ps) at t ⊎ IsInserted t
+found_here file p ps at e false t f h = absurd h
+found_here file p ps at e true t f (inl g) = inl (record {
   before = [];
   piece = p;
   behind = ps;
@@ -59,10 +67,10 @@ found_here file p ps at e true t f (inl g) w = record {
   kind_is = ap (λ (u : Token). u.kind) (sym g);
   starts = ap (λ (u : Token). u.span.start) (sym g) ∙ place_start file at (width p) ∙ (let z : at ≡ at + width [] = omega (arith, width-nil) in z);
   ends = ap (λ (u : Token). u.span.end) (sym g) ∙ place_end file at (width p) ∙ (let z : at + width p ≡ at + width [] + width p = omega (arith, width-nil) in z);
-}
-found_here file p ps at true true t f (inr (inl g)) w = absurd (not_written file (at + width p) (subst IsWritten (sym g) w))
-found_here file p ps at true true t f (inr (inr g)) w = absurd g
-found_here file p ps at false true t f (inr g) w = absurd g
+})
+found_here file p ps at true true t f (inr (inl g)) = inr (inserted_is file (at + width p) t g)
+found_here file p ps at true true t f (inr (inr g)) = absurd g
+found_here file p ps at false true t f (inr g) = absurd g
 
 found_later : (p : List ℕ) (ps : List (List ℕ)) (at : ℕ) (t : Token) → Found ps (at + width p) t → Found (p ∷ ps) at t
 found_later p ps at t found = record {
@@ -76,13 +84,16 @@ found_later p ps at t found = record {
   ends = omega (arith, width-nil, found.ends, width-append p (join found.before));
 }
 
-pub found_in : (file : ℕ) (ps : List (List ℕ)) (at : ℕ) (e : Bool) (t : Token) → IsAmong (tokens file at ps e) t → IsWritten t → Found ps at t
-found_in file [] at e t h w = absurd h
-found_in file (p ∷ ps) at e t h w =
+pub found_or : (file : ℕ) (ps : List (List ℕ)) (at : ℕ) (e : Bool) (t : Token) → IsAmong (tokens file at ps e) t → Found ps at t ⊎ IsInserted t
+found_or file [] at e t h = absurd h
+found_or file (p ∷ ps) at e t h =
     ⊎_elim
-    (λ here. found_here file p ps at (ends_statement p && line_ends ps e) (is_token p) t refl here w)
-    (λ later. found_later p ps at t (found_in file ps (at + width p) e t later w))
+    (λ here. found_here file p ps at (ends_statement p && line_ends ps e) (is_token p) t refl here)
+    (λ later. ⊎_elim (λ f. inl (found_later p ps at t f)) (λ f. inr f) (found_or file ps (at + width p) e t later))
     (among_append (tokens_of file at p (line_ends ps e)) (tokens file (at + width p) ps e) t h)
+
+pub found_in : (file : ℕ) (ps : List (List ℕ)) (at : ℕ) (e : Bool) (t : Token) → IsAmong (tokens file at ps e) t → IsWritten t → Found ps at t
+found_in file ps at e t h w = ⊎_elim (λ f. f) (λ f. absurd (omega (arith, w, f.empty))) (found_or file ps at e t h)
 
 -- Of two places where one cutting is divided, the later is behind pieces that follow the earlier.
 pub record Between (front back front' back' : List (List ℕ)) : Type 0 where

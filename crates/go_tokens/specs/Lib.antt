@@ -1,6 +1,7 @@
 pub mod Characters
 pub mod Spellings
 pub mod Literals
+pub mod Values
 pub mod Pieces
 pub mod Lexing
 pub mod Encoding

@@ -134,6 +134,13 @@ pub record IsElementLength (quote : ℕ) (text : List ℕ) (n : ℕ) : Type 0 wh
   pub rest : is_some (elements quote 0 text) ≡ is_some (elements quote 0 (drop n text))
   pub one : is_one (elements quote 0 text) ≡ (n == length text)
 
+-- A text begins with this element, which has this many characters, the backslash of an escape among them.
+pub record IsFirstElement (quote : ℕ) (text : List ℕ) (first : Escape) : Type 0 where
+  pub some : 0 < first.count
+  pub within : first.count ≤ length text
+  pub short : first.count ≤ 10
+  pub rest : elements quote 0 text ≡ option_map (λ es. first.element ∷ es) (elements quote 0 (drop first.count text))
+
 -- The value of a rune literal: a code point, or the number of a byte.
 abbrev pub element_value : Element → ℕ
 element_value (Character c) = c

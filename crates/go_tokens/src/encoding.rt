@@ -31,7 +31,8 @@ pub fn decode(alloc: Global, file: u32, bytes: &[u8]) -> Result<Vec<char>, LexEr
     }
 }
 
-fn characters(alloc: Global, text: &str) -> Result<Vec<char>, AllocError>
+/// The characters of a text.
+pub fn characters(alloc: Global, text: &str) -> Result<Vec<char>, AllocError>
     ensures { IfOk result (λ characters. characters.items ≡ chars text.now) }
 {
     text.chars().collect(alloc)

@@ -1,16 +1,20 @@
 // Laws of lexing, for the crates above.
 
-ghost use Rattle.std.specs.Prelude.{◌≡◌, ℕ, List, [], true};
+ghost use Rattle.std.specs.Prelude.{◌≡◌, ℕ, List, [], true, slice_get, slice_range};
+ghost use Rattle.std.specs.Str.{IsUtf8, chars, encode_utf8_all};
 ghost use Rattle.std.specs.List.{list_all};
 ghost use Rattle.go_base.specs.declared.Span.{Span};
 ghost use Rattle.go_base.specs.declared.Fault.{Fault};
 ghost use Rattle.go_tokens.specs.declared.token.Token.{Token};
+ghost use Rattle.go_tokens.specs.Literals.{is_integer, is_one, rune_elements};
 ghost use Rattle.go_tokens.specs.Pieces.{is_piece, is_good};
 ghost use Rattle.go_tokens.specs.Lexing.{join, Cut, tokens, comments, Lexes};
 ghost use Rattle.go_tokens.specs.Encoding.{IsText};
 ghost use Rattle.go_tokens.specs.Files.{IsLexing, IsFault};
 ghost use Rattle.go_tokens.specs.Replacing.{Part, Fits, NewLexing, old_pieces};
 ghost use Rattle.go_tokens.specs.Editing.{Edits, old_text, new_text, Allows, EditedLexing, all_apart, has_no_line};
+
+use crate::token::TokenKind;
 
 /// A file has at most one lexing.
 pub fn one_lexing()
@@ -42,4 +46,13 @@ pub fn edited_file()
 /// Pieces without a defect of which no neighbours join, and none is a line comment, are read again as those pieces.
 pub fn assembled_text()
     ensures { (file : ℕ) (ps : List (List ℕ)) → list_all is_piece ps ≡ true → list_all is_good ps ≡ true → has_no_line ps ≡ true → all_apart ps ≡ true → Lexes file (join ps) (tokens file 0 ps true) (comments file 0 ps) }
+{}
+
+/// What the texts of literals are, so that the contracts of `value` tell their values: an integer's bytes are its
+/// characters and an integer literal, a rune's and a string's are UTF-8, and a rune has one character or escape.
+pub fn literals()
+    ensures integer { (file : ℕ) (bytes : List ℕ) (ts : List Token) (cs : List Span) (i : ℕ) (t : Token) → IsLexing file bytes ts cs → slice_get ts i ≡ Some t → t.kind ≡ TokenKind.Integer → is_integer (slice_range bytes t.span.start t.span.end) ≡ true }
+    ensures rune { (file : ℕ) (bytes : List ℕ) (ts : List Token) (cs : List Span) (i : ℕ) (t : Token) → IsLexing file bytes ts cs → slice_get ts i ≡ Some t → t.kind ≡ TokenKind.Rune → IsUtf8 (slice_range bytes t.span.start t.span.end) × (is_one (rune_elements (chars (slice_range bytes t.span.start t.span.end))) ≡ true) }
+    ensures text { (file : ℕ) (bytes : List ℕ) (ts : List Token) (cs : List Span) (i : ℕ) (t : Token) → IsLexing file bytes ts cs → slice_get ts i ≡ Some t → t.kind ≡ TokenKind.Text → IsUtf8 (slice_range bytes t.span.start t.span.end) }
+    ensures ascii { (text : List ℕ) → is_integer text ≡ true → encode_utf8_all text ≡ text }
 {}

@@ -6,6 +6,8 @@
 //! longest that begins at its place, and inserts semicolons at the ends of lines. The definitions
 //! stand in specs/: `Characters`, `Spellings`, `Literals`, `Pieces`, `Lexing`, `Encoding`, `Files`.
 //!
+//! `value` has the values of literals by the bytes of their tokens (specs/ `Literals`, `Values`).
+//!
 //! `laws` has what the crates above use: a file has one lexing or one fault, the tokens of a text of
 //! which ranges are replaced are the old ones with those ranges replaced, and pieces that are printed
 //! apart are read again as those pieces (specs/ `Replacing`, `Editing`).
@@ -26,3 +28,4 @@ mod spelling;
 mod tests;
 pub mod token;
 pub mod tokens;
+pub mod value;

@@ -1,7 +1,7 @@
 // Literals: their forms and values.
 
 ghost use Rattle.std.specs.Prelude.{◌≡◌, ◌<◌, ◌≤◌, ◌+◌, ◌^◌, ◌&&◌, length, is_some, Some, None, IfSome, MatchOption, if◌then◌else◌};
-ghost use Rattle.go_tokens.specs.Literals.{is_digit_of, grouped, letter_base, base_of, digits_of, begins_with_digit, is_integer, digits_number, number, byte_escape, character_escape, is_code_point, letter_escape, escape, elements, inside, is_one, IsElementLength};
+ghost use Rattle.go_tokens.specs.Literals.{is_digit_of, grouped, letter_base, base_of, digits_of, begins_with_digit, is_integer, digits_number, number, byte_escape, character_escape, is_code_point, letter_escape, escape, elements, inside, is_one, IsElementLength, IsFirstElement};
 
 use crate::character::{is_b, is_digit, is_o, is_x};
 
@@ -57,7 +57,7 @@ fn is_grouped(base: u32, digits: &[char]) -> bool
 
 /// The base that a letter behind a 0 gives, or 0.
 #[tactic(auto, unfolding(crate::specs::Literals::letter_base))]
-fn letter_base(c: char) -> u32
+pub(crate) fn letter_base(c: char) -> u32
     ensures value { result ≡ letter_base c }
     ensures low { 0 < result → 2 ≤ result }
     ensures high { result ≤ 16 }
@@ -158,11 +158,25 @@ fn element_length(quote: char, text: &[char]) -> Option<usize>
     requires { 0 < length text.now }
     ensures { MatchOption result (elements quote 0 text.now ≡ None) (IsElementLength quote text.now) }
 {
+    Some(read_element(quote, text)?.count)
+}
+
+/// The first character or escape of a text, and how many characters it has.
+pub(crate) fn read_element(quote: char, text: &[char]) -> Option<Escape>
+    requires { 0 < length text.now }
+    ensures { MatchOption result (elements quote 0 text.now ≡ None) (IsFirstElement quote text.now) }
+{
     if text[0] != '\\' {
-        return Some(1);
+        return Some(Escape {
+            element: Element::Character(text[0]),
+            count: 1,
+        });
     }
     let escape = read_escape(quote, &text[1..])?;
-    Some(escape.count + 1)
+    Some(Escape {
+        element: escape.element,
+        count: escape.count + 1,
+    })
 }
 
 /// What stands behind a backslash.

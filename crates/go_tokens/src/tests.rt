@@ -1,6 +1,7 @@
 // Worked rows, each a text with its tokens or its fault.
 use crate::error::LexError;
 use crate::lex::lex;
+use crate::value::{integer_value, rune_value, string_value};
 use std::alloc::{AllocError, Global};
 
 /// The tokens of a text with their spans, or its fault, in one line.
@@ -94,4 +95,46 @@ fn texts_of_tokens(rt: HostRuntime) {
     assert!(rt; tokens.text(1) == b":=".as_slice());
     assert!(rt; tokens.text(2) == b"\"b\"".as_slice());
     assert!(rt; tokens.text(3) == b"".as_slice());
+}
+
+const INTEGERS: [(&[u8], Option<i128>); 7] = [
+    (b"0", Some(0)),
+    (b"1_000", Some(1_000)),
+    (b"0x_1F", Some(31)),
+    (b"017", Some(15)),
+    (b"0B101", Some(5)),
+    (
+        b"0x7fffffffffffffffffffffffffffffff",
+        Some(170_141_183_460_469_231_731_687_303_715_884_105_727),
+    ),
+    (b"170141183460469231731687303715884105728", None),
+];
+
+const RUNES: [(&[u8], u32); 5] = [
+    (b"'a'", 97),
+    (b"'\\377'", 255),
+    (b"'\\''", 39),
+    (b"'\\U0010FFFF'", 0x10_FFFF),
+    (b"'\xc3\xa9'", 0xE9),
+];
+
+const STRINGS: [(&[u8], &[u8]); 4] = [
+    (b"\"\"", b""),
+    (b"\"a\\x41\\u00e9\\n\\377\"", b"aA\xc3\xa9\n\xff"),
+    (b"\"\xc3\xa9\\\"\"", b"\xc3\xa9\""),
+    (b"`a\r\n\\x41`", b"a\n\\x41"),
+];
+
+#[test]
+fn values_of_literals(rt: HostRuntime) {
+    for (text, wanted) in INTEGERS {
+        assert_eq!(rt; integer_value(text), wanted);
+    }
+    for (text, wanted) in RUNES {
+        assert_eq!(rt; rune_value(text), wanted);
+    }
+    for (text, wanted) in STRINGS {
+        let value = string_value(rt.alloc(), text).expect(&rt, "memory");
+        assert!(rt; value.as_slice() == wanted);
+    }
 }
