@@ -1,0 +1,17 @@
+pub mod ShapeKeys
+pub mod Places
+pub mod TreeIdentity
+pub mod NumberedTypes
+pub mod TypeNumbers
+pub mod Containment
+pub mod Underlyings
+pub mod Entries
+pub mod Countings
+pub mod Carrying
+pub mod Growing
+pub mod Defining
+pub mod Cutting
+pub mod Assigning
+pub mod Comparing
+pub mod Settling
+pub mod Examples

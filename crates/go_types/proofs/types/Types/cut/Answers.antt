@@ -1,0 +1,23 @@
+use Rattle.std.proofs.Common.{◌≡◌, ◌≤◌, subst, sym, ap, ◌∙◌, length, take}
+use Rattle.std.specs.Prelude.{count_by}
+use Rattle.go_types.specs.Tables.{Table, is_declaration}
+use Rattle.go_types.specs.Changes.{IsResolved, IsClosedBelow, table_of, first_types}
+use Rattle.go_types.proofs.Cutting.{first_resolved, first_table}
+use Rattle.go_types.proofs.types.Types.cut.Goals as goal
+
+k_is : (c : goal.After-truncate-2) → c.declared_below-declared.result ≡ count_by is_declaration (take c.args.count c.self.inside.shapes)
+k_is c = c.declared_below-declared.ensures ∙ ap (λ (t : Table). count_by is_declaration (take c.args.count t.shapes)) (sym c.self.view_is)
+
+pub invariant_of-self : goal.invariant_of-self
+invariant_of-self c =
+    subst (λ x. IsResolved x c.truncate-2.new.self.items) (sym c.truncate.ensures)
+    (subst (IsResolved (take c.args.count c.self.inside.shapes)) (sym c.truncate-2.ensures.items)
+    (first_resolved c.self.inside.shapes c.self.inside.definitions.items c.args.count c.declared_below-declared.result c.self.invariant
+    (subst (λ (t : Table). c.args.count ≤ length t.shapes) (sym c.self.view_is) c.requires.within)
+    (k_is c)
+    (subst (IsClosedBelow c.args.count) (sym c.self.view_is) c.requires.closed)))
+
+pub returns : goal.returns
+returns c =
+    (ap (λ x. table_of x c.truncate-2.new.self.items) c.truncate.ensures ∙ ap (table_of (take c.args.count c.self.inside.shapes)) c.truncate-2.ensures.items) ∙
+    (sym (first_table c.self.inside.shapes c.self.inside.definitions.items c.args.count c.declared_below-declared.result (k_is c)) ∙ ap (first_types c.args.count) c.self.view_is)

@@ -1,0 +1,7 @@
+pub mod Trees
+pub mod Relations
+pub mod Tables
+pub mod Keys
+pub mod Shapes
+pub mod Changes
+pub mod Examples

@@ -1,0 +1,16 @@
+//! The numbered table of Go types.
+//!
+//! A type has a number in a table, a `TypeId`, and its shape names its parts by their numbers. The
+//! contract: equal numbers are identical types, and each answer is the one that the rules of the Go
+//! specification give for the types that the numbers stand for, which are finite trees under the
+//! right sides of the declared types (specs/Trees.antt, Relations.antt and Tables.antt).
+#![tactic(auto)]
+
+mod index;
+mod keys;
+pub mod laws;
+mod shape;
+mod types;
+
+pub use shape::{Field, Fields, Shape, TypeId, TypeIds};
+pub use types::Types;

@@ -1,0 +1,380 @@
+//! The table of types.
+ghost use Rattle.std.specs.Prelude.{◌≡◌, ◌↔◌, ◌<◌, ◌≤◌, ℕ, [], None, Some, IsTrue, IfOk, OnErr, IfSome, length, slice_get, count_by, take};
+ghost use Rattle.go_types.specs.declared.shape.Shape.{Shape};
+ghost use Rattle.go_types.specs.Trees.{Identical, is_named};
+ghost use Rattle.go_types.specs.Relations.{Underlying, Assignable, Comparable};
+ghost use Rattle.go_types.specs.Tables.{Table, IsTable, HasShape, HasRightId, HasPartsBelow, WasDeclared, IsDefined, IsSettled, NoneContainsItself, is_declaration, type_of, rights_of};
+ghost use Rattle.go_types.specs.Changes.{empty, IsDeclared, IsOpen, defined, IsInternedIn, IsClosedBelow, first_types, declaration, Leads};
+
+use crate::index::Index;
+use crate::shape::{Shape, TypeId};
+use go_base::Memory;
+use std::alloc::Global;
+use std::marker::Model;
+
+/// A table of types.
+#[derive(Drop)]
+pub struct Types {
+    alloc: Global,
+    shapes: Index,
+    definitions: Vec<Option<Definition>>,
+}
+
+/// What a declared type was given.
+#[derive(Clone, Copy, Debug)]
+pub struct Definition {
+    right: TypeId,
+    underlying: TypeId,
+}
+
+impl Model for Types {
+    ghost use Rattle.std.specs.Prelude.{map};
+    ghost use Rattle.std.specs.Option.{option_map};
+    ghost use Rattle.go_types.specs.Tables.{Table, IsTable};
+
+    ghost Value = { Table };
+
+    ghost use Rattle.go_types.specs.Changes.{table_of, IsResolved};
+
+    ghost view = { λ t. table_of t.shapes t.definitions.items };
+
+    ghost invariant = { λ t. IsResolved t.shapes t.definitions.items };
+}
+
+// `let _table` reads the table before its numbers are compared: what is true of every table is then
+// known.
+impl Types {
+    /// A table without types.
+    pub fn new(alloc: Global) -> Types
+        ensures { result ≡ empty }
+    {
+        Types {
+            alloc,
+            shapes: Index::new(alloc),
+            definitions: Vec::new(alloc),
+        }
+    }
+
+    /// The number of types in the table.
+    pub fn count(&self) -> u64
+        ensures count { result ≡ length self.now.shapes }
+        ensures table { IsTable self.now }
+    {
+        self.shapes.len() as u64
+    }
+
+    /// The shape of a type of the table.
+    pub fn shape(&self, a: TypeId) -> &Shape
+        requires { a < length self.now.shapes }
+        ensures { HasShape self.now a result.now }
+    {
+        self.shapes.get(a as usize)
+    }
+
+    /// Adds a new declared type that has no right side yet (Go specification, "Type declarations").
+    /// Declared types are numbered from 0 in the order of these calls. After `Memory` the table is
+    /// unchanged.
+    pub fn declare(&mut self) -> Result<TypeId, Memory>
+        ensures answer { IfOk result (IsDeclared self.old self.new) }
+        ensures err { OnErr result (self.new ≡ self.old) }
+    {
+        let number = self.definitions.len() as u64;
+        self.definitions.push(None)?;
+        match self.shapes.intern(self.alloc, &Shape::Named { number }) {
+            Ok(place) => Ok(place as u64),
+            Err(error) => {
+                self.definitions.pop();
+                Err(error)
+            }
+        }
+    }
+
+    /// Gives a declared type its right side.
+    pub fn define(&mut self, named: TypeId, right: TypeId)
+        requires open { IsOpen self.old named }
+        requires right_known { right < length self.old.shapes }
+        requires right_defined { IsDefined self.old right }
+        requires finite { NoneContainsItself (defined self.old named right) }
+        ensures { self.new ≡ defined self.old named right }
+    {
+        let underlying = self.underlying_id(right);
+        if let Some(number) = self.number_of(named) {
+            self.definitions[number] = Some(Definition { right, underlying });
+        }
+    }
+
+    /// Whether the one type is a declared one without a right side, and the other one and all that
+    /// it contains have theirs. Then the one may be defined by the other.
+    pub fn can_define(&self, named: TypeId, right: TypeId) -> bool
+        requires named_known { named < length self.now.shapes }
+        requires right_known { right < length self.now.shapes }
+        ensures test { IsTrue result ↔ IsOpen self.now named × IsSettled self.now right }
+        ensures defined { IsTrue result → IsDefined self.now right }
+        ensures finite { IsTrue result → NoneContainsItself (defined self.now named right) }
+    {
+        let _table = &self.shapes;
+        self.is_open(named) && self.is_settled(right)
+    }
+
+    /// The number of the type of a shape, which is added if the table lacks it. After `Memory` the
+    /// table is unchanged.
+    pub fn intern(&mut self, shape: &Shape) -> Result<TypeId, Memory>
+        requires parts { HasPartsBelow (length self.old.shapes) shape.now }
+        requires declared { WasDeclared self.old shape.now }
+        ensures answer { IfOk result (IsInternedIn self.old self.new shape.now) }
+        ensures err { OnErr result (self.new ≡ self.old) }
+    {
+        Ok(self.shapes.intern(self.alloc, shape)? as u64)
+    }
+
+    /// Whether the parts of the shape are of the table, and a declared type in it was declared.
+    pub fn can_intern(&self, shape: &Shape) -> bool
+        ensures { IsTrue result ↔ HasPartsBelow (length self.now.shapes) shape.now × WasDeclared self.now shape.now }
+    {
+        shape.has_parts_below(self.count()) && self.was_declared(shape)
+    }
+
+    /// Whether the shape isn't that of a declared type, or of one that was declared.
+    fn was_declared(&self, shape: &Shape) -> bool
+        ensures { IsTrue result ↔ WasDeclared self.now shape.now }
+    {
+        match shape {
+            Shape::Named { number } => *number < self.definitions.len() as u64,
+            _ => true,
+        }
+    }
+
+    /// Takes away the types from the number `count` on.
+    pub fn cut(&mut self, count: u64)
+        requires within { count ≤ length self.old.shapes }
+        requires closed { IsClosedBelow count self.old }
+        ensures { self.new ≡ first_types count self.old }
+    {
+        let declared = self.declared_below(count);
+        self.shapes.truncate(count as usize);
+        self.definitions.truncate(declared);
+    }
+
+    /// Whether two types are identical (Go specification, "Type identity").
+    pub fn identical(&self, a: TypeId, b: TypeId) -> bool
+        requires left { a < length self.now.shapes }
+        requires right { b < length self.now.shapes }
+        ensures { IsTrue result ↔ Identical (type_of self.now.shapes a) (type_of self.now.shapes b) }
+    {
+        let _table = &self.shapes;
+        a == b
+    }
+
+    /// The underlying type of a type (Go specification, "Underlying types").
+    pub fn underlying(&self, a: TypeId) -> TypeId
+        requires known { a < length self.now.shapes }
+        requires defined { IsDefined self.now a }
+        ensures within { result < length self.now.shapes }
+        ensures underlying { Underlying (rights_of self.now) (type_of self.now.shapes a) (type_of self.now.shapes result) }
+    {
+        let _table = &self.shapes;
+        self.underlying_id(a)
+    }
+
+    /// Whether a value of the type `from` is assignable to the type `to` (Go specification,
+    /// "Assignability").
+    pub fn assignable(&self, from: TypeId, to: TypeId) -> bool
+        requires from_known { from < length self.now.shapes }
+        requires to_known { to < length self.now.shapes }
+        requires from_defined { IsDefined self.now from }
+        requires to_defined { IsDefined self.now to }
+        ensures { IsTrue result ↔ Assignable (rights_of self.now) (type_of self.now.shapes from) (type_of self.now.shapes to) }
+    {
+        let _table = &self.shapes;
+        from == to
+            || self.underlying_id(from) == self.underlying_id(to)
+                && !(self.is_named(from) && self.is_named(to))
+    }
+
+    /// Whether values of the type are comparable (Go specification, "Comparison operators").
+    pub fn comparable(&self, a: TypeId) -> bool
+        requires known { a < length self.now.shapes }
+        requires settled { IsSettled self.now a }
+        ensures { IsTrue result ↔ Comparable (rights_of self.now) (type_of self.now.shapes a) }
+    {
+        let shape = self.shape(self.underlying_id(a));
+        let _table = &self.shapes;
+        match shape {
+            Shape::Array { elem, .. } => self.comparable(*elem),
+            Shape::Struct { fields } => {
+                for field in fields.as_slice() {
+                    if !self.comparable(field.ty) {
+                        return false;
+                    }
+                }
+                true
+            }
+            // Of the other underlying types the predeclared ones are.
+            _ => shape.is_named(),
+        }
+    }
+
+    /// Whether the type and all that it contains through array elements, struct fields and right
+    /// sides have their right sides.
+    pub fn is_settled(&self, a: TypeId) -> bool
+        requires { a < length self.now.shapes }
+        ensures { IsTrue result ↔ IsSettled self.now a }
+    {
+        let _table = &self.shapes;
+        match self.shape(a) {
+            Shape::Array { elem, .. } => self.is_settled(*elem),
+            Shape::Struct { fields } => {
+                for field in fields.as_slice() {
+                    if !self.is_settled(field.ty) {
+                        return false;
+                    }
+                }
+                true
+            }
+            Shape::Named { number } => match self.right_of(*number as usize) {
+                Some(right) => self.is_settled(right),
+                None => false,
+            },
+            _ => true,
+        }
+    }
+
+    /// Whether the type is a declared one that has no right side.
+    pub fn is_open(&self, a: TypeId) -> bool
+        requires { a < length self.now.shapes }
+        ensures { IsTrue result ↔ IsOpen self.now a }
+    {
+        let _table = &self.shapes;
+        match self.number_of(a) {
+            Some(number) => self.right_of(number).is_none(),
+            None => false,
+        }
+    }
+
+    /// The right side of the declared type of this number.
+    fn right_of(&self, number: usize) -> Option<TypeId>
+        requires { number < length self.now.rights }
+        ensures { slice_get self.now.rights number ≡ Some result }
+    {
+        match self.definitions[number] {
+            Some(definition) => Some(definition.right),
+            None => None,
+        }
+    }
+
+    /// The number that a declared type was given when it was declared, as an index.
+    fn number_of(&self, a: TypeId) -> Option<usize>
+        requires { a < length self.now.shapes }
+        ensures { result ≡ declaration (slice_get self.now.shapes a) }
+    {
+        match self.shape(a) {
+            Shape::Named { number } => Some(*number as usize),
+            _ => None,
+        }
+    }
+
+    /// Whether the type is a declared or a predeclared one.
+    fn is_named(&self, a: TypeId) -> bool
+        requires { a < length self.now.shapes }
+        ensures { result ≡ is_named (type_of self.now.shapes a) }
+    {
+        let _table = &self.shapes;
+        self.shape(a).is_named()
+    }
+
+    /// The number of the underlying type.
+    fn underlying_id(&self, a: TypeId) -> TypeId
+        requires known { a < length self.now.shapes }
+        requires defined { IsDefined self.now a }
+        ensures within { result < length self.now.shapes }
+        ensures leads { Leads self.now a result }
+    {
+        match self.number_of(a) {
+            None => a,
+            Some(number) => match self.definitions[number] {
+                Some(definition) => definition.underlying,
+                None => unreachable!(),
+            },
+        }
+    }
+
+    /// How many of the types below a number are declared ones.
+    fn declared_below(&self, count: u64) -> usize
+        requires { count ≤ length self.now.shapes }
+        ensures { result ≡ count_by is_declaration (take count self.now.shapes) }
+    {
+        for i in count..self.count() {
+            if let Some(number) = self.number_of(i) {
+                return number;
+            }
+        }
+        self.definitions.len()
+    }
+}
+
+#[cfg(test)]
+mod tests {
+    use super::*;
+    use crate::shape::{Field, Fields, TypeIds};
+    use go_base::Bytes;
+    use go_ints::Kind;
+    use std::process::Abort;
+    use std::test::Fail;
+
+    /// The number of a shape whose parts are there.
+    fn number(rt: &impl Abort, types: &mut Types, shape: Shape) -> Result<TypeId, Fail> {
+        assert!(rt; types.can_intern(&shape));
+        Ok(types.intern(&shape)?)
+    }
+
+    #[test]
+    fn slices_and_a_declared_type(rt: HostRuntime) -> Result<(), Fail> {
+        let mut types = Types::new(rt.alloc());
+        let int = number(&rt, &mut types, Shape::Int(Kind::Int))?;
+        let ints = number(&rt, &mut types, Shape::Slice { elem: int })?;
+        assert_eq!(rt; number(&rt, &mut types, Shape::Slice { elem: int })?, ints);
+        let named = types.declare()?;
+        assert!(rt; ints < types.count());
+        assert!(rt; named < types.count());
+        assert!(rt; types.is_open(named));
+        assert!(rt; types.can_define(named, ints));
+        types.define(named, ints);
+        assert!(rt; types.is_settled(named));
+        assert!(rt; types.is_settled(ints));
+        assert_eq!(rt; types.underlying(named), ints);
+        assert!(rt; types.assignable(ints, named));
+        assert!(rt; !types.identical(ints, named));
+        Ok(())
+    }
+
+    #[test]
+    fn a_struct_of_a_function(rt: HostRuntime) -> Result<(), Fail> {
+        let alloc = rt.alloc();
+        let mut types = Types::new(alloc);
+        let bool = number(&rt, &mut types, Shape::Bool)?;
+        let params = TypeIds::of(vec![in alloc; bool]?);
+        let results = TypeIds::of(vec![in alloc]?);
+        assert_eq!(rt; params.as_slice().len(), 1);
+        let func = number(&rt, &mut types, Shape::Func { params, results })?;
+        let name = Bytes::from_slice(alloc, b"f")?;
+        let fields = Fields::of(vec![in alloc; Field { name, ty: func }]?);
+        assert_eq!(rt; fields.as_slice().len(), 1);
+        let record = number(&rt, &mut types, Shape::Struct { fields })?;
+        assert!(rt; record < types.count());
+        assert!(rt; types.is_settled(record));
+        assert!(rt; !types.comparable(record));
+        assert!(rt; !types.shape(record).is_named());
+        Ok(())
+    }
+
+    #[test]
+    fn a_table_is_cut(rt: HostRuntime) -> Result<(), Fail> {
+        let mut types = Types::new(rt.alloc());
+        types.declare()?;
+        types.cut(0);
+        assert_eq!(rt; types.count(), 0);
+        types.declare()?;
+        assert_eq!(rt; types.count(), 1);
+        Ok(())
+    }
+}
