@@ -6,24 +6,24 @@ use Rattle.std.proofs.lemmas.Option.{slice_get_within}
 use Rattle.go_tokens.specs.declared.token.TokenKind.{TokenKind}
 use Rattle.go_tokens.specs.declared.token.Token.{Token}
 use Rattle.go_tokens.specs.Tokens.{kinds, kind_of}
-use Rattle.go_tree.specs.declared.kind.Kind.{Kind}
-use Rattle.go_tree.specs.declared.kind.Category.{Category}
-use Rattle.go_tree.specs.declared.kind.Category.TheVariants as category
-use Rattle.go_tree.specs.declared.grammar.Symbol.{Symbol}
-use Rattle.go_tree.specs.declared.grammar.Symbol.TheVariants as symbol
-use Rattle.go_tree.specs.Symbols.{prepend, right}
-use Rattle.go_tree.specs.Trees.{Tree, Trees, more, first, last, height, heights}
-use Rattle.go_tree.specs.Grammar.{Derives, IsAt, IsFile, Rule, End, Then, Lines, Each}
-use Rattle.go_tree.specs.Reader.{read, lines, fits, after_first, Tends}
-use Rattle.go_tree.proofs.Complete.{tends_one}
-use Rattle.go_tree.proofs.Unique.{file_found}
-use Rattle.go_parse.proofs.Rows.{some_is}
-use Rattle.go_tree.proofs.Ranges.{derives_within_tokens}
-use Rattle.go_tree.proofs.Sound.{read_stands}
-use Rattle.go_tree.proofs.Steps.{behind, lines_separated, lines_last}
-use Rattle.go_parse.specs.declared.error.Stop.{Stop}
-use Rattle.go_parse.specs.declared.error.Stop.TheVariants as stop
-use Rattle.go_parse.specs.Engine.{Lacks, IsNextLine}
+use Rattle.path_tree.specs.declared.kind.Kind.{Kind}
+use Rattle.path_tree.specs.declared.kind.Category.{Category}
+use Rattle.path_tree.specs.declared.kind.Category.TheVariants as category
+use Rattle.path_tree.specs.declared.grammar.Symbol.{Symbol}
+use Rattle.path_tree.specs.declared.grammar.Symbol.TheVariants as symbol
+use Rattle.path_tree.specs.Symbols.{prepend, right}
+use Rattle.path_tree.specs.Trees.{Tree, Trees, more, first, last, height, heights}
+use Rattle.path_tree.specs.Grammar.{Derives, IsAt, IsFile, Rule, End, Then, Lines, Each}
+use Rattle.path_tree.specs.Reader.{read, lines, fits, after_first, Tends}
+use Rattle.path_tree.proofs.Complete.{tends_one}
+use Rattle.path_tree.proofs.Unique.{file_found}
+use Rattle.path_parse.proofs.Rows.{some_is}
+use Rattle.path_tree.proofs.Ranges.{derives_within_tokens}
+use Rattle.path_tree.proofs.Sound.{read_stands}
+use Rattle.path_tree.proofs.Steps.{behind, lines_separated, lines_last}
+use Rattle.path_parse.specs.declared.error.Stop.{Stop}
+use Rattle.path_parse.specs.declared.error.Stop.TheVariants as stop
+use Rattle.path_parse.specs.Engine.{Lacks, IsNextLine}
 
 pub lacks : (P : Type 0) (e : Stop) → P → Lacks e P
 lacks P stop.Memory h = tt

@@ -2,13 +2,13 @@
 use Rattle.std.proofs.Common.{◌≡◌, ℕ, zero, suc, ◌-◌, ◌<◌, ◌≤◌, max, List, [], ◌∷◌, ◌++◌, length, take, drop, Option, Some, None, refl, sym, ap, ◌∙◌, subst, arith}
 use Rattle.std.specs.Prelude.{slice_get}
 use Rattle.std.proofs.Math.ListN.{get_or}
-use Rattle.go_tree.specs.declared.node.Node.{Node}
-use Rattle.go_tree.specs.Trees.{Tree, Trees, none, more, view, views, height, heights}
-use Rattle.go_tree.specs.Reader.{Tends}
-use Rattle.go_tree.proofs.Steps.{behind}
-use Rattle.go_parse.specs.declared.row.Grown.{Grown}
-use Rattle.go_parse.specs.declared.row.Row.{Row}
-use Rattle.go_parse.specs.Engine.{onto, prefix, IsLow, LeadsOn, IsRowOn}
+use Rattle.path_tree.specs.declared.node.Node.{Node}
+use Rattle.path_tree.specs.Trees.{Tree, Trees, none, more, view, views, height, heights}
+use Rattle.path_tree.specs.Reader.{Tends}
+use Rattle.path_tree.proofs.Steps.{behind}
+use Rattle.path_parse.specs.declared.row.Grown.{Grown}
+use Rattle.path_parse.specs.declared.row.Row.{Row}
+use Rattle.path_parse.specs.Engine.{onto, prefix, IsLow, LeadsOn, IsRowOn}
 
 pub onto_none : (ps : Trees) → onto ps none ≡ ps
 onto_none none = refl

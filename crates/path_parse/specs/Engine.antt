@@ -1,15 +1,15 @@
 -- What the functions of the engine find is what the reader finds.
 use Rattle.std.specs.Prelude.{◌≡◌, ℕ, suc, ◌<◌, ◌≤◌, ◌⊎◌, List, Option, Some, None, slice_get}
 use Rattle.go_tokens.specs.declared.token.TokenKind.{TokenKind}
-use Rattle.go_tree.specs.declared.kind.Kind.{Kind}
-use Rattle.go_tree.specs.declared.kind.Category.{Category}
-use Rattle.go_tree.specs.Trees.{Tree, Trees, none, more, view, views, kind_of, last, height, heights}
-use Rattle.go_tree.specs.Grammar.{IsAt}
-use Rattle.go_tree.specs.Reader.{opens_at, continues, read, grow, Tends}
-use Rattle.go_parse.specs.declared.error.Stop.{Stop}
-use Rattle.go_parse.specs.declared.error.Stop.TheVariants as stop
-use Rattle.go_parse.specs.declared.row.Grown.{Grown}
-use Rattle.go_parse.specs.declared.row.Row.{Row}
+use Rattle.path_tree.specs.declared.kind.Kind.{Kind}
+use Rattle.path_tree.specs.declared.kind.Category.{Category}
+use Rattle.path_tree.specs.Trees.{Tree, Trees, none, more, view, views, kind_of, last, height, heights}
+use Rattle.path_tree.specs.Grammar.{IsAt}
+use Rattle.path_tree.specs.Reader.{opens_at, continues, read, grow, Tends}
+use Rattle.path_parse.specs.declared.error.Stop.{Stop}
+use Rattle.path_parse.specs.declared.error.Stop.TheVariants as stop
+use Rattle.path_parse.specs.declared.row.Grown.{Grown}
+use Rattle.path_parse.specs.declared.row.Row.{Row}
 
 -- unless memory ran out
 abbrev pub Lacks : Stop → Type 0 → Type 0

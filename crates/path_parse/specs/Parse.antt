@@ -3,8 +3,8 @@ use Rattle.std.specs.Prelude.{◌≡◌, length, Option, Some, None}
 use Rattle.go_base.specs.declared.fault.Fault.{Fault}
 use Rattle.go_base.specs.declared.fault.FaultCode.TheVariants as code
 use Rattle.go_tokens.specs.Tokens.{TokenList}
-use Rattle.go_parse.specs.declared.error.ParseError.{ParseError}
-use Rattle.go_parse.specs.declared.error.ParseError.TheVariants as errors
+use Rattle.path_parse.specs.declared.error.ParseError.{ParseError}
+use Rattle.path_parse.specs.declared.error.ParseError.TheVariants as errors
 
 -- the fault that an error names
 abbrev pub parse_refusal : ParseError → Option Fault

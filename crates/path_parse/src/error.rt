@@ -1,7 +1,7 @@
 // Why there is no tree.
 
 ghost use Rattle.std.specs.Prelude.{◌≡◌};
-ghost use Rattle.go_parse.specs.declared.error.Stop.TheVariants as stop;
+ghost use Rattle.path_parse.specs.declared.error.Stop.TheVariants as stop;
 
 use go_base::Fault;
 use std::alloc::{AllocError, AllocFailed};

@@ -2,13 +2,13 @@
 
 ghost use Rattle.std.specs.Prelude.{◌≡◌, ◌+◌, ◌^◌, ◌<◌, ◌≤◌, ◌↔◌, IsTrue, length, slice_get, suc, Option, Some, None, MatchResult};
 ghost use Rattle.go_tokens.specs.Tokens.{kinds};
-ghost use Rattle.go_tree.specs.Grammar.{IsAt};
-ghost use Rattle.go_tree.specs.Reader.{opens, opens_at, continues, joined_by, called, called_or_assigned};
+ghost use Rattle.path_tree.specs.Grammar.{IsAt};
+ghost use Rattle.path_tree.specs.Reader.{opens, opens_at, continues, joined_by, called, called_or_assigned};
 
 use crate::error::Stop;
 use go_tokens::token::TokenKind;
 use go_tokens::tokens::Tokens;
-use go_tree::kind::{Category, Kind, Operator};
+use path_tree::kind::{Category, Kind, Operator};
 
 /// The kind of the token at a place.
 pub fn kind_at(tokens: &Tokens, at: u32) -> Option<TokenKind>

@@ -3,17 +3,17 @@
 ghost use Rattle.std.specs.Prelude.{◌≡◌, ◌^◌, ◌<◌, IfOk, length};
 ghost use Rattle.go_base.specs.Gives.{Meets};
 ghost use Rattle.go_tokens.specs.Tokens.{kinds};
-ghost use Rattle.go_tree.specs.Grammar.{IsFile};
-ghost use Rattle.go_tree.specs.Trees.{Tree, view};
-ghost use Rattle.go_parse.specs.Parse.{parse_refusal, IsSyntaxFault};
+ghost use Rattle.path_tree.specs.Grammar.{IsFile};
+ghost use Rattle.path_tree.specs.Trees.{Tree, view};
+ghost use Rattle.path_parse.specs.Parse.{parse_refusal, IsSyntaxFault};
 
 use crate::error::{ParseError, Stop};
 use crate::tree::tree;
 use go_base::{Fault, FaultCode, Span};
 use go_tokens::token::Token;
 use go_tokens::tokens::Tokens;
-use go_tree::file::File;
-use go_tree::kind::Category;
+use path_tree::file::File;
+use path_tree::kind::Category;
 use std::alloc::{AllocError, Global};
 
 /// One more than the greatest number of nodes above a node.

@@ -1,9 +1,9 @@
 // Nodes that have been read, and how high they are.
 
 ghost use Rattle.std.specs.Prelude.{◌≡◌, ◌+◌, ◌^◌, ◌<◌, ◌≤◌, [], ◌∷◌, ◌++◌, max, suc, IfOk};
-ghost use Rattle.go_tree.specs.Trees.{view, first, last};
+ghost use Rattle.path_tree.specs.Trees.{view, first, last};
 
-use go_tree::node::Node;
+use path_tree::node::Node;
 use std::alloc::{AllocError, Global};
 
 /// A node, and the greatest number of nodes above a node in it.

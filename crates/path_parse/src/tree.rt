@@ -2,21 +2,21 @@
 
 ghost use Rattle.std.specs.Prelude.{◌≡◌, ◌+◌, ◌^◌, ◌<◌, ◌≤◌, length, slice_get, MatchResult, IfOk, Some, None, suc};
 ghost use Rattle.go_tokens.specs.Tokens.{kinds};
-ghost use Rattle.go_tree.specs.declared.kind.Category.{Category};
-ghost use Rattle.go_tree.specs.Grammar.{rule, IsAt};
-ghost use Rattle.go_tree.specs.Reader.{continues, fits, read, grow, spell, lines, each, Tends};
-ghost use Rattle.go_tree.specs.Symbols.{right};
-ghost use Rattle.go_tree.specs.Trees.{view, kind_of, last, height};
-ghost use Rattle.go_parse.specs.Engine.{IsFound, IsOpened, IsJoined, IsLow, IsRowOn, IsNextLine, Lacks};
+ghost use Rattle.path_tree.specs.declared.kind.Category.{Category};
+ghost use Rattle.path_tree.specs.Grammar.{rule, IsAt};
+ghost use Rattle.path_tree.specs.Reader.{continues, fits, read, grow, spell, lines, each, Tends};
+ghost use Rattle.path_tree.specs.Symbols.{right};
+ghost use Rattle.path_tree.specs.Trees.{view, kind_of, last, height};
+ghost use Rattle.path_parse.specs.Engine.{IsFound, IsOpened, IsJoined, IsLow, IsRowOn, IsNextLine, Lacks};
 
 use crate::error::Stop;
 use crate::lookahead::{continued, expect, is_at, kind_at, opened};
 use crate::row::{Grown, Row};
 use go_tokens::token::TokenKind;
 use go_tokens::tokens::Tokens;
-use go_tree::grammar::{Symbol, symbols};
-use go_tree::kind::{Category, Kind};
-use go_tree::node::Node;
+use path_tree::grammar::{Symbol, symbols};
+use path_tree::kind::{Category, Kind};
+use path_tree::node::Node;
 use std::alloc::Global;
 
 /// The node of the category that begins at a token; it has less than `room` levels.

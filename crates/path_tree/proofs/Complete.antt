@@ -3,14 +3,14 @@ use Rattle.std.proofs.Common.{◌≡◌, ℕ, zero, suc, ◌+◌, ◌-◌, ◌<�
 use Rattle.std.specs.Prelude.{slice_get, nat_le, ◌&&◌}
 use Rattle.std.proofs.lemmas.Bool.{le-leb}
 use Rattle.go_tokens.specs.declared.token.TokenKind.{TokenKind}
-use Rattle.go_tree.specs.declared.kind.Kind.{Kind}
-use Rattle.go_tree.specs.declared.kind.Category.{Category}
-use Rattle.go_tree.specs.Trees.{Tree, node, Trees, none, more, kind_of, first, last, height, heights}
-use Rattle.go_tree.specs.Grammar.{Rule, End, Then, Lines, Each, rule, within, IsAt, Words, Only, Closes, Derives, Spells, LinesOn, EachOn}
-use Rattle.go_tree.specs.Words.{is_word}
-use Rattle.go_tree.specs.Reader.{◌>>=◌, opens, opens_at, continues, fits, after_first, words, read, grow, grow_by, spell, lines, lines_on, each, each_by, Tends}
-use Rattle.go_tree.proofs.Tables.{Follows, Sealed, Starts, Begins, LinesReadable, Readable, Continuing, corner, within_corner, sort}
-use Rattle.go_tree.proofs.Words.{is_word-at}
+use Rattle.path_tree.specs.declared.kind.Kind.{Kind}
+use Rattle.path_tree.specs.declared.kind.Category.{Category}
+use Rattle.path_tree.specs.Trees.{Tree, node, Trees, none, more, kind_of, first, last, height, heights}
+use Rattle.path_tree.specs.Grammar.{Rule, End, Then, Lines, Each, rule, within, IsAt, Words, Only, Closes, Derives, Spells, LinesOn, EachOn}
+use Rattle.path_tree.specs.Words.{is_word}
+use Rattle.path_tree.specs.Reader.{◌>>=◌, opens, opens_at, continues, fits, after_first, words, read, grow, grow_by, spell, lines, lines_on, each, each_by, Tends}
+use Rattle.path_tree.proofs.Tables.{Follows, Sealed, Starts, Begins, LinesReadable, Readable, Continuing, corner, within_corner, sort}
+use Rattle.path_tree.proofs.Words.{is_word-at}
 
 pub tends_step : {A : Type 0} (f : ℕ → Option A) (r : Option A) (n : ℕ) → ((m : ℕ) → n ≤ m → f (suc m) ≡ r) → Tends f r
 tends_step f r n h = record { after = suc n; by = go }

@@ -1,9 +1,9 @@
 -- A derivation depends on the tokens of its range alone.
 use Rattle.std.proofs.Common.{ℕ, suc, ◌<◌, ◌≤◌, List, [], ◌∷◌, arith}
 use Rattle.go_tokens.specs.declared.token.TokenKind.{TokenKind}
-use Rattle.go_tree.specs.declared.kind.Category.{Category}
-use Rattle.go_tree.specs.Trees.{Tree, node, Trees, none, more, first, last}
-use Rattle.go_tree.specs.Grammar.{Rule, End, Then, Lines, Each, rule, IsAt, Words, Only, Closes, WordsOnly, Derives, Spells, LinesOn, EachOn}
+use Rattle.path_tree.specs.declared.kind.Category.{Category}
+use Rattle.path_tree.specs.Trees.{Tree, node, Trees, none, more, first, last}
+use Rattle.path_tree.specs.Grammar.{Rule, End, Then, Lines, Each, rule, IsAt, Words, Only, Closes, WordsOnly, Derives, Spells, LinesOn, EachOn}
 
 module _ (ts : List TokenKind) where
   pub words_order : (ws : List TokenKind) (i j : ℕ) → Words ts i ws j → i ≤ j

@@ -2,14 +2,14 @@
 use Rattle.std.proofs.Common.{◌≡◌, ℕ, suc, ◌≤◌, List, [], ◌∷◌, Some, None, refl, sym, ◌∙◌, arith}
 use Rattle.go_tokens.specs.declared.token.TokenKind.{TokenKind}
 use Rattle.go_tokens.specs.declared.token.TokenKind.TheVariants.{Package, Identifier, Integer, Semicolon, Func, LeftParenthesis, RightParenthesis, LeftBrace, RightBrace, Define, Assign, Plus}
-use Rattle.go_tree.specs.declared.kind.Operator.TheVariants.{Add}
-use Rattle.go_tree.specs.declared.kind.Kind.TheVariants as kind
-use Rattle.go_tree.specs.declared.kind.Category.TheVariants as category
-use Rattle.go_tree.specs.Trees.{Tree, Trees, node, none, more}
-use Rattle.go_tree.specs.Grammar.{IsFile}
-use Rattle.go_tree.specs.Reader.{read}
-use Rattle.go_tree.proofs.Sound.{read_stands}
-use Rattle.go_tree.proofs.Unique.{file_found, one_file}
+use Rattle.path_tree.specs.declared.kind.Operator.TheVariants.{Add}
+use Rattle.path_tree.specs.declared.kind.Kind.TheVariants as kind
+use Rattle.path_tree.specs.declared.kind.Category.TheVariants as category
+use Rattle.path_tree.specs.Trees.{Tree, Trees, node, none, more}
+use Rattle.path_tree.specs.Grammar.{IsFile}
+use Rattle.path_tree.specs.Reader.{read}
+use Rattle.path_tree.proofs.Sound.{read_stands}
+use Rattle.path_tree.proofs.Unique.{file_found, one_file}
 
 -- a row of tokens before others
 abbrev clause : List TokenKind → List TokenKind

@@ -1,3 +1,4 @@
+pub mod ClassExamples
 pub mod Complete
 pub mod Cut
 pub mod Examples

@@ -3,9 +3,9 @@ use Rattle.std.proofs.Common.{◌≡◌, ℕ, zero, suc, ◌<◌, ◌≤◌, Lis
 use Rattle.std.specs.Option.{option_map}
 use Rattle.std.specs.Prelude.{MatchOption, IfSome}
 use Rattle.std.proofs.Math.ListN.{get_or}
-use Rattle.go_tree.specs.declared.node.Node.{Node}
-use Rattle.go_tree.specs.Trees.{view, views}
-use Rattle.go_tree.specs.Views.{part_at}
+use Rattle.path_tree.specs.declared.node.Node.{Node}
+use Rattle.path_tree.specs.Trees.{view, views}
+use Rattle.path_tree.specs.Views.{part_at}
 
 part_none : (xs : List Node) (i : ℕ) → length xs ≤ i → part_at (views xs) i ≡ None
 part_none [] i le = refl

@@ -2,12 +2,12 @@
 use Rattle.std.proofs.Common.{◌≡◌, ℕ, suc, ◌<◌, ◌≤◌, true, List, [], ◌∷◌, length, arith}
 use Rattle.std.proofs.lemmas.Option.{slice_get_within}
 use Rattle.go_tokens.specs.declared.token.TokenKind.{TokenKind}
-use Rattle.go_tree.specs.declared.kind.Category.{Category}
-use Rattle.go_tree.specs.Trees.{Tree, node, Trees, none, more, first, last}
-use Rattle.go_tree.specs.Grammar.{Rule, End, Then, Lines, Each, rule, Words, Closes, Derives, Spells, LinesOn, EachOn}
-use Rattle.go_tree.proofs.Complete.{starts}
-use Rattle.go_tree.proofs.Tables.{is_solid, solid}
-use Rattle.go_tree.proofs.Cut.{words_order, closes_order, words_only_order, spells_order, lined_order, eached_order}
+use Rattle.path_tree.specs.declared.kind.Category.{Category}
+use Rattle.path_tree.specs.Trees.{Tree, node, Trees, none, more, first, last}
+use Rattle.path_tree.specs.Grammar.{Rule, End, Then, Lines, Each, rule, Words, Closes, Derives, Spells, LinesOn, EachOn}
+use Rattle.path_tree.proofs.Complete.{starts}
+use Rattle.path_tree.proofs.Tables.{is_solid, solid}
+use Rattle.path_tree.proofs.Cut.{words_order, closes_order, words_only_order, spells_order, lined_order, eached_order}
 
 module _ (ts : List TokenKind) where
   mutual

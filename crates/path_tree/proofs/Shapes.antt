@@ -2,13 +2,13 @@
 use Rattle.std.proofs.Common.{◌≡◌, ℕ, suc, ◌<◌, cond, List, Some, None, refl, ap}
 use Rattle.std.proofs.lemmas.Bool.{lt-ltb}
 use Rattle.go_tokens.specs.declared.token.TokenKind.{TokenKind}
-use Rattle.go_tree.specs.declared.kind.Category.{Category}
-use Rattle.go_tree.specs.declared.kind.Category.TheVariants as category
-use Rattle.go_tree.specs.declared.kind.Kind.TheVariants as kind
-use Rattle.go_tree.specs.Trees.{Tree, node, Trees, none, more, last, parts}
-use Rattle.go_tree.specs.Grammar.{Derives, LinesOn, EachOn}
-use Rattle.go_tree.specs.Views.{FunctionTree, StatementTree, Define, Assignment, Call, AllParts, function_of, statement_of}
-use Rattle.go_tree.proofs.Ranges.{derives_grows}
+use Rattle.path_tree.specs.declared.kind.Category.{Category}
+use Rattle.path_tree.specs.declared.kind.Category.TheVariants as category
+use Rattle.path_tree.specs.declared.kind.Kind.TheVariants as kind
+use Rattle.path_tree.specs.Trees.{Tree, node, Trees, none, more, last, parts}
+use Rattle.path_tree.specs.Grammar.{Derives, LinesOn, EachOn}
+use Rattle.path_tree.specs.Views.{FunctionTree, StatementTree, Define, Assignment, Call, AllParts, function_of, statement_of}
+use Rattle.path_tree.proofs.Ranges.{derives_grows}
 
 module _ (ts : List TokenKind) where
   lined_parts : (ps : Trees) (c : Category) (s e : TokenKind) (i j : ℕ) → LinesOn ts c s e i ps j → AllParts (Derives ts c) ps

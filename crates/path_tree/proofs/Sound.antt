@@ -3,13 +3,13 @@ use Rattle.std.proofs.Common.{◌≡◌, ℕ, zero, suc, ◌<◌, ◌≤◌, ◌
 use Rattle.std.specs.Prelude.{slice_get, nat_le, ◌&&◌}
 use Rattle.std.proofs.lemmas.Bool.{leb-true}
 use Rattle.go_tokens.specs.declared.token.TokenKind.{TokenKind}
-use Rattle.go_tree.specs.declared.kind.Kind.{Kind}
-use Rattle.go_tree.specs.declared.kind.Category.{Category}
-use Rattle.go_tree.specs.Trees.{Tree, node, Trees, none, more, kind_of, first, last, height, heights}
-use Rattle.go_tree.specs.Grammar.{Rule, End, Then, Lines, Each, rule, within, IsAt, Words, Only, Closes, Derives, Spells, LinesOn, EachOn}
-use Rattle.go_tree.specs.Words.{is_word}
-use Rattle.go_tree.specs.Reader.{◌>>=◌, opens_at, continues, fits, after_first, words, front, read, grow, grow_by, spell, lines, lines_on, each, each_by}
-use Rattle.go_tree.proofs.Words.{at-is_word}
+use Rattle.path_tree.specs.declared.kind.Kind.{Kind}
+use Rattle.path_tree.specs.declared.kind.Category.{Category}
+use Rattle.path_tree.specs.Trees.{Tree, node, Trees, none, more, kind_of, first, last, height, heights}
+use Rattle.path_tree.specs.Grammar.{Rule, End, Then, Lines, Each, rule, within, IsAt, Words, Only, Closes, Derives, Spells, LinesOn, EachOn}
+use Rattle.path_tree.specs.Words.{is_word}
+use Rattle.path_tree.specs.Reader.{◌>>=◌, opens_at, continues, fits, after_first, words, front, read, grow, grow_by, spell, lines, lines_on, each, each_by}
+use Rattle.path_tree.proofs.Words.{at-is_word}
 
 pub bind_some : {A B : Type 0} (o : Option A) (f : A → Option B) (y : B) → (o >>= f) ≡ Some y → (x : A) × (o ≡ Some x) × (f x ≡ Some y)
 bind_some None f y h = cc

@@ -2,15 +2,15 @@
 use Rattle.std.proofs.Common.{◌≡◌, ℕ, zero, suc, ◌≤◌, max, Bool, true, false, cond, List, [], ◌∷◌, Option, Some, None, refl, sym, ap, ◌∙◌, subst, arith}
 use Rattle.std.specs.Prelude.{slice_get, nat_le, ◌&&◌}
 use Rattle.go_tokens.specs.declared.token.TokenKind.{TokenKind}
-use Rattle.go_tree.specs.declared.kind.Kind.{Kind}
-use Rattle.go_tree.specs.declared.kind.Category.{Category}
-use Rattle.go_tree.specs.Trees.{Tree, node, Trees, none, more, kind_of, first, last, height}
-use Rattle.go_tree.specs.Grammar.{Rule, End, Then, Lines, Each, rule, within, IsAt}
-use Rattle.go_tree.specs.Words.{is_word}
-use Rattle.go_tree.specs.Symbols.{prepend}
-use Rattle.go_tree.specs.Reader.{◌>>=◌, opens_at, continues, fits, after_first, words, front, read, grow, grow_by, spell, lines, lines_on, each, each_by, Tends}
-use Rattle.go_tree.proofs.Complete.{tends_step}
-use Rattle.go_tree.proofs.Words.{is_word-at, is_word-not}
+use Rattle.path_tree.specs.declared.kind.Kind.{Kind}
+use Rattle.path_tree.specs.declared.kind.Category.{Category}
+use Rattle.path_tree.specs.Trees.{Tree, node, Trees, none, more, kind_of, first, last, height}
+use Rattle.path_tree.specs.Grammar.{Rule, End, Then, Lines, Each, rule, within, IsAt}
+use Rattle.path_tree.specs.Words.{is_word}
+use Rattle.path_tree.specs.Symbols.{prepend}
+use Rattle.path_tree.specs.Reader.{◌>>=◌, opens_at, continues, fits, after_first, words, front, read, grow, grow_by, spell, lines, lines_on, each, each_by, Tends}
+use Rattle.path_tree.proofs.Complete.{tends_step}
+use Rattle.path_tree.proofs.Words.{is_word-at, is_word-not}
 
 -- what stands behind a part
 abbrev pub behind : Tree → Option (Trees × ℕ) → Option (Trees × ℕ)

@@ -4,16 +4,16 @@ use Rattle.std.specs.Prelude.{nat_le, ◌&&◌, slice_get}
 use Rattle.std.proofs.lemmas.Bool.{leb-true, le-leb, lt-leb}
 use Rattle.go_tokens.specs.declared.token.TokenKind.{TokenKind}
 use Rattle.go_tokens.specs.declared.token.TokenKind.TheVariants as token
-use Rattle.go_tree.specs.declared.kind.Operator.{Operator}
-use Rattle.go_tree.specs.declared.kind.Operator.TheVariants.{Add}
-use Rattle.go_tree.specs.declared.kind.Kind.{Kind}
-use Rattle.go_tree.specs.declared.kind.Kind.TheVariants as kind
-use Rattle.go_tree.specs.declared.kind.Category.{Category}
-use Rattle.go_tree.specs.declared.kind.Category.TheVariants as category
-use Rattle.go_tree.specs.Trees.{Trees, none, more}
-use Rattle.go_tree.specs.Grammar.{Rule, End, Then, Lines, Each, operator_level, sign, level, rule, within, IsAt, Spells}
-use Rattle.go_tree.specs.Words.{is_word}
-use Rattle.go_tree.specs.Reader.{opens, joined, joined_by, tightness, tight, admitted, continues}
+use Rattle.path_tree.specs.declared.kind.Operator.{Operator}
+use Rattle.path_tree.specs.declared.kind.Operator.TheVariants.{Add}
+use Rattle.path_tree.specs.declared.kind.Kind.{Kind}
+use Rattle.path_tree.specs.declared.kind.Kind.TheVariants as kind
+use Rattle.path_tree.specs.declared.kind.Category.{Category}
+use Rattle.path_tree.specs.declared.kind.Category.TheVariants as category
+use Rattle.path_tree.specs.Trees.{Trees, none, more}
+use Rattle.path_tree.specs.Grammar.{Rule, End, Then, Lines, Each, operator_level, sign, level, rule, within, IsAt, Spells}
+use Rattle.path_tree.specs.Words.{is_word}
+use Rattle.path_tree.specs.Reader.{opens, joined, joined_by, tightness, tight, admitted, continues}
 
 -- a node of the kind may stand first in the text of a node of the category
 abbrev pub corner : Category → Kind → Bool

@@ -3,14 +3,14 @@ use Rattle.std.proofs.Common.{◌≡◌, ℕ, zero, suc, ◌<◌, max, List, [],
 use Rattle.std.specs.Prelude.{slice_get}
 use Rattle.std.proofs.lemmas.Option.{slice_get_past}
 use Rattle.go_tokens.specs.declared.token.TokenKind.{TokenKind}
-use Rattle.go_tree.specs.declared.kind.Category.{Category}
-use Rattle.go_tree.specs.declared.kind.Category.TheVariants as category
-use Rattle.go_tree.specs.Trees.{Tree, first, last, height}
-use Rattle.go_tree.specs.Grammar.{Derives, IsFile}
-use Rattle.go_tree.specs.Reader.{read, Tends}
-use Rattle.go_tree.proofs.Tables.{Sealed, sealed_none}
-use Rattle.go_tree.proofs.Complete.{complete, tends_one}
-use Rattle.go_tree.proofs.Cut.{derives_cut}
+use Rattle.path_tree.specs.declared.kind.Category.{Category}
+use Rattle.path_tree.specs.declared.kind.Category.TheVariants as category
+use Rattle.path_tree.specs.Trees.{Tree, first, last, height}
+use Rattle.path_tree.specs.Grammar.{Derives, IsFile}
+use Rattle.path_tree.specs.Reader.{read, Tends}
+use Rattle.path_tree.proofs.Tables.{Sealed, sealed_none}
+use Rattle.path_tree.proofs.Complete.{complete, tends_one}
+use Rattle.path_tree.proofs.Cut.{derives_cut}
 
 slice_get-take : {A : Type 0} (m : ℕ) (xs : List A) (k : ℕ) → k < m → slice_get (take m xs) k ≡ slice_get xs k
 slice_get-take zero xs k h = absurd (omega arith)

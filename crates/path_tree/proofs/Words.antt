@@ -2,7 +2,7 @@
 use Rattle.std.proofs.Common.{◌≡◌, Bool, true, false, Option, Some, None, refl, sym, ap, ◌∙◌}
 use Rattle.go_tokens.specs.declared.token.TokenKind.{TokenKind}
 use Rattle.go_tokens.specs.contracts.token.TokenKind.{the_type}
-use Rattle.go_tree.specs.Words.{is_word}
+use Rattle.path_tree.specs.Words.{is_word}
 use denote.Enum.Bare.{same_true, true_same}
 
 pub same_word : (v w : TokenKind) → is_word (Some v) w ≡ true → v ≡ w

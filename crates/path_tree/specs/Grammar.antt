@@ -7,13 +7,13 @@
 use Rattle.std.specs.Prelude.{◌≡◌, ℕ, suc, ◌<◌, ◌≤◌, Bool, true, false, IsTrue, nat_le, max, List, [], ◌∷◌, Some, slice_get, length}
 use Rattle.go_tokens.specs.declared.token.TokenKind.{TokenKind}
 use Rattle.go_tokens.specs.declared.token.TokenKind.TheVariants as token
-use Rattle.go_tree.specs.declared.kind.Operator.{Operator}
-use Rattle.go_tree.specs.declared.kind.Operator.TheVariants.{Add}
-use Rattle.go_tree.specs.declared.kind.Kind.{Kind}
-use Rattle.go_tree.specs.declared.kind.Kind.TheVariants as kind
-use Rattle.go_tree.specs.declared.kind.Category.{Category}
-use Rattle.go_tree.specs.declared.kind.Category.TheVariants as category
-use Rattle.go_tree.specs.Trees.{Tree, node, Trees, none, more, first, last, height}
+use Rattle.path_tree.specs.declared.kind.Operator.{Operator}
+use Rattle.path_tree.specs.declared.kind.Operator.TheVariants.{Add}
+use Rattle.path_tree.specs.declared.kind.Kind.{Kind}
+use Rattle.path_tree.specs.declared.kind.Kind.TheVariants as kind
+use Rattle.path_tree.specs.declared.kind.Category.{Category}
+use Rattle.path_tree.specs.declared.kind.Category.TheVariants as category
+use Rattle.path_tree.specs.Trees.{Tree, node, Trees, none, more, first, last, height}
 
 -- The right side of a production.
 pub data Rule : Type 0 where

@@ -5,14 +5,14 @@
 use Rattle.std.specs.Prelude.{◌≡◌, ◌≤◌, ℕ, zero, suc, Bool, false, nat_le, max, if◌then◌else◌, ◌&&◌, List, [], ◌∷◌, Option, Some, None, slice_get}
 use Rattle.go_tokens.specs.declared.token.TokenKind.{TokenKind}
 use Rattle.go_tokens.specs.declared.token.TokenKind.TheVariants as token
-use Rattle.go_tree.specs.declared.kind.Operator.TheVariants.{Add}
-use Rattle.go_tree.specs.declared.kind.Kind.{Kind}
-use Rattle.go_tree.specs.declared.kind.Kind.TheVariants as kind
-use Rattle.go_tree.specs.declared.kind.Category.{Category}
-use Rattle.go_tree.specs.declared.kind.Category.TheVariants as category
-use Rattle.go_tree.specs.Trees.{Tree, node, Trees, none, more, kind_of, first, last, height}
-use Rattle.go_tree.specs.Grammar.{Rule, End, Then, Lines, Each, level, rule, within}
-use Rattle.go_tree.specs.Words.{is_word}
+use Rattle.path_tree.specs.declared.kind.Operator.TheVariants.{Add}
+use Rattle.path_tree.specs.declared.kind.Kind.{Kind}
+use Rattle.path_tree.specs.declared.kind.Kind.TheVariants as kind
+use Rattle.path_tree.specs.declared.kind.Category.{Category}
+use Rattle.path_tree.specs.declared.kind.Category.TheVariants as category
+use Rattle.path_tree.specs.Trees.{Tree, node, Trees, none, more, kind_of, first, last, height}
+use Rattle.path_tree.specs.Grammar.{Rule, End, Then, Lines, Each, level, rule, within}
+use Rattle.path_tree.specs.Words.{is_word}
 
 infixl 10 ◌>>=◌
 abbrev pub ◌>>=◌ : {A B : Type 0} → Option A → (A → Option B) → Option B

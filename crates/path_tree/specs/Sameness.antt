@@ -1,14 +1,14 @@
 -- When two windows are the same: their nodes agree one by one, and their locals are in a one to one pairing.
 use Rattle.std.specs.Prelude.{ℕ, Bool, true, false, ◌&&◌, ◌==◌, List, [], ◌∷◌, ◌++◌, length, if◌then◌else◌, not}
 use Rattle.std.specs.List.{list_all}
-use Rattle.go_tree.specs.Windows.{joined, statements_at}
-use Rattle.go_tree.specs.declared.kind.Operator.{Operator}
-use Rattle.go_tree.specs.declared.kind.Operator.TheVariants.{Add}
-use Rattle.go_tree.specs.declared.kind.Kind.{Kind}
-use Rattle.go_tree.specs.declared.kind.Kind.TheVariants.{File, FunctionDeclaration, Signature, Block, Define, Assignment, ExpressionStatement, Call, Binary, Name, Integer}
-use Rattle.go_tree.specs.declared.window.Window.{Window}
-use Rattle.go_tree.specs.declared.window.Word.{Word}
-use Rattle.go_tree.specs.declared.window.Word.TheVariants.{Hole, Local, Object, Branch}
+use Rattle.path_tree.specs.Windows.{joined, statements_at}
+use Rattle.path_tree.specs.declared.kind.Operator.{Operator}
+use Rattle.path_tree.specs.declared.kind.Operator.TheVariants.{Add}
+use Rattle.path_tree.specs.declared.kind.Kind.{Kind}
+use Rattle.path_tree.specs.declared.kind.Kind.TheVariants.{File, FunctionDeclaration, Signature, Block, Define, Assignment, ExpressionStatement, Call, Binary, Name, Integer}
+use Rattle.path_tree.specs.declared.window.Window.{Window}
+use Rattle.path_tree.specs.declared.window.Word.{Word}
+use Rattle.path_tree.specs.declared.window.Word.TheVariants.{Hole, Local, Object, Branch}
 
 -- The number of a kind among those that stand in windows, and 0 for the others.
 abbrev pub kind_number : Kind → ℕ

@@ -1,9 +1,9 @@
 -- The right side that a row of symbols says.
 use Rattle.std.specs.Prelude.{List, [], ◌∷◌}
 use Rattle.go_tokens.specs.declared.token.TokenKind.{TokenKind}
-use Rattle.go_tree.specs.declared.grammar.Symbol.{Symbol}
-use Rattle.go_tree.specs.declared.grammar.Symbol.TheVariants as symbol
-use Rattle.go_tree.specs.Grammar.{Rule, End, Then, Lines, Each}
+use Rattle.path_tree.specs.declared.grammar.Symbol.{Symbol}
+use Rattle.path_tree.specs.declared.grammar.Symbol.TheVariants as symbol
+use Rattle.path_tree.specs.Grammar.{Rule, End, Then, Lines, Each}
 
 -- a word in front
 abbrev pub prepend : TokenKind → Rule → Rule

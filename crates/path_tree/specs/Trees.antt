@@ -4,10 +4,10 @@
 -- each for no part and for a part with those behind it. Only what depends on the sort of node goes by cases on its kind.
 -- Contracts speak of the view of a node alone.
 use Rattle.std.specs.Prelude.{ℕ, suc, max, List, [], ◌∷◌, map}
-use Rattle.go_tree.specs.declared.kind.Kind.{Kind}
-use Rattle.go_tree.specs.declared.node.Node.{Node}
-use Rattle.go_tree.specs.declared.node.Node.TheOpen.{Node-F}
-use Rattle.go_tree.specs.declared.node.Node.TheFolds.{fold-Node}
+use Rattle.path_tree.specs.declared.kind.Kind.{Kind}
+use Rattle.path_tree.specs.declared.node.Node.{Node}
+use Rattle.path_tree.specs.declared.node.Node.TheOpen.{Node-F}
+use Rattle.path_tree.specs.declared.node.Node.TheFolds.{fold-Node}
 
 mutual
   -- a kind; the number of its first token, and that of the token behind its last one; and its parts

@@ -1,13 +1,13 @@
 -- What functions and statements are made of.
 use Rattle.std.specs.Prelude.{ℕ, zero, suc, nat_lt, if◌then◌else◌, Option, Some, None, List, slice_get, ◌-◌}
 use Rattle.go_tokens.specs.declared.token.Token.{Token}
-use Rattle.go_tree.specs.declared.kind.Kind.{Kind}
-use Rattle.go_tree.specs.declared.kind.Kind.TheVariants as kind
-use Rattle.go_tree.specs.declared.view.Function.{Function}
-use Rattle.go_tree.specs.declared.view.Statement.{Statement}
-use Rattle.go_tree.specs.declared.view.Statement.TheVariants as statement
-use Rattle.go_tree.specs.Trees.{Tree, Trees, none, more, kind_of, first, last, parts, view, views}
-use Rattle.go_tree.specs.Reader.{◌>>=◌}
+use Rattle.path_tree.specs.declared.kind.Kind.{Kind}
+use Rattle.path_tree.specs.declared.kind.Kind.TheVariants as kind
+use Rattle.path_tree.specs.declared.view.Function.{Function}
+use Rattle.path_tree.specs.declared.view.Statement.{Statement}
+use Rattle.path_tree.specs.declared.view.Statement.TheVariants as statement
+use Rattle.path_tree.specs.Trees.{Tree, Trees, none, more, kind_of, first, last, parts, view, views}
+use Rattle.path_tree.specs.Reader.{◌>>=◌}
 
 -- the part of this number, from 0
 abbrev pub part_at : Trees → ℕ → Option Tree

@@ -1,12 +1,12 @@
 -- Windows of statements: what a statement shows, its mass, and the runs of statements that are windows.
 use Rattle.std.specs.Prelude.{ℕ, suc, ◌+◌, ◌-◌, min, Bool, true, false, ◌&&◌, if◌then◌else◌, nat_le, List, [], ◌∷◌, ◌++◌, length, map, filter, take, drop, unwrap_or, slice_get}
 use Rattle.std.specs.List.{list_all, flat_map, range_with_len}
-use Rattle.go_tree.specs.declared.kind.Kind.{Kind}
-use Rattle.go_tree.specs.declared.kind.Kind.TheVariants.{File, FunctionDeclaration, Signature, Block, Define, Assignment, ExpressionStatement, Call, Binary, Name, Integer}
-use Rattle.go_tree.specs.declared.window.Word.{Word}
-use Rattle.go_tree.specs.declared.window.Word.TheVariants.{Hole, Local, Object, Branch}
-use Rattle.go_tree.specs.declared.window.Window.{Window}
-use Rattle.go_tree.specs.Trees.{Tree, Trees, node, none, more}
+use Rattle.path_tree.specs.declared.kind.Kind.{Kind}
+use Rattle.path_tree.specs.declared.kind.Kind.TheVariants.{File, FunctionDeclaration, Signature, Block, Define, Assignment, ExpressionStatement, Call, Binary, Name, Integer}
+use Rattle.path_tree.specs.declared.window.Word.{Word}
+use Rattle.path_tree.specs.declared.window.Word.TheVariants.{Hole, Local, Object, Branch}
+use Rattle.path_tree.specs.declared.window.Window.{Window}
+use Rattle.path_tree.specs.Trees.{Tree, Trees, node, none, more}
 
 abbrev pub joined : List (List Word) → List Word
 joined [] = []

@@ -2,9 +2,9 @@
 
 ghost use Rattle.std.specs.Prelude.{◌≡◌, ℕ, ◌<◌, ◌≤◌, length, Some};
 ghost use Rattle.go_tokens.specs.Tokens.{kinds};
-ghost use Rattle.go_tree.specs.Grammar.{IsFile};
-ghost use Rattle.go_tree.specs.Trees.{view, views, first, last, parts};
-ghost use Rattle.go_tree.specs.Views.{start_of, end_of, file_of};
+ghost use Rattle.path_tree.specs.Grammar.{IsFile};
+ghost use Rattle.path_tree.specs.Trees.{view, views, first, last, parts};
+ghost use Rattle.path_tree.specs.Views.{start_of, end_of, file_of};
 
 use crate::node::Node;
 use go_base::Span;
@@ -22,11 +22,11 @@ impl Model for File {
     ghost use Rattle.std.specs.Prelude.{List};
     ghost use Rattle.go_tokens.specs.Tokens.{kinds};
     ghost use Rattle.go_tokens.specs.declared.token.Token.{Token};
-    ghost use Rattle.go_tree.specs.declared.node.Node.{Node};
-    ghost use Rattle.go_tree.specs.Grammar.{IsFile};
-    ghost use Rattle.go_tree.specs.Trees as trees;
-    ghost use Rattle.go_tree.specs.File.{FileTree};
-    ghost use Rattle.go_tree.specs.contracts.node.Node as e;
+    ghost use Rattle.path_tree.specs.declared.node.Node.{Node};
+    ghost use Rattle.path_tree.specs.Grammar.{IsFile};
+    ghost use Rattle.path_tree.specs.Trees as trees;
+    ghost use Rattle.path_tree.specs.File.{FileTree};
+    ghost use Rattle.path_tree.specs.contracts.node.Node as e;
     ghost use Rattle.std.specs.Coded.{codes};
 
     ghost Value = { FileTree };

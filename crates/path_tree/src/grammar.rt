@@ -1,8 +1,8 @@
 // The grammar as data: for each kind of node the right side of its production.
 
 ghost use Rattle.std.specs.Prelude.{◌≡◌};
-ghost use Rattle.go_tree.specs.Grammar.{level, operator_level, rule, within};
-ghost use Rattle.go_tree.specs.Symbols.{right};
+ghost use Rattle.path_tree.specs.Grammar.{level, operator_level, rule, within};
+ghost use Rattle.path_tree.specs.Symbols.{right};
 
 use crate::kind::{Category, Kind, Operator};
 use go_tokens::token::TokenKind;

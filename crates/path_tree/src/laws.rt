@@ -2,11 +2,11 @@
 
 ghost use Rattle.std.specs.Prelude.{◌≡◌, ℕ, ◌<◌, ◌≤◌, List, Some, length};
 ghost use Rattle.go_tokens.specs.declared.token.TokenKind.{TokenKind};
-ghost use Rattle.go_tree.specs.declared.kind.Category.{Category};
-ghost use Rattle.go_tree.specs.Grammar.{Derives, IsFile};
-ghost use Rattle.go_tree.specs.Reader.{read, Tends};
-ghost use Rattle.go_tree.specs.Trees.{Tree, first, last, parts, height};
-ghost use Rattle.go_tree.specs.Views.{FunctionTree, StatementTree, AllParts, function_of, statement_of};
+ghost use Rattle.path_tree.specs.declared.kind.Category.{Category};
+ghost use Rattle.path_tree.specs.Grammar.{Derives, IsFile};
+ghost use Rattle.path_tree.specs.Reader.{read, Tends};
+ghost use Rattle.path_tree.specs.Trees.{Tree, first, last, parts, height};
+ghost use Rattle.path_tree.specs.Views.{FunctionTree, StatementTree, AllParts, function_of, statement_of};
 
 /// A range of tokens has at most one tree of a category.
 pub fn one_tree()

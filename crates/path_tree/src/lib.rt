@@ -12,5 +12,7 @@ pub mod grammar;
 pub mod kind;
 pub mod laws;
 pub mod node;
+#[cfg(test)]
+mod tests;
 pub mod view;
 pub mod window;

@@ -2,8 +2,8 @@
 
 ghost use Rattle.std.specs.Prelude.{◌≡◌, []};
 ghost use Rattle.std.specs.Option.{option_map};
-ghost use Rattle.go_tree.specs.Views.{part_at};
-ghost use Rattle.go_tree.specs.Trees.{view, views, node, kind_of, first, last, none, parts};
+ghost use Rattle.path_tree.specs.Views.{part_at};
+ghost use Rattle.path_tree.specs.Trees.{view, views, node, kind_of, first, last, none, parts};
 
 use crate::kind::Kind;
 use std::alloc::Global;

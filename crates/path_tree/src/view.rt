@@ -2,8 +2,8 @@
 
 ghost use Rattle.std.specs.Prelude.{◌≡◌};
 ghost use Rattle.std.specs.Option.{option_map};
-ghost use Rattle.go_tree.specs.Trees.{view};
-ghost use Rattle.go_tree.specs.Views.{function_of, function_view, statement_of, statement_view};
+ghost use Rattle.path_tree.specs.Trees.{view};
+ghost use Rattle.path_tree.specs.Views.{function_of, function_view, statement_of, statement_view};
 
 use crate::kind::Kind;
 use crate::node::Node;

@@ -1,8 +1,8 @@
 // Windows of statements, and the words that they show.
 
 ghost use Rattle.std.specs.Prelude.{◌≡◌};
-ghost use Rattle.go_tree.specs.Windows.{as_called};
-ghost use Rattle.go_tree.specs.Sameness.{kind_number, kind_operator, operator_number, is_against};
+ghost use Rattle.path_tree.specs.Windows.{as_called};
+ghost use Rattle.path_tree.specs.Sameness.{kind_number, kind_operator, operator_number, is_against};
 
 use crate::kind::{Kind, Operator};
 

@@ -1,7 +1,7 @@
 use Rattle.std.proofs.Common.{Some, ap, sym, ◌∙◌}
 use Rattle.go_tokens.specs.contracts.token.TokenKind.{the_type}
-use Rattle.go_parse.proofs.Rows.{some_is}
-use Rattle.go_parse.proofs.lookahead.is_at.Goals as goal
+use Rattle.path_parse.proofs.Rows.{some_is}
+use Rattle.path_parse.proofs.lookahead.is_at.Goals as goal
 use denote.Enum.Bare.{same_true, true_same}
 
 pub returns-in-Some : goal.returns-in-Some

@@ -1,8 +1,8 @@
 use Rattle.std.proofs.Common.{◌∙◌, ap, suc, add-one}
 use Rattle.std.specs.Prelude.{slice_get}
 use Rattle.go_tokens.specs.Tokens.{kinds}
-use Rattle.go_tree.specs.Reader.{◌>>=◌, opens}
-use Rattle.go_parse.proofs.lookahead.opened.Goals as goal
+use Rattle.path_tree.specs.Reader.{◌>>=◌, opens}
+use Rattle.path_parse.proofs.lookahead.opened.Goals as goal
 
 pub returns : goal.returns
 returns c =

@@ -1,6 +1,6 @@
 use Rattle.std.proofs.Common.{◌∷◌, [], ◌++◌, take, add-one, sym, ap, ◌∙◌}
-use Rattle.go_parse.proofs.Rows.{take_next}
-use Rattle.go_parse.proofs.parser.copied.Goals as goal
+use Rattle.path_parse.proofs.Rows.{take_next}
+use Rattle.path_parse.proofs.parser.copied.Goals as goal
 
 pub loop-i-preserved : goal.loop-i-preserved
 loop-i-preserved c =

@@ -1,12 +1,12 @@
 use Rattle.std.proofs.Common.{◌≡◌, None, length, sym, ◌∙◌, subst}
 use Rattle.go_tokens.specs.Tokens.{kinds}
-use Rattle.go_tree.specs.declared.kind.Category.TheVariants as category
-use Rattle.go_tree.specs.Reader.{read, Tends}
-use Rattle.go_tree.specs.Grammar.{IsFile}
-use Rattle.go_tree.specs.Trees.{view, last}
-use Rattle.go_parse.specs.Engine.{Lacks}
-use Rattle.go_parse.proofs.Found.{is_file, no_file, no_file_over, length-kinds}
-use Rattle.go_parse.proofs.parser.parse.Goals as goal
+use Rattle.path_tree.specs.declared.kind.Category.TheVariants as category
+use Rattle.path_tree.specs.Reader.{read, Tends}
+use Rattle.path_tree.specs.Grammar.{IsFile}
+use Rattle.path_tree.specs.Trees.{view, last}
+use Rattle.path_parse.specs.Engine.{Lacks}
+use Rattle.path_parse.proofs.Found.{is_file, no_file, no_file_over, length-kinds}
+use Rattle.path_parse.proofs.parser.parse.Goals as goal
 
 pub returns-in-Err-Syntax : goal.returns-in-Err-Syntax
 returns-in-Err-Syntax c =

@@ -3,20 +3,20 @@ use Rattle.std.proofs.lemmas.Bool.{le-leb, lt-leb}
 use Rattle.std.specs.Prelude.{slice_get, IsSome, nat_le, ◌&&◌}
 use Rattle.go_tokens.specs.Tokens.{kinds}
 use Rattle.go_tokens.specs.declared.token.TokenKind.TheVariants as token
-use Rattle.go_tree.specs.declared.grammar.Symbol.TheVariants as symbol
-use Rattle.go_tree.specs.declared.kind.Kind.{Kind}
-use Rattle.go_tree.specs.declared.kind.Category.{Category}
-use Rattle.go_tree.specs.Grammar.{End, Then, Lines, Each, IsAt, rule, within}
-use Rattle.go_tree.specs.Reader.{opens_at, continues, fits, after_first, read, grow, spell, lines, each, Tends}
-use Rattle.go_tree.specs.Symbols.{prepend, right}
-use Rattle.go_tree.specs.Trees.{Trees, node, none, more, view, views, kind_of, first, last, height, heights}
-use Rattle.go_tree.proofs.Complete.{both, read_on, grow_on, grow_ends, end_reads}
-use Rattle.go_tree.proofs.Steps as steps
-use Rattle.go_parse.specs.declared.row.Row.{Row}
-use Rattle.go_parse.specs.Engine.{IsLow, IsRowOn, IsNextLine, Lacks, onto}
-use Rattle.go_parse.proofs.Found.{lacks, lacks_map, some_of, none_of, length-kinds, at_within, found_stands, next_line_after, line_on, result_map, right_after, and_false, higher}
-use Rattle.go_parse.proofs.Rows.{low_with, leads_with, leads_same, leads_begin, leads_to, leads_end, row_on, drop_get, drop_past, from_one}
-use Rattle.go_parse.proofs.tree.+trees.Goals as goal
+use Rattle.path_tree.specs.declared.grammar.Symbol.TheVariants as symbol
+use Rattle.path_tree.specs.declared.kind.Kind.{Kind}
+use Rattle.path_tree.specs.declared.kind.Category.{Category}
+use Rattle.path_tree.specs.Grammar.{End, Then, Lines, Each, IsAt, rule, within}
+use Rattle.path_tree.specs.Reader.{opens_at, continues, fits, after_first, read, grow, spell, lines, each, Tends}
+use Rattle.path_tree.specs.Symbols.{prepend, right}
+use Rattle.path_tree.specs.Trees.{Trees, node, none, more, view, views, kind_of, first, last, height, heights}
+use Rattle.path_tree.proofs.Complete.{both, read_on, grow_on, grow_ends, end_reads}
+use Rattle.path_tree.proofs.Steps as steps
+use Rattle.path_parse.specs.declared.row.Row.{Row}
+use Rattle.path_parse.specs.Engine.{IsLow, IsRowOn, IsNextLine, Lacks, onto}
+use Rattle.path_parse.proofs.Found.{lacks, lacks_map, some_of, none_of, length-kinds, at_within, found_stands, next_line_after, line_on, result_map, right_after, and_false, higher}
+use Rattle.path_parse.proofs.Rows.{low_with, leads_with, leads_same, leads_begin, leads_to, leads_end, row_on, drop_get, drop_past, from_one}
+use Rattle.path_parse.proofs.tree.+trees.Goals as goal
 
 pub each-loop-alloc-init : goal.each-loop-alloc-init
 each-loop-alloc-init t c =

@@ -1,10 +1,10 @@
 use Rattle.std.proofs.Common.{◌≡◌, suc, ◌+◌, ◌-◌, ◌*◌, ◌≤◌, length, drop, Option}
 use Rattle.go_tokens.specs.Tokens.{kinds}
-use Rattle.go_tree.specs.Reader.{read, grow, spell, lines, each, Tends}
-use Rattle.go_tree.specs.Symbols.{right}
-use Rattle.go_tree.specs.Trees.{Tree, view, height}
-use Rattle.go_parse.specs.Engine.{IsLow, LeadsOn}
-use Rattle.go_parse.proofs.tree.+trees.Given as goal
+use Rattle.path_tree.specs.Reader.{read, grow, spell, lines, each, Tends}
+use Rattle.path_tree.specs.Symbols.{right}
+use Rattle.path_tree.specs.Trees.{Tree, view, height}
+use Rattle.path_parse.specs.Engine.{IsLow, LeadsOn}
+use Rattle.path_parse.proofs.tree.+trees.Given as goal
 
 abbrev pub decreases-each : goal.decreases-each
 decreases-each l = 4 * l.room + 1

@@ -1,9 +1,9 @@
 use Rattle.std.proofs.Common.{◌≡◌, sym, ap, ◌∙◌, Bor}
 use Rattle.std.specs.List.{HoldsAt}
-use Rattle.go_tree.specs.declared.node.Node.{Node}
-use Rattle.go_tree.specs.Views.{part_at}
-use Rattle.go_tree.proofs.Parts.{part_get}
-use Rattle.go_tree.proofs.node.Node.part.Goals as goal
+use Rattle.path_tree.specs.declared.node.Node.{Node}
+use Rattle.path_tree.specs.Views.{part_at}
+use Rattle.path_tree.proofs.Parts.{part_get}
+use Rattle.path_tree.proofs.node.Node.part.Goals as goal
 
 pub returns : goal.returns
 returns c =
