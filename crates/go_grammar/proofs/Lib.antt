@@ -1,0 +1,12 @@
+pub mod Check
+pub mod Complete
+pub mod Cut
+pub mod Facts
+pub mod Ranges
+pub mod Rows
+pub mod Sound
+pub mod Starts
+pub mod Steps
+pub mod Table
+pub mod Unique
+pub mod Words
