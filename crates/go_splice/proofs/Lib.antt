@@ -1,0 +1,9 @@
+pub mod Appended
+pub mod Before
+pub mod Chains
+pub mod Moving
+pub mod Nested
+pub mod Plain
+pub mod Replaced
+pub mod Runs
+pub mod Subtrees
