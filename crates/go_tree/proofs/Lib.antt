@@ -1,0 +1,4 @@
+pub mod Examples
+pub mod Order
+pub mod Rows
+pub mod Tiles

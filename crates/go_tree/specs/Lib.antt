@@ -1,0 +1,7 @@
+pub mod Declarations
+pub mod Expressions
+pub mod File
+pub mod Headers
+pub mod Spans
+pub mod Statements
+pub mod Views

@@ -1,0 +1,21 @@
+-- The bytes of nodes and tokens.
+use Rattle.std.specs.Prelude.{ℕ, ◌-◌, Option, List, slice_get}
+use Rattle.std.specs.Option.{option_map}
+use Rattle.go_base.specs.declared.Span.{Span}
+use Rattle.go_tokens.specs.declared.token.Token.{Token}
+use Rattle.go_tokens.specs.Tokens.{span_of}
+use Rattle.go_grammar.specs.Trees.{Tree, first, last}
+
+-- the bytes of the token of this number
+abbrev pub span_at : List Token → ℕ → Option Span
+span_at ts i = option_map span_of (slice_get ts i)
+
+-- The bytes of a node: from the first byte of its first token, up to behind the last byte of its last token.
+abbrev pub start_of : List Token → Tree → Option ℕ
+start_of ts t = option_map (λ w. w.span.start) (slice_get ts (first t))
+
+abbrev pub end_of : List Token → Tree → Option ℕ
+end_of ts t = option_map (λ w. w.span.end) (slice_get ts (last t - 1))
+
+abbrev pub file_of : List Token → Tree → Option ℕ
+file_of ts t = option_map (λ w. w.span.file) (slice_get ts (first t))

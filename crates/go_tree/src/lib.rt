@@ -1,0 +1,21 @@
+// Syntax trees of Go files.
+//
+// A tree is made of one type of node: a kind, a range of tokens, and parts. `File` holds the tokens of a file and the tree
+// that stands over all of them.
+//
+// `declaration`, `statement`, `header` and `expression` have a small struct for each sort of node that names its parts. The
+// contract of each `of` is the exact value: what the definitions in specs/Declarations.antt, Statements.antt, Headers.antt and
+// Expressions.antt make of the node's tree, or none where the node is of another sort. The laws in `laws` say that the parts
+// of a derivation lie one after the other inside its range, and that a node begins before it ends.
+#![tactic(auto)]
+
+mod agree;
+pub mod declaration;
+pub mod expression;
+pub mod file;
+pub mod header;
+pub mod laws;
+pub mod node;
+pub mod statement;
+#[cfg(test)]
+mod tests;
