@@ -1,0 +1,4 @@
+pub mod Found
+pub mod Ranks
+pub mod Rows
+pub mod Steps
