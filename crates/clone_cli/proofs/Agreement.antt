@@ -1,7 +1,7 @@
 -- Lists of words that agree.
 use Rattle.std.proofs.Common.{◌≡◌, ◌&&◌, Bool, true, false, List, [], ◌∷◌, length, suc, refl, ap}
-use Rattle.go_tree.specs.declared.window.Word.{Word}
-use Rattle.go_tree.specs.Sameness.{is_against, agree}
+use Rattle.path_tree.specs.declared.window.Word.{Word}
+use Rattle.path_tree.specs.Sameness.{is_against, agree}
 
 -- words that agree are as many
 pub agree-length : (u v : List Word) → agree u v ≡ true → length u ≡ length v

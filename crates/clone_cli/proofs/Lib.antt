@@ -3,5 +3,16 @@ pub mod Pieces
 pub mod Ranges
 pub mod Prefixes
 pub mod Shown
+pub mod Equivalence
+pub mod OneReply
+pub mod Differ
+pub mod Stops
+pub mod Taken
+pub mod OneFile
+pub mod Replying
+pub mod Conjunctions
+pub mod Options
+pub mod PartKinds
+pub mod Nodes
 pub mod FolderLemmas
 pub mod Written

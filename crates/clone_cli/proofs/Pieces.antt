@@ -1,12 +1,12 @@
 -- Pieces of a list: some of them are a range of the list, and one more stands at the end.
-use Rattle.std.proofs.Common.{◌≡◌, ℕ, zero, suc, ◌+◌, ◌-◌, ◌≤◌, List, [], ◌∷◌, ◌++◌, length, take, drop, min, refl, sym, ap, ◌∙◌, subst, arith, length-append, length-drop, slice_index, ◌<◌}
+use Rattle.std.proofs.Common.{◌≡◌, ℕ, zero, suc, ◌+◌, ◌-◌, ◌≤◌, List, [], ◌∷◌, ◌++◌, length, take, drop, min, map, refl, sym, ap, ◌∙◌, subst, arith, length-append, length-drop, slice_index, ◌<◌}
 use Rattle.std.proofs.Math.Seq.{drop-append_seam, take-length, drop-nil, take-nil}
 use Rattle.std.proofs.lemmas.List.{take-append-le, drop-append-le}
 use Rattle.std.specs.List.{slice_range}
 use Rattle.std.proofs.lemmas.List.{drop-drop}
 use Rattle.std.proofs.Math.Seq.{take-add}
-use Rattle.go_tree.specs.declared.window.Word.{Word}
-use Rattle.go_tree.specs.Windows.{joined}
+use Rattle.path_tree.specs.declared.window.Word.{Word}
+use Rattle.path_tree.specs.Windows.{joined}
 use Rattle.clone_cli.specs.Bodies.{pieces, Grows, end_of}
 
 -- two ranges, one behind the other
@@ -124,3 +124,17 @@ part-min first count xs =
     ap (λ n. take (min count n) (drop (min first (length xs)) xs)) (sym (length-drop (min first (length xs)) xs))
     ∙ take-min count (drop (min first (length xs)) xs)
     ∙ ap (take count) (drop-min first xs)
+
+-- a part of what is mapped
+pub map-take : {A B : Type 0} (f : A → B) (n : ℕ) (xs : List A) → map f (take n xs) ≡ take n (map f xs)
+map-take f zero xs = refl
+map-take f (suc n) [] = refl
+map-take f (suc n) (x ∷ xs) = ap (λ l. f x ∷ l) (map-take f n xs)
+
+pub map-drop : {A B : Type 0} (f : A → B) (n : ℕ) (xs : List A) → map f (drop n xs) ≡ drop n (map f xs)
+map-drop f zero xs = refl
+map-drop f (suc n) [] = refl
+map-drop f (suc n) (x ∷ xs) = map-drop f n xs
+
+pub map-part : {A B : Type 0} (f : A → B) (first count : ℕ) (xs : List A) → map f (take count (drop first xs)) ≡ take count (drop first (map f xs))
+map-part f first count xs = map-take f count (drop first xs) ∙ ap (take count) (map-drop f first xs)

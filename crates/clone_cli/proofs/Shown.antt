@@ -3,16 +3,16 @@ use Rattle.std.proofs.Common.{◌≡◌, ℕ, zero, suc, ◌+◌, ◌<◌, ◌�
 use Rattle.std.proofs.Math.Seq.{drop-append_seam, take-append_seam, take-add}
 use Rattle.std.proofs.lemmas.List.Folds.{drop_split}
 use Rattle.std.proofs.lemmas.List.{take-append-drop}
-use Rattle.go_tree.specs.declared.kind.Operator.{Operator}
-use Rattle.go_tree.specs.declared.kind.Kind.{Kind}
-use Rattle.go_tree.specs.declared.kind.Kind.TheVariants.{File, FunctionDeclaration, Signature, Block, Define, Assignment, ExpressionStatement, Call, Binary, Name, Integer}
-use Rattle.go_tree.specs.declared.window.Word.TheVariants.{Hole}
+use Rattle.path_tree.specs.declared.kind.Operator.{Operator}
+use Rattle.path_tree.specs.declared.kind.Kind.{Kind}
+use Rattle.path_tree.specs.declared.kind.Kind.TheVariants.{File, FunctionDeclaration, Signature, Block, Define, Assignment, ExpressionStatement, Call, Binary, Name, Integer}
+use Rattle.path_tree.specs.declared.window.Word.TheVariants.{Hole}
 use Rattle.std.specs.List.{list_all, slice_range}
 use Rattle.std.proofs.lemmas.List.{append-nil}
-use Rattle.go_tree.specs.declared.node.Node.{Node}
-use Rattle.go_tree.specs.declared.window.Word.{Word}
-use Rattle.go_tree.specs.Trees.{Tree, Trees, node, view, views, height, heights, kind_of, first, parts}
-use Rattle.go_tree.specs.Windows.{joined, words, each_words, is_hole, as_object, as_called, head, shown}
+use Rattle.path_tree.specs.declared.node.Node.{Node}
+use Rattle.path_tree.specs.declared.window.Word.{Word}
+use Rattle.path_tree.specs.Trees.{Tree, Trees, node, view, views, height, heights, kind_of, first, parts}
+use Rattle.path_tree.specs.Windows.{joined, words, each_words, is_hole, as_object, as_called, head, shown}
 
 -- what parts show, part by part
 pub each_words-views : (f : ℕ → ℕ) (parts : List Node) → each_words f (views parts) ≡ map (λ part. words f (view part)) parts

@@ -1,6 +1,6 @@
 -- The members of clone classes.
 use Rattle.std.specs.Prelude.{List, map}
-use Rattle.go_tree.specs.declared.window.Window.{Window}
+use Rattle.path_tree.specs.declared.window.Window.{Window}
 use Rattle.clone_cli.specs.declared.windows.Class.{Class}
 
 abbrev pub members_of : List Class → List (List Window)

@@ -1,9 +1,9 @@
 -- Which names the statements of a function define, assign, read and call, and when the functions of a file fit together.
 use Rattle.std.specs.Prelude.{ℕ, Bool, true, ◌&&◌, ◌==◌, not, List, [], ◌∷◌, ◌++◌, Option, Some, None, option_to_list}
 use Rattle.std.specs.List.{list_all, list_any, flat_map, filter_map}
-use Rattle.go_tree.specs.declared.kind.Kind.TheVariants.{Define, Assignment}
-use Rattle.go_tree.specs.declared.window.Word.{Word}
-use Rattle.go_tree.specs.declared.window.Word.TheVariants.{Local, Object, Branch}
+use Rattle.path_tree.specs.declared.kind.Kind.TheVariants.{Define, Assignment}
+use Rattle.path_tree.specs.declared.window.Word.{Word}
+use Rattle.path_tree.specs.declared.window.Word.TheVariants.{Local, Object, Branch}
 
 -- the name that a statement defines
 abbrev pub defined : List Word → Option ℕ

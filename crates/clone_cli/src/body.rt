@@ -1,10 +1,10 @@
 // What the statements of one function show, kept as one list of words.
 
 ghost use Rattle.std.specs.Prelude.{◌≡◌, ◌+◌, ◌≤◌, ◌++◌, [], ◌∷◌, ℕ, OnOk, OnErr, length, take, drop, slice_get, Some, ◌<◌};
-ghost use Rattle.go_tree.specs.Windows.{joined};
+ghost use Rattle.path_tree.specs.Windows.{joined};
 ghost use Rattle.clone_cli.specs.Bodies.{end_of, pieces, Grows};
 
-use go_tree::window::Word;
+use path_tree::window::Word;
 use std::alloc::{AllocError, Global};
 use std::marker::Model;
 
@@ -17,7 +17,7 @@ pub struct Body {
 
 impl Model for Body {
     ghost use Rattle.std.specs.Prelude.{List, length};
-    ghost use Rattle.go_tree.specs.declared.window.Word.{Word as WindowWord};
+    ghost use Rattle.path_tree.specs.declared.window.Word.{Word as WindowWord};
     ghost use Rattle.clone_cli.specs.Bodies.{pieces, Grows};
 
     ghost Value = { List (List WindowWord) };

@@ -1,15 +1,19 @@
 //! The program: it reads the Go file of a folder and lists its clone classes.
 //!
-//! `serve` does the work over a folder, a script and a sink that are handed in; `main` hands it the real ones.
+//! `serve` does the work over a folder, a script and a sink that are handed in; `main` hands it the real ones. Its contract
+//! is the table of statuses, and that what is written is the reply that specs/Reply.antt says. Each part below it meets a
+//! definition of its own; `laws` says that a folder has one reply and that sameness is an equivalence.
 #![tactic(auto)]
 
 mod body;
 mod functions;
+mod laws;
 mod listing;
 mod names;
 mod reply;
 mod sameness;
 mod serve;
+mod simple;
 mod usage;
 mod windows;
 mod words;

@@ -2,9 +2,9 @@
 
 ghost use Rattle.std.specs.Prelude.{◌≡◌, [], ◌∷◌, length, option_to_list};
 ghost use Rattle.std.specs.List.{list_all};
-ghost use Rattle.go_tree.specs.Sameness.{agree, local_pairs, fits_pair, is_one_to_one, are_same_words};
+ghost use Rattle.path_tree.specs.Sameness.{agree, local_pairs, fits_pair, is_one_to_one, are_same_words};
 
-use go_tree::window::Word;
+use path_tree::window::Word;
 
 /// Whether the words agree one by one, locals with any locals.
 fn agree_words(u: &[Word], v: &[Word]) -> bool

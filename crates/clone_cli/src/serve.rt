@@ -1,9 +1,11 @@
 // The top call: from the words, a folder and a script to a reply and a status.
 
-ghost use Rattle.std.specs.Prelude.{◌≡◌, ◌<◌, IfSome, IfOk, MatchResult, length, None};
+ghost use Rattle.std.specs.Prelude.{◌≡◌, ◌<◌, ◌≤◌, IfSome, IfOk, MatchResult, ◌⊎◌, filter, length, take, drop, None, Some};
 ghost use Rattle.std.specs.Option.{option_map};
 ghost use Rattle.port_io.specs.Faults.{CountsWrite};
-ghost use Rattle.clone_cli.specs.Serving.{folder_stop, sink_stop, status_of, dir_of, texts_of, CountsFolder, CountsScript, CountsBoth, CountsRun, FitsWords, IsDue, Says, WritesAll};
+ghost use Rattle.go_base.specs.Name.{is_go_file_name};
+ghost use Rattle.clone_cli.specs.Reply.{only, only_file, name_at, named_text};
+ghost use Rattle.clone_cli.specs.Serving.{due_status, left_after, is_command, FitsScript, IsWhole, Writes, TakesPiece, folder_stop, sink_stop, status_of, dir_of, texts_of, CountsFolder, CountsScript, CountsBoth, CountsRun, FitsWords, IsDue, Says, WritesAll};
 
 use crate::reply::reply;
 use go_base::{Bytes, FileText, Memory, Name};
@@ -14,6 +16,8 @@ use std::alloc::{AllocError, AllocFailed, Global};
 const USAGE: &[u8; 40] = b"usage: goclone [--min N] [--mass N] DIR\n";
 /// The one script that is taken.
 const CLASSES: &[u8; 8] = b"classes\n";
+/// How many bytes of a script are taken at most: one more than the command has.
+const MOST_TAKEN: usize = 9;
 /// What is written where the script is another one.
 const BAD: &[u8; 6] = b"bad 0\n";
 
@@ -105,7 +109,8 @@ fn taken(words: &[String]) -> Option<&str>
 
 /// The place of the one name of the right form, where there is exactly one.
 fn only_go_file(names: &[Name]) -> Option<usize>
-    ensures { IfSome result (λ i. i < length names.now) }
+    ensures within { IfSome result (λ i. i < length names.now) }
+    ensures only { name_at names.now result ≡ only (filter is_go_file_name names.now) }
 {
     let mut only = None;
     for (i, name) in names.iter().enumerate() {
@@ -124,6 +129,7 @@ fn read_file<F: Folder>(folder: &mut F, dir: &str) -> Result<Option<FileText>, S
     ensures reading { CountsFolder result (F.reading_faults folder.old) (F.reading_faults folder.new) }
     ensures writing { F.writing_faults folder.new ≡ F.writing_faults folder.old }
     ensures held { F.held folder.new ≡ F.held folder.old }
+    ensures file { IfOk result (λ file. IfSome (F.held folder.old) (λ held. option_map named_text file ≡ only_file (held dir.now))) }
 {
     folder.select(dir)?;
     let mut names = folder.names()?;
@@ -137,20 +143,44 @@ fn read_file<F: Folder>(folder: &mut F, dir: &str) -> Result<Option<FileText>, S
     }
 }
 
-/// Reads the script until its end or until more than a command's bytes are taken, and says whether it is `classes`.
-fn is_classes<S: Source>(script: &mut S) -> Result<bool, Stop>
-    ensures { CountsScript result (S.faults script.old) (S.faults script.new) }
+/// Takes a piece of the script, of at most so many bytes: an empty one at its end.
+fn read_piece<S: Source>(alloc: Global, script: &mut S, most: usize) -> Result<Vec<u8>, Stop>
+    requires { 0 < most }
+    ensures count { CountsScript result (S.faults script.old) (S.faults script.new) }
+    ensures bound { IfOk result (λ v. length v.items ≤ most) }
+    ensures taken { IfOk result (λ v. IfSome (S.left script.old) (λ left. TakesPiece left v.items (S.left script.new))) }
 {
-    let mut bytes = [0u8; 9];
-    let mut taken = 0;
-    while taken < bytes.len() {
-        let n = script.read(&mut bytes[taken..])?;
-        if n == 0 {
-            break;
+    let mut piece = vec![in alloc; 0u8; most]?;
+    let n = script.read(&mut piece)?;
+    piece.truncate(n);
+    Ok(piece)
+}
+
+/// Takes the script until its end or until more than a command's bytes are taken.
+fn read_script<S: Source>(alloc: Global, script: &mut S) -> Result<Vec<u8>, Stop>
+    ensures count { CountsScript result (S.faults script.old) (S.faults script.new) }
+    ensures taken { IfOk result (λ v. IfSome (S.left script.old) (λ all. v.items ≡ take 9 all)) }
+    ensures rest { IfOk result (λ _. IfSome (S.left script.old) (λ all. S.left script.new ≡ Some (drop 9 all))) }
+{
+    let mut bytes = Vec::new(alloc);
+    while bytes.len() < MOST_TAKEN {
+        let piece = read_piece(alloc, script, MOST_TAKEN - bytes.len())?;
+        if piece.is_empty() {
+            return Ok(bytes);
         }
-        taken += n;
+        bytes.extend_from_slice(&piece)?;
     }
-    Ok(&bytes[..taken] == CLASSES.as_slice())
+    Ok(bytes)
+}
+
+/// Reads the script, and says whether it is `classes`.
+fn is_command<S: Source>(alloc: Global, script: &mut S) -> Result<bool, Stop>
+    ensures count { CountsScript result (S.faults script.old) (S.faults script.new) }
+    ensures is { IfOk result (λ is. IfSome (S.left script.old) (λ all. is ≡ is_command all)) }
+    ensures rest { IfOk result (λ _. IfSome (S.left script.old) (λ all. S.left script.new ≡ Some (drop 9 all))) }
+{
+    let bytes = read_script(alloc, script)?;
+    Ok(bytes.as_slice() == CLASSES.as_slice())
 }
 
 /// What is due, and the status with it.
@@ -163,7 +193,14 @@ fn find_due<F: Folder, S: Source>(
     ensures counts { CountsBoth result (F.reading_faults folder.old) (F.reading_faults folder.new) (S.faults script.old) (S.faults script.new) }
     ensures writing { F.writing_faults folder.new ≡ F.writing_faults folder.old }
     ensures held { F.held folder.new ≡ F.held folder.old }
-    ensures due { IfOk result (λ due. IsDue (dir_of (texts_of words.now)) USAGE.now BAD.now due.status due.bytes.items) }
+    ensures chosen { dir_of (texts_of words.now) ≡ None → F.chosen folder.new ≡ F.chosen folder.old }
+    ensures untaken { dir_of (texts_of words.now) ≡ None → S.left script.new ≡ S.left script.old }
+    ensures taken { IfOk result (λ _. IfSome (S.left script.old) (λ all. S.left script.new ≡ Some (left_after (dir_of (texts_of words.now)) all))) }
+    ensures unread { MatchResult result (λ _. Unit {0}) (λ stop. stop ≡ Stop.Folder → S.left script.new ≡ S.left script.old) }
+    ensures status { IfOk result (λ due. IfSome (S.left script.old) (λ all. due.status ≡ due_status (dir_of (texts_of words.now)) all)) }
+    ensures whole { IfOk result (λ due. IfSome (F.held folder.old) (λ held. IfSome (S.left script.old) (λ all.
+        IsWhole (dir_of (texts_of words.now)) held all due.bytes.items))) }
+    ensures due { IfOk result (λ due. IsDue (dir_of (texts_of words.now)) due.status due.bytes.items) }
     ensures refused { dir_of (texts_of words.now) ≡ None → MatchResult result (λ _. Unit {0}) (λ e. e ≡ Stop.Memory) }
 {
     let Some(dir) = taken(words) else {
@@ -173,7 +210,7 @@ fn find_due<F: Folder, S: Source>(
         });
     };
     let file = read_file(folder, dir)?;
-    if is_classes(script)? {
+    if is_command(alloc, script)? {
         Ok(Due {
             status: 0,
             bytes: reply(alloc, file.as_ref())?,
@@ -215,7 +252,20 @@ pub fn serve<F: Folder, S: Source, K: Sink>(
     // The status 2 tells exactly that the words were not taken, memory and the sink aside.
     ensures words { FitsWords (dir_of (texts_of words.now)) result }
     // Where the sink tells what is written: the usage line with 2, `bad 0` with 3, and nothing with 4 and 5.
-    ensures written { IfSome (K.written out.old) (λ before. Says result before USAGE.now BAD.now (K.written out.new)) }
+    ensures written { IfSome (K.written out.old) (λ before. Says result before (K.written out.new)) }
+    // Where the script is told: 0 is answered exactly for `classes`, and 3 for another one, faults and memory aside.
+    ensures script { IfSome (S.left script.old) (λ all. FitsScript (due_status (dir_of (texts_of words.now)) all) result) }
+    // Where all contents are told: what is written is the reply that is due at the folder's files, the usage line or
+    // `bad 0`; nothing with 4 and 5; a front of what is due with 6 and 8, and with 6 one that is not all.
+    ensures whole { IfSome (K.written out.old) (λ before. IfSome (F.held folder.old) (λ held. IfSome (S.left script.old) (λ all.
+        Writes (IsWhole (dir_of (texts_of words.now)) held all) result before (K.written out.new)))) }
+    // Where the script is told: without a stop all of it is left where the words are not taken, and else what stands behind
+    // its first nine bytes. Nothing of it is taken where the folder failed.
+    ensures taken { (result ≡ 0) ⊎ (result ≡ 2) ⊎ (result ≡ 3) → IfSome (S.left script.old) (λ all. S.left script.new ≡ Some (left_after (dir_of (texts_of words.now)) all)) }
+    ensures unread { result ≡ 4 → S.left script.new ≡ S.left script.old }
+    // Where the words are not taken, nothing of the script is taken and no folder is chosen.
+    ensures untaken { dir_of (texts_of words.now) ≡ None → S.left script.new ≡ S.left script.old }
+    ensures chosen { dir_of (texts_of words.now) ≡ None → F.chosen folder.new ≡ F.chosen folder.old }
     // The folder is only read.
     ensures writing { F.writing_faults folder.new ≡ F.writing_faults folder.old }
     ensures held { F.held folder.new ≡ F.held folder.old }

@@ -2,14 +2,14 @@
 
 ghost use Rattle.std.specs.Prelude.{◌≡◌, ◌<◌, ◌++◌, [], ◌∷◌, OnOk, IfOk, length, filter, if◌then◌else◌};
 ghost use Rattle.std.specs.List.{list_any};
-ghost use Rattle.go_tree.specs.Windows.{joined, is_heavy, windows_at, windows_of, windows, statements_at};
-ghost use Rattle.go_tree.specs.Sameness.{are_same};
+ghost use Rattle.path_tree.specs.Windows.{joined, is_heavy, windows_at, windows_of, windows, statements_at};
+ghost use Rattle.path_tree.specs.Sameness.{are_same};
 ghost use Rattle.clone_cli.specs.Members.{members_of};
-ghost use Rattle.go_tree.specs.Classes.{class_led_by, classes};
+ghost use Rattle.path_tree.specs.Classes.{class_led_by, classes};
 
 use crate::body::{Body, Run};
 use crate::sameness;
-use go_tree::window::Window;
+use path_tree::window::Window;
 use std::alloc::{AllocError, Global};
 
 /// The fewest statements of a window.

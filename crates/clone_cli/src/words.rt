@@ -2,15 +2,15 @@
 
 ghost use Rattle.std.specs.Prelude.{◌≡◌, ◌+◌, ◌<◌, ◌^◌, ◌≤◌, ◌++◌, [], ◌∷◌, OnOk, IfOk, length, take, drop, map, if◌then◌else◌};
 ghost use Rattle.std.specs.List.{list_all, slice_range};
-ghost use Rattle.go_tree.specs.declared.window.Word.TheVariants.{Hole};
-ghost use Rattle.go_tree.specs.Trees.{view, views};
-ghost use Rattle.go_tree.specs.Windows.{joined, words, each_words, is_hole, as_object, head, shown};
+ghost use Rattle.path_tree.specs.declared.window.Word.TheVariants.{Hole};
+ghost use Rattle.path_tree.specs.Trees.{view, views};
+ghost use Rattle.path_tree.specs.Windows.{joined, words, each_words, is_hole, as_object, head, shown};
 ghost use Rattle.clone_cli.specs.Names.{number_at};
 
 use crate::names::number_at;
-use go_tree::kind::Kind;
-use go_tree::node::Node;
-use go_tree::window::Word;
+use path_tree::kind::Kind;
+use path_tree::node::Node;
+use path_tree::window::Word;
 use std::alloc::{AllocError, Global};
 
 /// Puts the words of a tree behind the others, and says whether they are a hole and nothing else.

@@ -1,5 +1,5 @@
 use Rattle.std.proofs.Common.{◌≡◌, drop}
-use Rattle.go_tree.specs.Sameness.{agree}
+use Rattle.path_tree.specs.Sameness.{agree}
 use Rattle.clone_cli.proofs.sameness.agree_words.Given as goal
 
 abbrev pub invariant-loop-i : goal.invariant-loop-i

@@ -1,6 +1,6 @@
 use Rattle.std.proofs.Common.{◌≡◌, drop}
 use Rattle.std.specs.List.{list_all}
-use Rattle.go_tree.specs.Sameness.{local_pairs, fits_pair, is_one_to_one}
+use Rattle.path_tree.specs.Sameness.{local_pairs, fits_pair, is_one_to_one}
 use Rattle.clone_cli.proofs.sameness.is_paired.Given as goal
 
 abbrev pub invariant-loop-i : goal.invariant-loop-i

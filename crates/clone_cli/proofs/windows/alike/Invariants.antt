@@ -1,5 +1,5 @@
 use Rattle.std.proofs.Common.{◌≡◌, ◌∷◌, filter, take}
-use Rattle.go_tree.specs.Sameness.{are_same}
+use Rattle.path_tree.specs.Sameness.{are_same}
 use Rattle.clone_cli.proofs.windows.alike.Given as goal
 
 abbrev pub invariant-loop-other : goal.invariant-loop-other

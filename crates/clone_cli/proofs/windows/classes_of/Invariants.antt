@@ -1,6 +1,6 @@
 use Rattle.std.proofs.Common.{◌≡◌, ◌++◌, take, drop}
-use Rattle.go_tree.specs.Sameness.{are_same}
-use Rattle.go_tree.specs.Classes.{classes, classes_from}
+use Rattle.path_tree.specs.Sameness.{are_same}
+use Rattle.path_tree.specs.Classes.{classes, classes_from}
 use Rattle.clone_cli.specs.Members.{members_of}
 use Rattle.clone_cli.proofs.windows.classes_of.Given as goal
 

@@ -1,6 +1,6 @@
 use Rattle.std.proofs.Common.{◌-◌, ◌∷◌, [], map, filter}
 use Rattle.std.specs.List.{range_with_len}
-use Rattle.go_tree.specs.Windows.{is_heavy, run_at}
+use Rattle.path_tree.specs.Windows.{is_heavy, run_at}
 use Rattle.std.proofs.Common.{◌∙◌, sym, ap, ◌++◌, arith}
 use Rattle.clone_cli.proofs.Ranges.{further, filter-range-more}
 use Rattle.clone_cli.proofs.windows.push_windows_at.Goals as goal

@@ -1,6 +1,6 @@
 use Rattle.std.proofs.Common.{◌≡◌, ◌-◌, ◌++◌, map, filter}
 use Rattle.std.specs.List.{range_with_len}
-use Rattle.go_tree.specs.Windows.{is_heavy, run_at}
+use Rattle.path_tree.specs.Windows.{is_heavy, run_at}
 use Rattle.clone_cli.proofs.windows.push_windows_at.Given as goal
 
 abbrev pub invariant-loop-count : goal.invariant-loop-count

@@ -1,6 +1,6 @@
 use Rattle.std.proofs.Common.{◌∙◌, sym, ap, ◌++◌}
 use Rattle.std.specs.List.{range_with_len, flat_map}
-use Rattle.go_tree.specs.Windows.{windows_at}
+use Rattle.path_tree.specs.Windows.{windows_at}
 use Rattle.clone_cli.proofs.Ranges.{further, flat_map-range-more}
 use Rattle.clone_cli.proofs.windows.push_windows_of.Goals as goal
 

@@ -1,6 +1,6 @@
 use Rattle.std.proofs.Common.{◌≡◌, ◌++◌}
 use Rattle.std.specs.List.{range_with_len, flat_map}
-use Rattle.go_tree.specs.Windows.{windows_at}
+use Rattle.path_tree.specs.Windows.{windows_at}
 use Rattle.clone_cli.proofs.windows.push_windows_of.Given as goal
 
 abbrev pub invariant-loop-at : goal.invariant-loop-at

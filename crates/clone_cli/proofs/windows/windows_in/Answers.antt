@@ -1,7 +1,7 @@
 use Rattle.std.proofs.Common.{ℕ, ◌≡◌, ◌∙◌, sym, ap, ◌++◌, [], length, unwrap_or, refl, arith}
 use Rattle.std.proofs.lemmas.Option.{slice_get_read}
 use Rattle.std.specs.List.{range_with_len, flat_map}
-use Rattle.go_tree.specs.Windows.{windows_of, body_at}
+use Rattle.path_tree.specs.Windows.{windows_of, body_at}
 use Rattle.clone_cli.proofs.Ranges.{flat_map-range-more}
 use Rattle.clone_cli.proofs.windows.windows_in.Goals as goal
 

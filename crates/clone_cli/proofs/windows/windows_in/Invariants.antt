@@ -1,6 +1,6 @@
 use Rattle.std.proofs.Common.{◌≡◌}
 use Rattle.std.specs.List.{range_with_len, flat_map}
-use Rattle.go_tree.specs.Windows.{windows_of, body_at}
+use Rattle.path_tree.specs.Windows.{windows_of, body_at}
 use Rattle.clone_cli.proofs.windows.windows_in.Given as goal
 
 abbrev pub invariant-loop-func : goal.invariant-loop-func

@@ -3,10 +3,10 @@ use Rattle.std.specs.List.{list_all}
 use Rattle.std.specs.Option.{option_map}
 use Rattle.std.proofs.lemmas.Option.{slice_get_read}
 use Rattle.std.proofs.lemmas.List.{take_all}
-use Rattle.go_tree.specs.declared.node.Node.{Node}
-use Rattle.go_tree.specs.declared.window.Word.{Word}
-use Rattle.go_tree.specs.Trees.{view, views, height, heights}
-use Rattle.go_tree.specs.Windows.{joined, words, each_words, is_hole}
+use Rattle.path_tree.specs.declared.node.Node.{Node}
+use Rattle.path_tree.specs.declared.window.Word.{Word}
+use Rattle.path_tree.specs.Trees.{view, views, height, heights}
+use Rattle.path_tree.specs.Windows.{joined, words, each_words, is_hole}
 use Rattle.clone_cli.specs.Names.{number_at}
 use Rattle.clone_cli.proofs.Ranges.{further}
 use Rattle.clone_cli.proofs.Prefixes.{map-take-more}

@@ -1,7 +1,7 @@
 use Rattle.std.proofs.Common.{◌≡◌, ◌++◌, ◌*◌, ◌+◌, map, take}
 use Rattle.std.specs.List.{list_all}
-use Rattle.go_tree.specs.Trees.{view, views, height, heights}
-use Rattle.go_tree.specs.Windows.{joined, words, is_hole}
+use Rattle.path_tree.specs.Trees.{view, views, height, heights}
+use Rattle.path_tree.specs.Windows.{joined, words, is_hole}
 use Rattle.clone_cli.specs.Names.{number_at}
 use Rattle.clone_cli.proofs.words.+words.Given as goal
 

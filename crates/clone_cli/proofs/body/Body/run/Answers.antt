@@ -1,5 +1,5 @@
 use Rattle.std.proofs.Common.{◌≡◌, sym, ap, ◌∙◌, length, take, drop, arith, rules, length-drop}
-use Rattle.go_tree.specs.Windows.{joined}
+use Rattle.path_tree.specs.Windows.{joined}
 use Rattle.std.proofs.lemmas.List.{length-take-le}
 use Rattle.clone_cli.specs.Bodies.{pieces}
 use Rattle.clone_cli.proofs.Pieces.{part-min, length-pieces}

@@ -1,5 +1,5 @@
 use Rattle.std.proofs.Common.{◌≡◌, ◌≤◌, ◌+◌, ◌∙◌, sym, ap, Some, length, take, drop, arith}
-use Rattle.go_tree.specs.Windows.{joined}
+use Rattle.path_tree.specs.Windows.{joined}
 use Rattle.clone_cli.specs.Bodies.{pieces}
 use Rattle.clone_cli.proofs.Pieces.{length-pieces}
 use Rattle.clone_cli.proofs.Shown.{one-statement}
