@@ -1,5 +1,6 @@
 //! The table `arith`: kind, operator, two operands, and the value or the trap.
 use crate::tables::Table;
+use go_base::Memory;
 use go_ints::{Kind, Op, Trap, arith, fits};
 use std::alloc::{AllocError, Global};
 
@@ -10,7 +11,7 @@ impl Table for Arithmetic {
         "arith"
     }
 
-    fn difference(&self, alloc: Global, fields: &[&str]) -> Result<Option<String>, AllocError> {
+    fn difference(&self, alloc: Global, fields: &[&str]) -> Result<Option<String>, Memory> {
         let [kind, op, a, b, wanted] = fields else {
             return Ok(Some(String::from_str(alloc, "not five fields")?));
         };

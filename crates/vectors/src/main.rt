@@ -7,13 +7,19 @@
 
 mod arithmetic;
 mod lexing;
+mod parsing;
 mod tables;
+mod types;
 
 use arithmetic::Arithmetic;
 use lexing::Lexing;
+use parsing::Parsing;
 use tables::run;
+use types::TypeRelations;
 
 fn main(rt: HostRuntime) -> anyhow::Result<()> {
     run(&rt, &Arithmetic)?;
-    run(&rt, &Lexing)
+    run(&rt, &Lexing)?;
+    run(&rt, &Parsing)?;
+    run(&rt, &TypeRelations)
 }

@@ -1,7 +1,8 @@
 //! Tables of cases: one case a line, its fields divided by tabs. A line that begins with `#` is a
 //! comment.
 use anyhow::Result;
-use std::alloc::{AllocError, Global};
+use go_base::Memory;
+use std::alloc::Global;
 use std::io::ErrorKind;
 use std::rt::Files;
 use std::{fs, io};
@@ -12,7 +13,7 @@ pub trait Table {
     fn name(&self) -> &'static str;
 
     /// What is wrong in a case with these fields, or nothing.
-    fn difference(&self, alloc: Global, fields: &[&str]) -> Result<Option<String>, AllocError>;
+    fn difference(&self, alloc: Global, fields: &[&str]) -> Result<Option<String>, Memory>;
 }
 
 /// Tries each case of the table, prints each difference, and then how many cases agree.
@@ -39,11 +40,7 @@ pub fn run<T: Table>(rt: &HostRuntime, table: &T) -> Result<()> {
     Ok(())
 }
 
-fn difference_in<T: Table>(
-    alloc: Global,
-    table: &T,
-    line: &str,
-) -> Result<Option<String>, AllocError> {
+fn difference_in<T: Table>(alloc: Global, table: &T, line: &str) -> Result<Option<String>, Memory> {
     let fields: Vec<&str> = line.split('\t').collect(alloc)?;
     table.difference(alloc, fields.as_slice())
 }

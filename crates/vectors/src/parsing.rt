@@ -1,0 +1,54 @@
+//! The table `grammar`: a name, a file in hexadecimal digits (`-` for none), and `tree` or its fault.
+
+ghost use Rattle.std.specs.Prelude.{◌≤◌, length};
+
+use crate::lexing::bytes_of;
+use crate::tables::Table;
+use go_base::Memory;
+use go_parse::{ParseError, parse};
+use go_tokens::error::LexError;
+use go_tokens::lex::lex;
+use std::alloc::Global;
+
+/// The bytes of the longest file.
+const LONGEST: usize = 1_048_576;
+
+pub struct Parsing;
+
+impl Table for Parsing {
+    fn name(&self) -> &'static str {
+        "grammar"
+    }
+
+    fn difference(&self, alloc: Global, fields: &[&str]) -> Result<Option<String>, Memory> {
+        let [_, text, wanted] = fields else {
+            return Ok(Some(String::from_str(alloc, "not three fields")?));
+        };
+        let bytes = bytes_of(alloc, text)?;
+        if bytes.len() > LONGEST {
+            return Ok(Some(String::from_str(alloc, "too long")?));
+        }
+        let got = answer(alloc, &bytes)?;
+        if got.as_str() == *wanted {
+            Ok(None)
+        } else {
+            Ok(Some(got))
+        }
+    }
+}
+
+/// Whether the file has a tree, or its fault, as the table writes it.
+fn answer(alloc: Global, bytes: &[u8]) -> Result<String, Memory>
+    requires { length bytes.now ≤ 1048576 }
+{
+    let fault = match lex(alloc, 0, bytes) {
+        Ok(tokens) => match parse(alloc, &tokens) {
+            Ok(_) => return Ok(String::from_str(alloc, "tree")?),
+            Err(ParseError::Fault(fault)) => fault,
+            Err(ParseError::Memory) => return Err(Memory),
+        },
+        Err(LexError::Fault(fault)) => fault,
+        Err(LexError::Memory) => return Err(Memory),
+    };
+    Ok(format!(in alloc; "fault {}", fault.code.number())?)
+}
