@@ -95,6 +95,9 @@ fn texts_of_tokens(rt: HostRuntime) {
     assert!(rt; tokens.text(1) == b":=".as_slice());
     assert!(rt; tokens.text(2) == b"\"b\"".as_slice());
     assert!(rt; tokens.text(3) == b"".as_slice());
+    let copy = tokens.copy(rt.alloc()).expect(&rt, "a copy");
+    assert_eq!(rt; copy.count(), 4);
+    assert!(rt; copy.text(2) == b"\"b\"".as_slice());
 }
 
 const INTEGERS: [(&[u8], Option<i128>); 7] = [

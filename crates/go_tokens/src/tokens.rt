@@ -1,11 +1,12 @@
 // The tokens and comments of a file.
 
-ghost use Rattle.std.specs.Prelude.{◌≡◌, ℕ, ◌<◌, ◌≤◌, ◌^◌, List, length, slice_get, slice_range, Some, count_by};
+ghost use Rattle.std.specs.Prelude.{◌≡◌, ℕ, ◌<◌, ◌≤◌, ◌^◌, IfOk, List, length, slice_get, slice_range, Some, count_by};
 ghost use Rattle.std.specs.Option.{option_map};
 ghost use Rattle.go_tokens.specs.Tokens.{TokenList, IsTokenList, are_between, text_of};
 
 use crate::token::Token;
 use go_base::Span;
+use std::alloc::{AllocError, Global};
 use std::marker::Model;
 
 /// The tokens and comments of a file, with its text.
@@ -40,6 +41,23 @@ impl Tokens {
             tokens,
             comments,
         }
+    }
+
+    /// A copy.
+    ///
+    /// # Errors
+    ///
+    /// Want of memory.
+    pub fn copy(&self, alloc: Global) -> Result<Tokens, AllocError>
+        ensures { IfOk result (λ copy. copy ≡ self.now) }
+    {
+        let mut bytes = Vec::new(alloc);
+        bytes.extend_from_slice(&self.bytes)?;
+        let mut tokens = Vec::new(alloc);
+        tokens.extend_from_slice(&self.tokens)?;
+        let mut comments = Vec::new(alloc);
+        comments.extend_from_slice(&self.comments)?;
+        Ok(Tokens::of(self.file, bytes, tokens, comments))
     }
 
     /// How many tokens there are.
