@@ -1,21 +1,15 @@
 -- Comparability, by numbers.
-use Rattle.std.proofs.Common.{◌≡◌, ℕ, zero, suc, ◌<◌, List, [], ◌∷◌, Some, None, map, length, refl, sym, ◌∙◌, ap, subst, arith, true}
+use Rattle.std.proofs.Common.{◌≡◌, ℕ, ◌<◌, List, Some, None, map, length, refl, sym, ◌∙◌, ap, subst, true}
 use Rattle.std.specs.Prelude.{slice_get}
 use Rattle.go_types.specs.declared.shape.Field.{Field}
 use Rattle.go_types.specs.declared.shape.Shape.{Shape}
 use Rattle.go_types.specs.declared.shape.Shape.TheVariants as shape
 use Rattle.go_types.specs.Trees.{row, is_named}
 use Rattle.go_types.specs.Relations.{Comparable, booleans, texts, integers, arrays, structures}
-use Rattle.go_types.specs.Tables.{Table, IsTable, HasShape, tree_of, type_of, rights_of, held, Holds, IsSettled}
+use Rattle.go_types.specs.Tables.{Table, IsTable, HasShape, tree_of, type_of, rights_of}
 use Rattle.go_types.specs.Changes.{declaration, Leads}
 use Rattle.go_types.proofs.NumberedTypes.{type_of_shape}
-use Rattle.go_types.proofs.Containment.{depth, shallower, held_within}
-use Rattle.go_types.proofs.Underlyings.{leads_undeclared, leads_depth, comparable_up, comparable_down, element_comparable, slices_not, functions_not, field_comparable, all_fields, settled_held, settled_leads}
-
-field_types : (fs : List Field) (k : ℕ) (x : Field) → slice_get fs k ≡ Some x → slice_get (map (λ f. f.ty) fs) k ≡ Some x.ty
-field_types [] k x e = cc
-field_types (f ∷ fs) zero x e = let same : f ≡ x = cc in ap (λ y. Some y.ty) same
-field_types (f ∷ fs) (suc k) x e = field_types fs k x e
+use Rattle.go_types.proofs.Underlyings.{leads_undeclared, comparable_up, comparable_down, element_comparable, slices_not, functions_not, field_comparable, all_fields}
 
 -- a, its underlying type u, and the shape of that
 module _ (t : Table) (ok : IsTable t) (a u : ℕ) (s : Shape) (known : a < length t.shapes) (leads : Leads t a u) (shape_is : HasShape t u s) where
@@ -30,30 +24,6 @@ module _ (t : Table) (ok : IsTable t) (a u : ℕ) (s : Shape) (known : a < lengt
 
   down : IsComparable a → Comparable (rights_of t) (tree_of (type_of t.shapes) s)
   down c = subst (Comparable (rights_of t)) type_is (comparable_down t ok a u leads c)
-
-  -- ---- what the underlying type holds
-
-  pub record Reaches (j : ℕ) : Type 0 where
-    pub shallow : depth t j < depth t a
-    pub within : j < length t.shapes
-    pub settled : IsSettled t a → IsSettled t j
-
-  reaches : (k j : ℕ) → slice_get (held t s) k ≡ Some j → Reaches j
-  reaches k j e =
-      let holds : Holds t u j = record { its_shape = s; shape_is = shape_is; place = k; held_is = e } in
-      let less = shallower t ok u j holds in
-      let most = leads_depth t ok a u leads in
-      record {
-        shallow = omega (arith, less, most);
-        within = held_within t ok u j holds;
-        settled = λ before. settled_held t u j (settled_leads t a u leads before) holds;
-      }
-
-  pub element_reached : (n e : ℕ) → s ≡ shape.Array n e → Reaches e
-  element_reached n e is = reaches 0 e (ap (λ x. slice_get (held t x) 0) is)
-
-  pub field_reached : (fs : List Field) (k : ℕ) (x : Field) → s ≡ shape.Struct fs → slice_get fs k ≡ Some x → Reaches x.ty
-  field_reached fs k x is there = reaches k x.ty (ap (λ y. slice_get (held t y) k) is ∙ field_types fs k x there)
 
   -- ---- what makes it comparable
 

@@ -22,7 +22,7 @@ declared_or_not (shape.Func ps rs) = inr refl
 declared_or_not (shape.Named n) = inl (n, refl)
 
 -- what a shape that isn't declared holds is a part
-held_part : (t : Table) (s : Shape) (i k j : ℕ) → is_declaration s ≡ false → HasPartsBelow i s → slice_get (held t s) k ≡ Some j → j < i
+pub held_part : (t : Table) (s : Shape) (i k j : ℕ) → is_declaration s ≡ false → HasPartsBelow i s → slice_get (held t s) k ≡ Some j → j < i
 held_part t shape.Bool i k j d b e = cc
 held_part t shape.Text i k j d b e = cc
 held_part t (shape.Int _) i k j d b e = cc

@@ -105,14 +105,19 @@ abbrev pub CanDefine : ℕ → ℕ → ℕ → Table → Type 0
 CanDefine named right underlying t =
     IsOpen t named × (right < length t.shapes) × IsDefined t right × NoneContainsItself (defined t named right) × Leads t right underlying × (underlying < length t.shapes)
 
+-- it has no definition yet
+pub open_definition : (shapes : List Shape) (definitions : List (Option Definition)) (named n : ℕ) → declaration (slice_get shapes named) ≡ Some n → IsOpen (table_of shapes definitions) named → slice_get definitions n ≡ Some None
+open_definition shapes definitions named n e o =
+    let is = declaration_shape (slice_get shapes named) n e in
+    let number : shape.Named o.0 ≡ shape.Named n = cc in
+    let same : o.0 ≡ n = cc in
+    let free : slice_get (table_of shapes definitions).rights n ≡ Some None = subst (λ m. slice_get (table_of shapes definitions).rights m ≡ Some None) same o.2 in
+    open_option (slice_get definitions n) (sym (slice_get-map (option_map (λ x. x.right)) definitions n) ∙ free)
+
 pub defined_resolved : (shapes : List Shape) (definitions : List (Option Definition)) → IsResolved shapes definitions → (named n : ℕ) (d : Definition) → declaration (slice_get shapes named) ≡ Some n → CanDefine named d.right d.underlying (table_of shapes definitions) → IsResolved shapes (slice_set definitions n (Some d))
 defined_resolved shapes definitions ok named n d e can =
     let is = declaration_shape (slice_get shapes named) n e in
-    let number : shape.Named can.0.0 ≡ shape.Named n = cc in
-    let same : can.0.0 ≡ n = cc in
-    let free : slice_get (table_of shapes definitions).rights n ≡ Some None = subst (λ m. slice_get (table_of shapes definitions).rights m ≡ Some None) same can.0.2 in
-    let open_before = open_option (slice_get definitions n) (sym (slice_get-map (option_map (λ x. x.right)) definitions n) ∙ free) in
-    with_definition shapes definitions n d ok open_before can.1 can.2 can.4 can.5 (subst NoneContainsItself (defined_table shapes definitions named n d is) can.3)
+    with_definition shapes definitions n d ok (open_definition shapes definitions named n e can.0) can.1 can.2 can.4 can.5 (subst NoneContainsItself (defined_table shapes definitions named n d is) can.3)
 
 -- ---- the underlying type of a declared type that gets its right side
 

@@ -220,19 +220,12 @@ with_declared shapes definitions ok = (
     undefined : (n : ℕ) (d : Definition) → slice_get (definitions ++ None ∷ []) n ≡ Some (Some d) → slice_get definitions n ≡ Some (Some d)
     undefined n d e = elim (get_snoc definitions None n (Some d) e) [ inl f ↦ f | inr p ↦ let wrong : Some d ≡ None = p.1 in cc ]
 
--- ---- what `intern` answers
-
-pub interned : (shapes new_shapes : List Shape) (definitions : List (Option Definition)) (s : Shape) (i : ℕ) → IsResolved shapes definitions → HasPartsBelow (length shapes) s → WasDeclared (table_of shapes definitions) s → IsInterned shapes new_shapes s i → IsResolved new_shapes definitions
-interned shapes new_shapes definitions s i ok parts was (inl known) = subst (λ x. IsResolved x definitions) (sym known.same) ok
-interned shapes new_shapes definitions s i ok parts was (inr added) = subst (λ x. IsResolved x definitions) (sym added.longer) (with_shape shapes definitions s ok parts was added.absent)
+-- ---- what `declare` answers
 
 -- a new declared type is one that isn't there
 pub declared_added : (shapes new_shapes : List Shape) (definitions : List (Option Definition)) (i : ℕ) → IsResolved shapes definitions → IsInterned shapes new_shapes (shape.Named (length definitions)) i → IsAdded shapes new_shapes (shape.Named (length definitions)) i
 declared_added shapes new_shapes definitions i ok (inl known) = absurd ((with_declared shapes definitions ok).0 i known.there)
 declared_added shapes new_shapes definitions i ok (inr added) = added
-
-pub declared_resolved : (shapes new_shapes : List Shape) (definitions : List (Option Definition)) (i : ℕ) → IsResolved shapes definitions → IsInterned shapes new_shapes (shape.Named (length definitions)) i → IsResolved new_shapes (definitions ++ None ∷ [])
-declared_resolved shapes new_shapes definitions i ok h = subst (λ x. IsResolved x (definitions ++ None ∷ [])) (sym (declared_added shapes new_shapes definitions i ok h).longer) (with_declared shapes definitions ok).1
 
 pub declared_change : (shapes new_shapes : List Shape) (definitions : List (Option Definition)) (i : ℕ) → IsResolved shapes definitions → IsInterned shapes new_shapes (shape.Named (length definitions)) i → IsDeclared (table_of shapes definitions) (table_of new_shapes (definitions ++ None ∷ [])) i
 declared_change shapes new_shapes definitions i ok h =

@@ -14,4 +14,8 @@ pub mod Cutting
 pub mod Assigning
 pub mod Comparing
 pub mod Settling
+pub mod Judging
+pub mod Counting
+pub mod Keeping
+pub mod Finding
 pub mod Examples

@@ -4,7 +4,7 @@ use Rattle.std.specs.Prelude.{slice_get, slice_set, count_by}
 use Rattle.go_types.specs.declared.shape.Field.{Field}
 use Rattle.go_types.specs.declared.shape.Shape.{Shape}
 use Rattle.go_types.specs.declared.shape.Shape.TheVariants as shape
-use Rattle.go_types.specs.Tables.{Table, IsTable, HasShape, HasRightId, held, Holds, Contains, at_once, through, NoneContainsItself, IsDefined, IsSettled, is_declaration}
+use Rattle.go_types.specs.Tables.{Table, IsTable, HasShape, HasRightId, held, Holds, Contains, at_once, through, NoneContainsItself, WasDeclared, IsDefined, IsSettled, is_declaration}
 use Rattle.go_types.specs.Changes.{declaration, defined, rights_with, IsOpen}
 use Rattle.go_types.proofs.Places.{get_set, get_within}
 use Rattle.go_types.proofs.Countings.{count_rises, take_whole}
@@ -48,7 +48,7 @@ field_of [] k j e = cc
 field_of (f ∷ fs) zero j e = let same : f.ty ≡ j = cc in (f, refl, same)
 field_of (f ∷ fs) (suc k) j e = field_of fs k j e
 
-type_of_field : (fs : List Field) (k : ℕ) (x : Field) → slice_get fs k ≡ Some x → slice_get (map (λ f. f.ty) fs) k ≡ Some x.ty
+pub type_of_field : (fs : List Field) (k : ℕ) (x : Field) → slice_get fs k ≡ Some x → slice_get (map (λ f. f.ty) fs) k ≡ Some x.ty
 type_of_field [] k x e = cc
 type_of_field (f ∷ fs) zero x e = let same : f ≡ x = cc in ap (λ y. Some y.ty) same
 type_of_field (f ∷ fs) (suc k) x e = type_of_field fs k x e
@@ -112,6 +112,17 @@ declared_within t ok i n e =
     let whole = ap (count_by is_declaration) (take_whole t.shapes) in
     let count = ok.declarations in
     omega (arith, number, rises, whole, count)
+
+-- so has each shape of the table
+pub shape_declared : (t : Table) → IsTable t → (i : ℕ) (s : Shape) → HasShape t i s → WasDeclared t s
+shape_declared t ok i shape.Bool e = tt
+shape_declared t ok i shape.Text e = tt
+shape_declared t ok i (shape.Int _) e = tt
+shape_declared t ok i (shape.Array _ _) e = tt
+shape_declared t ok i (shape.Slice _) e = tt
+shape_declared t ok i (shape.Struct _) e = tt
+shape_declared t ok i (shape.Func _ _) e = tt
+shape_declared t ok i (shape.Named n) e = declared_within t ok i n e
 
 -- ---- a settled right side
 

@@ -1,5 +1,5 @@
 -- Underlying types and comparability, by the right sides of a table.
-use Rattle.std.proofs.Common.{◌≡◌, ℕ, zero, suc, ◌<◌, ◌≤◌, List, [], ◌∷◌, Some, None, map, length, refl, sym, ◌∙◌, ap, subst, arith, false}
+use Rattle.std.proofs.Common.{◌≡◌, ℕ, zero, suc, ◌<◌, List, [], ◌∷◌, Some, None, map, length, refl, sym, ◌∙◌, ap, subst, false}
 use Rattle.std.specs.Prelude.{slice_get}
 use Rattle.std.specs.Option.{option_map}
 use Rattle.std.proofs.lemmas.Option.{slice_get-map}
@@ -14,7 +14,6 @@ use Rattle.go_types.specs.Tables as tables
 use Rattle.go_types.specs.Changes.{declaration, Leads, stays, goes}
 use Rattle.go_types.proofs.Places.{get_there}
 use Rattle.go_types.proofs.NumberedTypes.{type_of_shape}
-use Rattle.go_types.proofs.Containment.{holds_right, depth, shallower}
 
 -- ---- the right sides as types
 
@@ -25,7 +24,7 @@ right_type t n r h = slice_get-map (option_map (type_of t.shapes)) t.rights n �
 pub declared_type : (t : Table) → IsTable t → (i n : ℕ) → HasShape t i (shape.Named n) → type_of t.shapes i ≡ declared n
 declared_type t ok i n s = type_of_shape t.shapes ok.parts_below i (shape.Named n) s
 
-same_right : (rights : Rights) (n : ℕ) (r s : TypeTree) → HasRight rights n r → HasRight rights n s → r ≡ s
+pub same_right : (rights : Rights) (n : ℕ) (r s : TypeTree) → HasRight rights n r → HasRight rights n s → r ≡ s
 same_right rights n r s h k = cc
 
 -- ---- underlying types
@@ -76,15 +75,6 @@ one_underlying rights t u v (itself _ d) k = itself_only rights t v d k
 one_underlying rights t u v (relations.through n r _ h l) k =
     let other = right_underlying rights n (declared n) v refl k in
     one_underlying rights r u v l (subst (λ x. Underlying rights x v) (same_right rights n other.0 r other.1 h) other.2)
-
--- ---- how deep types go
-
-pub leads_depth : (t : Table) → IsTable t → (i u : ℕ) → Leads t i u → depth t u ≤ depth t i
-leads_depth t ok i u (stays _ _) = omega arith
-leads_depth t ok i u (goes _ n r _ s k l) =
-    let first = shallower t ok i r (holds_right t i n r s k) in
-    let rest = leads_depth t ok r u l in
-    omega (arith, first, rest)
 
 -- ---- comparability
 
@@ -147,10 +137,6 @@ all_fields rights f (y ∷ ys) c = a_part (f y.ty) (row (map (λ z. f z.ty) ys))
 
 pub settled_held : (t : Table) (i j : ℕ) → IsSettled t i → Holds t i j → IsSettled t j
 settled_held t i j s h = record { itself = s.contained j (at_once i j h); contained = λ k c. s.contained k (tables.through i j k h c) }
-
-pub settled_leads : (t : Table) (i u : ℕ) → Leads t i u → IsSettled t i → IsSettled t u
-settled_leads t i u (stays _ _) s = s
-settled_leads t i u (goes _ n r _ h k l) s = settled_leads t r u l (settled_held t i r s (holds_right t i n r h k))
 
 -- ---- laws
 

@@ -4,8 +4,10 @@ use Rattle.std.specs.Option.{option_map}
 use Rattle.go_types.specs.declared.shape.Shape.{Shape}
 use Rattle.go_types.specs.declared.shape.Shape.TheVariants as shape
 use Rattle.go_types.specs.declared.types.Definition.{Definition}
+use Rattle.go_types.specs.declared.verdict.Verdict.{Verdict}
 use Rattle.go_types.specs.Shapes.{IsInterned}
 use Rattle.go_types.specs.Tables.{Table, IsTable, HasShape, HasRightId, HasPartsBelow, is_declaration}
+use Rattle.go_types.specs.Verdicts.{AreVerdicts}
 
 abbrev pub empty : Table
 empty = record { shapes = []; rights = [] }
@@ -68,3 +70,9 @@ table_of shapes definitions = record { shapes = shapes; rights = map (option_map
 pub record IsResolved (shapes : List Shape) (definitions : List (Option Definition)) : Type 0 where
   pub table : IsTable (table_of shapes definitions)
   pub leads : (n : ℕ) (d : Definition) → slice_get definitions n ≡ Some (Some d) → Leads (table_of shapes definitions) d.right d.underlying × (d.underlying < length shapes)
+
+-- So is it, and there is a place for the verdict of each type, with a right verdict or none.
+pub record IsKept (shapes : List Shape) (definitions : List (Option Definition)) (verdicts : List (Option Verdict)) : Type 0 where
+  pub resolved : IsResolved shapes definitions
+  pub places : length verdicts ≡ length shapes
+  pub right : AreVerdicts (table_of shapes definitions) verdicts

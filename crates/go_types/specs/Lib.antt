@@ -3,5 +3,6 @@ pub mod Relations
 pub mod Tables
 pub mod Keys
 pub mod Shapes
+pub mod Verdicts
 pub mod Changes
 pub mod Examples

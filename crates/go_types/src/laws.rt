@@ -3,7 +3,7 @@ ghost use Rattle.std.specs.Prelude.{◌≡◌, ◌↔◌, ◌<◌, ◌++◌, ◌
 ghost use Rattle.go_types.specs.declared.shape.Shape.{Shape};
 ghost use Rattle.go_types.specs.Examples.{Examples};
 ghost use Rattle.go_types.specs.Trees.{TypeTree, Identical};
-ghost use Rattle.go_types.specs.Relations.{Rights, Underlying, Assignable};
+ghost use Rattle.go_types.specs.Relations.{Rights, Underlying, Assignable, Scalars};
 ghost use Rattle.go_types.specs.Tables.{Table, IsTable, HasShape, Holds, IsSettled, NoneContainsItself, tree_of, type_of, rights_of};
 ghost use Rattle.go_types.specs.Changes.{IsOpen, defined};
 
@@ -28,6 +28,11 @@ pub fn identical_types_are_assignable()
 pub fn underlying_types_are_underlying()
     ensures itself { (rights : Rights) (t u : TypeTree) → Underlying rights t u → Underlying rights u u }
     ensures only { (rights : Rights) (t u v : TypeTree) → Underlying rights t u → Underlying rights t v → u ≡ v }
+{}
+
+/// A type has one count of scalars at most.
+pub fn types_have_one_count()
+    ensures { (rights : Rights) (t : TypeTree) (n m : ℕ) → Scalars rights t n → Scalars rights t m → n ≡ m }
 {}
 
 /// Numbers of a table are equal exactly where their types are identical.

@@ -10,7 +10,11 @@ mod index;
 mod keys;
 pub mod laws;
 mod shape;
+#[cfg(test)]
+mod tests;
 mod types;
+mod verdict;
+mod waits;
 
 pub use shape::{Field, Fields, Shape, TypeId, TypeIds};
 pub use types::Types;

@@ -101,6 +101,7 @@ pub enum Shape {
 impl Shape {
     ghost use Rattle.go_types.specs.Trees.{TypeTree, is_named};
     ghost use Rattle.go_types.specs.Tables.{tree_of, parts};
+    ghost use Rattle.go_types.specs.Verdicts.{plain};
 
     /// Whether a type of this shape is a declared or a predeclared one.
     pub fn is_named(&self) -> bool
@@ -110,6 +111,18 @@ impl Shape {
             Shape::Bool | Shape::Text | Shape::Int(_) | Shape::Named { .. } => true,
             Shape::Array { .. } | Shape::Slice { .. } | Shape::Struct { .. } | Shape::Func { .. } =>
                 false,
+        }
+    }
+
+    /// Whether types of this shape are comparable, where the shape alone tells it; they have one
+    /// scalar each then.
+    pub(crate) fn plain(&self) -> Option<bool>
+        ensures { result ≡ plain self.now }
+    {
+        match self {
+            Shape::Bool | Shape::Text | Shape::Int(_) => Some(true),
+            Shape::Slice { .. } | Shape::Func { .. } => Some(false),
+            Shape::Array { .. } | Shape::Struct { .. } | Shape::Named { .. } => None,
         }
     }
 

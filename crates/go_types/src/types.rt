@@ -1,13 +1,18 @@
 //! The table of types.
-ghost use Rattle.std.specs.Prelude.{◌≡◌, ◌↔◌, ◌<◌, ◌≤◌, ℕ, [], None, Some, IsTrue, IfOk, OnErr, IfSome, length, slice_get, count_by, take};
+ghost use Rattle.std.specs.Prelude.{◌≡◌, ◌↔◌, ◌<◌, ◌≤◌, ◌^◌, ◌-◌, ◌++◌, ◌∷◌, ℕ, [], None, Some, IsTrue, IfOk, OnOk, OnErr, IfSome, IfNone, length, slice_get, count_by, take, min};
+ghost use Rattle.go_types.specs.declared.shape.Field.{Field};
 ghost use Rattle.go_types.specs.declared.shape.Shape.{Shape};
 ghost use Rattle.go_types.specs.Trees.{Identical, is_named};
-ghost use Rattle.go_types.specs.Relations.{Underlying, Assignable, Comparable};
+ghost use Rattle.go_types.specs.Relations.{Underlying, Assignable, Comparable, Scalars};
 ghost use Rattle.go_types.specs.Tables.{Table, IsTable, HasShape, HasRightId, HasPartsBelow, WasDeclared, IsDefined, IsSettled, NoneContainsItself, is_declaration, type_of, rights_of};
 ghost use Rattle.go_types.specs.Changes.{empty, IsDeclared, IsOpen, defined, IsInternedIn, IsClosedBelow, first_types, declaration, Leads};
+ghost use Rattle.go_types.specs.Shapes.{IsInterned};
+ghost use Rattle.go_types.specs.Verdicts.{IsVerdict, IsShapeVerdict, IsFieldsVerdict};
 
 use crate::index::Index;
-use crate::shape::{Shape, TypeId};
+use crate::shape::{Field, Shape, TypeId};
+use crate::verdict::Verdict;
+use crate::waits::Waits;
 use go_base::Memory;
 use std::alloc::Global;
 use std::marker::Model;
@@ -18,6 +23,8 @@ pub struct Types {
     alloc: Global,
     shapes: Index,
     definitions: Vec<Option<Definition>>,
+    /// What is known of each type, for settled types alone.
+    verdicts: Vec<Option<Verdict>>,
 }
 
 /// What a declared type was given.
@@ -34,11 +41,11 @@ impl Model for Types {
 
     ghost Value = { Table };
 
-    ghost use Rattle.go_types.specs.Changes.{table_of, IsResolved};
+    ghost use Rattle.go_types.specs.Changes.{table_of, IsKept};
 
     ghost view = { λ t. table_of t.shapes t.definitions.items };
 
-    ghost invariant = { λ t. IsResolved t.shapes t.definitions.items };
+    ghost invariant = { λ t. IsKept t.shapes t.definitions.items t.verdicts.items };
 }
 
 // `let _table` reads the table before its numbers are compared: what is true of every table is then
@@ -52,6 +59,7 @@ impl Types {
             alloc,
             shapes: Index::new(alloc),
             definitions: Vec::new(alloc),
+            verdicts: Vec::new(alloc),
         }
     }
 
@@ -80,7 +88,14 @@ impl Types {
     {
         let number = self.definitions.len() as u64;
         self.definitions.push(None)?;
-        match self.shapes.intern(self.alloc, &Shape::Named { number }) {
+        let shape = Shape::Named { number };
+        match add(
+            self.alloc,
+            &mut self.shapes,
+            &mut self.verdicts,
+            &shape,
+            None,
+        ) {
             Ok(place) => Ok(place as u64),
             Err(error) => {
                 self.definitions.pop();
@@ -97,9 +112,11 @@ impl Types {
         requires finite { NoneContainsItself (defined self.old named right) }
         ensures { self.new ≡ defined self.old named right }
     {
+        self.look_at(right);
         let underlying = self.underlying_id(right);
         if let Some(number) = self.number_of(named) {
             self.definitions[number] = Some(Definition { right, underlying });
+            self.verdicts[named as usize] = self.verdicts[right as usize];
         }
     }
 
@@ -124,7 +141,15 @@ impl Types {
         ensures answer { IfOk result (IsInternedIn self.old self.new shape.now) }
         ensures err { OnErr result (self.new ≡ self.old) }
     {
-        Ok(self.shapes.intern(self.alloc, shape)? as u64)
+        let verdict = self.shape_verdict(shape);
+        let place = add(
+            self.alloc,
+            &mut self.shapes,
+            &mut self.verdicts,
+            shape,
+            verdict,
+        )?;
+        Ok(place as u64)
     }
 
     /// Whether the parts of the shape are of the table, and a declared type in it was declared.
@@ -153,6 +178,7 @@ impl Types {
         let declared = self.declared_below(count);
         self.shapes.truncate(count as usize);
         self.definitions.truncate(declared);
+        self.verdicts.truncate(count as usize);
     }
 
     /// Whether two types are identical (Go specification, "Type identity").
@@ -197,20 +223,27 @@ impl Types {
         requires settled { IsSettled self.now a }
         ensures { IsTrue result ↔ Comparable (rights_of self.now) (type_of self.now.shapes a) }
     {
-        let shape = self.shape(self.underlying_id(a));
         let _table = &self.shapes;
-        match shape {
-            Shape::Array { elem, .. } => self.comparable(*elem),
-            Shape::Struct { fields } => {
-                for field in fields.as_slice() {
-                    if !self.comparable(field.ty) {
-                        return false;
-                    }
-                }
-                true
-            }
-            // Of the other underlying types the predeclared ones are.
-            _ => shape.is_named(),
+        match self.verdict(a) {
+            Some(verdict) => verdict.comparable(),
+            None => unreachable!(),
+        }
+    }
+
+    /// How many scalars a value of the type has: an array has its length times those of its element,
+    /// or its length where those are 0; a struct the sum over its fields, and at least 1; a declared
+    /// type those of its right side; every other type 1. A count above 2^64 - 1 is answered as
+    /// 2^64 - 1.
+    pub fn scalars(&self, a: TypeId) -> u64
+        requires known { a < length self.now.shapes }
+        requires settled { IsSettled self.now a }
+        ensures one { (n : ℕ) × Scalars (rights_of self.now) (type_of self.now.shapes a) n }
+        ensures count { (n : ℕ) → Scalars (rights_of self.now) (type_of self.now.shapes a) n → result ≡ min n (2 ^ 64 - 1) }
+    {
+        let _table = &self.shapes;
+        match self.verdict(a) {
+            Some(verdict) => verdict.scalars(),
+            None => unreachable!(),
         }
     }
 
@@ -221,21 +254,158 @@ impl Types {
         ensures { IsTrue result ↔ IsSettled self.now a }
     {
         let _table = &self.shapes;
-        match self.shape(a) {
-            Shape::Array { elem, .. } => self.is_settled(*elem),
-            Shape::Struct { fields } => {
-                for field in fields.as_slice() {
-                    if !self.is_settled(field.ty) {
-                        return false;
+        match self.verdict(a) {
+            Some(_) => true,
+            None => false,
+        }
+    }
+
+    /// Finds out about the settled types of which nothing is kept, because they were made before
+    /// their declared parts were defined. `comparable`, `scalars` and `is_settled` then answer of
+    /// them at once. The time is linear in the size of the table. After `Memory` fewer may be found.
+    pub fn settle(&mut self) -> Result<(), Memory>
+        ensures { self.new ≡ self.old }
+    {
+        let mut waits = self.waits()?;
+        // Each type is ready once at most.
+        for place in 0..self.shapes.len() {
+            match waits.ready(place) {
+                Some(a) if a < self.count() => {
+                    if self.keep_verdict(a) {
+                        waits.wake(a)?;
                     }
                 }
-                true
+                _ => break,
             }
-            Shape::Named { number } => match self.right_of(*number as usize) {
-                Some(right) => self.is_settled(right),
-                None => false,
-            },
-            _ => true,
+        }
+        Ok(())
+    }
+
+    /// Finds out about a type of which nothing is kept from what is kept of its parts.
+    fn look_at(&mut self, a: TypeId)
+        requires { a < length self.old.shapes }
+        ensures { self.new ≡ self.old }
+    {
+        if self.is_unknown(a) {
+            self.keep_verdict(a);
+        }
+    }
+
+    /// Finds out about a type from what is kept of its parts, and whether that did.
+    fn keep_verdict(&mut self, a: TypeId) -> bool
+        requires { a < length self.old.shapes }
+        ensures { self.new ≡ self.old }
+    {
+        let verdict = self.shape_verdict(self.shape(a));
+        self.verdicts[a as usize] = verdict;
+        verdict.is_some()
+    }
+
+    /// The types of which nothing is kept, with what they wait for.
+    fn waits(&self) -> Result<Waits, Memory> {
+        let mut waits = Waits::new(self.alloc, self.shapes.len())?;
+        for a in 0..self.count() {
+            if self.is_unknown(a) {
+                self.wait_for_parts(a, &mut waits)?;
+            }
+        }
+        Ok(waits)
+    }
+
+    /// Lets a type wait for those of its parts of which nothing is kept.
+    fn wait_for_parts(&self, a: TypeId, waits: &mut Waits) -> Result<(), Memory>
+        requires { a < length self.now.shapes }
+    {
+        match self.shape(a) {
+            Shape::Array { elem, .. } => self.wait_for(a, *elem, waits)?,
+            Shape::Struct { fields } => {
+                for field in fields.as_slice() {
+                    self.wait_for(a, field.ty, waits)?;
+                }
+            }
+            Shape::Named { number } => {
+                if let Some(Some(definition)) = self.definitions.get(*number as usize) {
+                    self.wait_for(a, definition.right, waits)?;
+                }
+            }
+            _ => (),
+        }
+        waits.begin(a)
+    }
+
+    /// Lets a type wait for a part, if nothing is kept of that.
+    fn wait_for(&self, a: TypeId, part: TypeId, waits: &mut Waits) -> Result<(), Memory> {
+        if self.is_unknown(part) {
+            waits.add(a, part)?;
+        }
+        Ok(())
+    }
+
+    /// Whether nothing is kept of a type.
+    fn is_unknown(&self, a: TypeId) -> bool {
+        matches!(self.verdicts.get(a as usize), Some(None))
+    }
+
+    /// What is kept of a type.
+    fn kept(&self, a: TypeId) -> Option<Verdict>
+        requires { a < length self.now.shapes }
+        ensures { IfSome result (IsVerdict self.now a) }
+    {
+        self.verdicts[a as usize]
+    }
+
+    /// What is to be said of a type of this shape by what is kept of its parts.
+    fn shape_verdict(&self, shape: &Shape) -> Option<Verdict>
+        requires parts { HasPartsBelow (length self.now.shapes) shape.now }
+        requires declared { WasDeclared self.now shape.now }
+        ensures { IfSome result (IsShapeVerdict self.now shape.now) }
+    {
+        let _table = &self.shapes;
+        match shape {
+            Shape::Array { length, elem } => Some(self.kept(*elem)?.of_array(*length)),
+            Shape::Struct { fields } => {
+                Some(self.fields_verdict(fields.as_slice())?.of_struct())
+            }
+            Shape::Named { number } => self.kept(self.right_of(*number as usize)?),
+            _ => Some(Verdict::plain(shape.plain()?)),
+        }
+    }
+
+    /// What is to be said of fields together by what is kept of their types.
+    fn fields_verdict(&self, fields: &[Field]) -> Option<Verdict>
+        requires { (k : ℕ) (x : Field) → slice_get fields.now k ≡ Some x → x.ty < length self.now.shapes }
+        ensures { IfSome result (IsFieldsVerdict self.now fields.now (length fields.now)) }
+    {
+        let mut verdict = Verdict::no_fields();
+        for field in fields {
+            verdict = verdict.with(self.kept(field.ty)?);
+        }
+        Some(verdict)
+    }
+
+    /// What is kept of a type, or else found out from all that it contains; nothing where it isn't
+    /// settled.
+    fn verdict(&self, a: TypeId) -> Option<Verdict>
+        requires { a < length self.now.shapes }
+        ensures found { IfSome result (IsVerdict self.now a) }
+        ensures unsettled { IfNone result (IsSettled self.now a → ⊥) }
+    {
+        let kept = self.kept(a);
+        if kept.is_some() {
+            return kept;
+        }
+        let _table = &self.shapes;
+        match self.shape(a) {
+            Shape::Array { length, elem } => Some(self.verdict(*elem)?.of_array(*length)),
+            Shape::Struct { fields } => {
+                let mut verdict = Verdict::no_fields();
+                for field in fields.as_slice() {
+                    verdict = verdict.with(self.verdict(field.ty)?);
+                }
+                Some(verdict.of_struct())
+            }
+            Shape::Named { number } => self.verdict(self.right_of(*number as usize)?),
+            shape => Some(Verdict::plain(shape.plain()?)),
         }
     }
 
@@ -312,69 +482,22 @@ impl Types {
     }
 }
 
-#[cfg(test)]
-mod tests {
-    use super::*;
-    use crate::shape::{Field, Fields, TypeIds};
-    use go_base::Bytes;
-    use go_ints::Kind;
-    use std::process::Abort;
-    use std::test::Fail;
-
-    /// The number of a shape whose parts are there.
-    fn number(rt: &impl Abort, types: &mut Types, shape: Shape) -> Result<TypeId, Fail> {
-        assert!(rt; types.can_intern(&shape));
-        Ok(types.intern(&shape)?)
-    }
-
-    #[test]
-    fn slices_and_a_declared_type(rt: HostRuntime) -> Result<(), Fail> {
-        let mut types = Types::new(rt.alloc());
-        let int = number(&rt, &mut types, Shape::Int(Kind::Int))?;
-        let ints = number(&rt, &mut types, Shape::Slice { elem: int })?;
-        assert_eq!(rt; number(&rt, &mut types, Shape::Slice { elem: int })?, ints);
-        let named = types.declare()?;
-        assert!(rt; ints < types.count());
-        assert!(rt; named < types.count());
-        assert!(rt; types.is_open(named));
-        assert!(rt; types.can_define(named, ints));
-        types.define(named, ints);
-        assert!(rt; types.is_settled(named));
-        assert!(rt; types.is_settled(ints));
-        assert_eq!(rt; types.underlying(named), ints);
-        assert!(rt; types.assignable(ints, named));
-        assert!(rt; !types.identical(ints, named));
-        Ok(())
-    }
-
-    #[test]
-    fn a_struct_of_a_function(rt: HostRuntime) -> Result<(), Fail> {
-        let alloc = rt.alloc();
-        let mut types = Types::new(alloc);
-        let bool = number(&rt, &mut types, Shape::Bool)?;
-        let params = TypeIds::of(vec![in alloc; bool]?);
-        let results = TypeIds::of(vec![in alloc]?);
-        assert_eq!(rt; params.as_slice().len(), 1);
-        let func = number(&rt, &mut types, Shape::Func { params, results })?;
-        let name = Bytes::from_slice(alloc, b"f")?;
-        let fields = Fields::of(vec![in alloc; Field { name, ty: func }]?);
-        assert_eq!(rt; fields.as_slice().len(), 1);
-        let record = number(&rt, &mut types, Shape::Struct { fields })?;
-        assert!(rt; record < types.count());
-        assert!(rt; types.is_settled(record));
-        assert!(rt; !types.comparable(record));
-        assert!(rt; !types.shape(record).is_named());
-        Ok(())
-    }
-
-    #[test]
-    fn a_table_is_cut(rt: HostRuntime) -> Result<(), Fail> {
-        let mut types = Types::new(rt.alloc());
-        types.declare()?;
-        types.cut(0);
-        assert_eq!(rt; types.count(), 0);
-        types.declare()?;
-        assert_eq!(rt; types.count(), 1);
-        Ok(())
-    }
+/// Gives a shape its number, and keeps what is known of its type if it wasn't there. After `Memory`
+/// both are unchanged.
+fn add(
+    alloc: Global,
+    shapes: &mut Index,
+    verdicts: &mut Vec<Option<Verdict>>,
+    shape: &Shape,
+    verdict: Option<Verdict>,
+) -> Result<usize, Memory>
+    requires { length verdicts.old.items ≡ length shapes.old }
+    ensures number { IfOk result (IsInterned shapes.old shapes.new shape.now) }
+    ensures kept { OnOk result (verdicts.new.items ≡ take (length shapes.new) (verdicts.old.items ++ verdict ∷ [])) }
+    ensures err { OnErr result ((shapes.new ≡ shapes.old) × (verdicts.new.items ≡ verdicts.old.items)) }
+{
+    verdicts.push(verdict)?;
+    let place = shapes.intern(alloc, shape);
+    verdicts.truncate(shapes.len());
+    place
 }
