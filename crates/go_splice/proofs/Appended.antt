@@ -1,5 +1,5 @@
 -- A declaration at the end of a file.
-use Rattle.std.proofs.Common.{◌≡◌, ℕ, suc, ◌<◌, ◌≤◌, inl, inr, true, List, [], ◌∷◌, Option, Some, refl, sym, ◌∙◌, subst, length, arith}
+use Rattle.std.proofs.Common.{◌≡◌, ℕ, suc, ◌<◌, ◌≤◌, inl, inr, true, List, [], ◌∷◌, refl, sym, ◌∙◌, subst, length, arith}
 use Rattle.std.specs.Prelude.{slice_get}
 use Rattle.go_tokens.specs.declared.token.TokenKind.{TokenKind}
 use Rattle.go_tokens.specs.declared.token.TokenKind.TheVariants as token
@@ -10,11 +10,13 @@ use Rattle.go_grammar.specs.declared.kind.Category.TheVariants as category
 use Rattle.go_grammar.specs.Categories.{within, place_of}
 use Rattle.go_grammar.specs.Rules.{Items, Each, Many}
 use Rattle.go_grammar.specs.Trees.{Tree, node, Trees, none, more, skip, first, last, depth, depths}
-use Rattle.go_grammar.specs.Grammar.{rule, IsAt, Words, Derives, Spells, Goes, IsFile, result_words}
-use Rattle.go_grammar.specs.Words.{is_word, is_among}
+use Rattle.go_grammar.specs.Grammar.{rule, IsAt, Words, Derives, Spells, Goes, IsFile}
 use Rattle.go_grammar.proofs.Ranges.{words_order, derives_order, spells_order, goes_order}
 use Rattle.go_splice.specs.Replacing.{onto}
-use Rattle.go_splice.proofs.Before.{derives_before}
+use Rattle.go_splice.specs.Places.{carry}
+use Rattle.go_splice.proofs.Kept.{derives_kept, soft_same}
+use Rattle.go_splice.proofs.Order.{derives_ordered}
+use Rattle.go_splice.proofs.Single.{carry_still}
 
 abbrev lines_of : Category → Items
 lines_of c = Each c (token.Semicolon ∷ []) []
@@ -27,9 +29,6 @@ imports_kind : (k : Kind) → within category.Imports k ≡ true → k ≡ kind.
 imports_kind kind.Imports h = refl
 imports_kind _ h = cc
 
-no_semicolon_brace : (w : Option TokenKind) → w ≡ Some token.Semicolon → w ≡ Some token.RightBrace → ⊥
-no_semicolon_brace w e f = let same : Some token.Semicolon ≡ Some token.RightBrace = sym e ∙ f in cc
-
 module _ (ts ts' : List TokenKind) (big : ℕ) (agree : (n : ℕ) → n < big → slice_get ts' n ≡ slice_get ts n) where
   words_kept : (ws : List TokenKind) (i j : ℕ) → Words ts i ws j → j ≤ big → Words ts' i ws j
   words_kept [] i j h le = h
@@ -38,12 +37,8 @@ module _ (ts ts' : List TokenKind) (big : ℕ) (agree : (n : ℕ) → n < big �
   -- what stands in front of a semicolon stays
   kept : (c : Category) (p : Tree) → Derives ts c p → IsAt ts (last p) token.Semicolon → last p < big → Derives ts' c p
   kept c p h at lt =
-      let same = agree (last p) lt in
-      derives_before ts ts' (last p) (λ n below. agree n (omega (arith, below, lt)))
-      (λ y. subst (λ w. is_word w token.LeftBrace ≡ true) same y)
-      (λ y. subst (λ w. is_among w result_words ≡ true) same y)
-      (λ b. no_semicolon_brace (slice_get ts (last p)) at b)
-      p c h (omega arith)
+      let there : Derives ts' c (carry (λ n. n) p) = derives_kept ts ts' (λ n. n) p c (λ n lo hi. record { same = agree n (omega (arith, hi, lt)); next = refl }) (soft_same ts ts' (λ n. n) (last p) (agree (last p) lt)) h in
+      subst (Derives ts' c) (carry_still (λ n. n) (last p) (λ n le. refl) p (derives_ordered ts p c h) (omega arith)) there
 
   semicolon : (c : Category) (ps : Trees) (a b : ℕ) → Goes ts (lines_of c) a ps b → IsAt ts a token.Semicolon × (suc a ≤ b)
   semicolon c none a b (inl h) = absurd h

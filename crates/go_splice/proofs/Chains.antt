@@ -14,13 +14,10 @@ use Rattle.go_grammar.specs.Categories.{place_of, within, tightness, is_expressi
 use Rattle.go_grammar.specs.Trees.{Tree, node, first, last}
 use Rattle.go_grammar.specs.Grammar.{Derives}
 use Rattle.go_splice.specs.Replacing.{agree, Replaces, Step, AreReplaced, takes_level}
-use Rattle.go_splice.proofs.Replaced.{replaced_tree}
-use Rattle.go_splice.proofs.Subtrees.{subtree_derives, no_brace_begins}
+use Rattle.go_splice.proofs.Single.{subtree_replaced}
 
 pub replaced_once : (c : Category) (ts : List TokenKind) (t : Tree) (ts' : List TokenKind) (t' : Tree) → Derives ts c t → Replaces c ts t ts' t' → Derives ts' c t'
-replaced_once c ts t ts' t' h r =
-    let old = subtree_derives ts r.path t r.old c r.category h r.stood r.asked in
-    subst (λ u. Derives ts' c u) (sym r.is) (replaced_tree ts ts' (first r.old) (last r.old) (last r.new) r.seam r.old r.new r.category refl refl r.stands r.begins refl (no_brace_begins ts r.old r.category old) r.path t c h r.stood r.asked (ap agree (sym r.is) ∙ r.agrees))
+replaced_once c ts t ts' t' h r = subst (λ u. Derives ts' c u) (sym r.is) (subtree_replaced ts ts' (first r.old) (last r.old) (last r.new) r.seam c r.category t r.old r.new r.path h r.stood refl refl r.asked r.stands r.begins refl (ap agree (sym r.is) ∙ r.agrees))
 
 pub replaced_all : (c : Category) (steps : List Step) (ts : List TokenKind) (t : Tree) (ts' : List TokenKind) (t' : Tree) → Derives ts c t → AreReplaced c steps ts t ts' t' → Derives ts' c t'
 replaced_all c [] ts t ts' t' h a = subst (λ us. Derives us c t') a.0 (subst (λ u. Derives ts c u) a.1 h)

@@ -9,7 +9,7 @@ use Rattle.go_grammar.specs.declared.kind.Category.TheVariants as category
 use Rattle.go_grammar.specs.Categories.{place_of}
 use Rattle.go_grammar.specs.Rules.{Items, Rule, End, Then, Maybe, Unless, Many, item}
 use Rattle.go_grammar.specs.Trees.{Tree, node, Trees, none, more, skip, first, last}
-use Rattle.go_grammar.specs.Grammar.{rule, agrees, result_words, Derives, Between, Gap}
+use Rattle.go_grammar.specs.Grammar.{rule, agrees, result_words, IsAt, Derives, Between, Gap}
 use Rattle.go_grammar.specs.declared.kind.Level.{Level}
 use Rattle.go_grammar.specs.Operators.{rank}
 use Rattle.go_grammar.specs.Words.{is_word, is_among}
@@ -93,13 +93,18 @@ abbrev mutual
   agree_all (more p ps) = agree p && agree_all ps
   agree_all (skip ps) = agree_all ps
 
--- The tokens ts' are ts with those from i up to j replaced. The new text begins with an opening brace or a word that begins
--- a result only where the old one did, since these change what stands in front of them.
+-- A new text that begins at j, where the old one began at i, doesn't change what stands in front: it begins with an opening
+-- brace only where the old one did; and, behind a closing parenthesis, with a word that begins a result only where the old
+-- one did.
+pub record Edge (ts ts' : List TokenKind) (i j : ℕ) : Type 0 where
+  pub brace : is_word (slice_get ts' j) token.LeftBrace ≡ true → is_word (slice_get ts i) token.LeftBrace ≡ true
+  pub result : (n : ℕ) → suc n ≡ i → IsAt ts n token.RightParenthesis → is_among (slice_get ts' j) result_words ≡ true → is_among (slice_get ts i) result_words ≡ true
+
+-- The tokens ts' are ts with those from i up to j replaced.
 pub record Seam (ts ts' : List TokenKind) (i j j' : ℕ) : Type 0 where
   pub before : (k : ℕ) → k < i → slice_get ts' k ≡ slice_get ts k
   pub behind : (k : ℕ) → j ≤ k → slice_get ts' (moved j j' k) ≡ slice_get ts k
-  pub brace : is_word (slice_get ts' i) token.LeftBrace ≡ true → is_word (slice_get ts i) token.LeftBrace ≡ true
-  pub result : is_among (slice_get ts' i) result_words ≡ true → is_among (slice_get ts i) result_words ≡ true
+  pub edge : Edge ts ts' i i
 
 -- The tree t' over ts' is the tree t over ts with one subtree replaced by another of the category asked for at its place.
 pub record Replaces (c : Category) (ts : List TokenKind) (t : Tree) (ts' : List TokenKind) (t' : Tree) : Type 0 where

@@ -1,5 +1,5 @@
-use Rattle.go_splice.proofs.Runs.{replaced_runs}
+use Rattle.go_splice.proofs.Single.{run_replaced}
 use Rattle.go_splice.proofs.laws.replaced_run.Goals as goal
 
 pub returns : goal.returns
-returns c = replaced_runs
+returns c = run_replaced
