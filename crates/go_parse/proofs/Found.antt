@@ -1,6 +1,6 @@
 -- What follows from what was found.
 use Rattle.std.proofs.Common.{◌≡◌, ℕ, suc, ◌<◌, ◌≤◌, List, length, Option, Some, None, refl, sym, ap, ◌∙◌, subst, Bool, true, false, drop, [], ◌∷◌, Result, Ok, Err, arith}
-use Rattle.std.specs.Prelude.{slice_get, ◌&&◌, MatchResult, if◌then◌else◌}
+use Rattle.std.specs.Prelude.{slice_get, MatchResult, if◌then◌else◌}
 use Rattle.std.proofs.lemmas.List.{length-map}
 use Rattle.std.proofs.lemmas.Option.{slice_get_within}
 use Rattle.go_tokens.specs.declared.token.TokenKind.{TokenKind}
@@ -24,16 +24,12 @@ use Rattle.go_parse.specs.declared.error.Stop.{Stop}
 use Rattle.go_parse.specs.declared.error.Stop.TheVariants as stop
 use Rattle.go_grammar.specs.declared.items.Turn.{Turn}
 use Rattle.go_grammar.specs.declared.items.Turn.TheVariants as turns
-use Rattle.go_grammar.specs.declared.items.Next.{Next}
-use Rattle.go_grammar.specs.declared.items.Next.TheVariants.{On, Done, Wrong}
+use Rattle.go_grammar.specs.declared.items.Next.TheVariants.{On}
 use Rattle.go_grammar.specs.Rules.{Items, Lines, Open, Each, Again}
 use Rattle.go_grammar.specs.declared.kind.Kind.{Kind}
-use Rattle.go_grammar.specs.declared.kind.Place.{Place}
-use Rattle.go_grammar.specs.Grammar.{rule, Between, Early, Words}
-use Rattle.go_grammar.specs.Categories.{place_of}
-use Rattle.go_grammar.specs.Reader.{turn, next, begins, fits}
-use Rattle.go_grammar.proofs.Sound.{next_between, next_early}
-use Rattle.go_grammar.proofs.Ranges.{between_order, between_end, early_order, early_end}
+use Rattle.go_grammar.specs.Reader.{turn, next, fits}
+use Rattle.go_grammar.proofs.Sound.{next_between}
+use Rattle.go_grammar.proofs.Ranges.{between_order, between_end}
 use Rattle.go_grammar.proofs.Steps.{tends_one}
 use Rattle.go_grammar.proofs.Unique.{file_found}
 use Rattle.go_parse.specs.Turns.{stops, passes}

@@ -1,6 +1,5 @@
 -- Rows of nodes that grow at their end.
 use Rattle.std.proofs.Common.{◌≡◌, ℕ, zero, suc, ◌-◌, ◌<◌, ◌≤◌, max, List, [], ◌∷◌, ◌++◌, length, take, drop, Option, Some, None, refl, sym, ap, ◌∙◌, subst, arith}
-use Rattle.std.specs.Prelude.{slice_get}
 use Rattle.std.proofs.Math.ListN.{get_or}
 use Rattle.go_grammar.specs.Trees.{Tree, Trees, none, more, skip, depth, depths}
 use Rattle.go_grammar.specs.Reader.{Tends}
@@ -136,14 +135,6 @@ leads_end f g before row row' leads items t = record {
 -- what was found by another function that finds the same
 pub row_on : (f g : ℕ → Option (Trees × ℕ)) (before after : Row) → ((x : Option (Trees × ℕ)) → Tends g x → Tends f x) → IsRowOn g before after → IsRowOn f before after
 row_on f g before after same on = record { behind = on.behind; are = on.are; tends = same (Some (on.behind, after.last)) on.tends }
-
-pub some_is : {A : Type 0} (x y : A) → Some x ≡ Some y → x ≡ y
-some_is x y e = cc
-
-pub take_next : {A : Type 0} (xs : List A) (i : ℕ) (x : A) → slice_get xs i ≡ Some x → take (suc i) xs ≡ take i xs ++ x ∷ []
-take_next [] i x h = cc
-take_next (y ∷ xs) zero x h = let e : y ≡ x = some_is y x h in ap (λ z. z ∷ []) e
-take_next (y ∷ xs) (suc i) x h = ap (λ zs. y ∷ zs) (take_next xs i x h)
 
 pub drop_get : {A : Type 0} (xs : List A) (i : ℕ) (d x : A) → i < length xs → get_or xs i d ≡ x → drop i xs ≡ x ∷ drop (suc i) xs
 drop_get [] i d x lt h = absurd (omega arith)

@@ -4,13 +4,12 @@ use Rattle.std.specs.Prelude.{slice_get, nat_le, ◌&&◌}
 use Rattle.go_tokens.specs.declared.token.TokenKind.{TokenKind}
 use Rattle.go_grammar.specs.declared.kind.Kind.{Kind}
 use Rattle.go_grammar.specs.declared.kind.Category.{Category}
-use Rattle.go_grammar.specs.declared.items.Turn.{Turn}
 use Rattle.go_grammar.specs.declared.items.Turn.TheVariants.{Stop, Pass, Item}
 use Rattle.go_grammar.specs.declared.items.Next.{Next}
 use Rattle.go_grammar.specs.declared.items.Next.TheVariants.{On, Done, Wrong}
 use Rattle.go_grammar.specs.Categories.{within, place_of}
 use Rattle.go_grammar.specs.Rules.{Items, Rule, End, Then, Maybe, Unless, Many, item}
-use Rattle.go_grammar.specs.Trees.{Tree, node, Trees, none, more, skip, kind_of, first, last, parts, weight, depth}
+use Rattle.go_grammar.specs.Trees.{Tree, node, Trees, none, more, kind_of, first, last, weight, depth}
 use Rattle.go_grammar.specs.Grammar.{rule, agrees, ends}
 use Rattle.go_grammar.specs.Reader.{◌>>=◌, opens_before, begins, continues, fits, after_first, words, front, gap, turn, closing, lead, next, read, made, grow, grow_by, spell, option, items, items_by, goes, goes_by, Tends}
 use Rattle.go_grammar.specs.Symbols.{prepend}

@@ -1,6 +1,6 @@
 // The tree of a file.
 
-ghost use Rattle.std.specs.Prelude.{◌≡◌, ◌^◌, ◌<◌, IfOk, length};
+ghost use Rattle.std.specs.Prelude.{◌≡◌};
 ghost use Rattle.go_base.specs.Gives.{Meets};
 ghost use Rattle.go_tokens.specs.Tokens.{kinds};
 ghost use Rattle.go_grammar.specs.Grammar.{IsFile};
@@ -12,10 +12,9 @@ use crate::engine::tree;
 use crate::error::{ParseError, Stop};
 use go_base::{Fault, FaultCode, Span};
 use go_grammar::kind::Category;
-use go_tokens::token::Token;
 use go_tokens::tokens::Tokens;
 use go_tree::file::File;
-use std::alloc::{AllocError, Global};
+use std::alloc::Global;
 
 /// The levels that a tree may have: 100 nodes above a node, and that node.
 const ROOM: u32 = 101;
@@ -26,7 +25,7 @@ const ROOM: u32 = 101;
 ///
 /// The fault 4 (syntax) over the whole file, exactly where there is no such tree; or want of memory.
 pub fn parse(alloc: Global, tokens: &Tokens) -> Result<File, ParseError>
-    ensures { Meets parse_refusal result (λ f. (f.tokens ≡ tokens.now.tokens) × IsFile (kinds tokens.now.tokens) (view f.root)) (λ fault. IsSyntaxFault tokens.now fault × ((t : Tree) → IsFile (kinds tokens.now.tokens) t → ⊥)) }
+    ensures { Meets parse_refusal result (λ f. (f.tokens ≡ tokens.now) × IsFile (kinds tokens.now.tokens) (view f.root)) (λ fault. IsSyntaxFault tokens.now fault × ((t : Tree) → IsFile (kinds tokens.now.tokens) t → ⊥)) }
 {
     let count = tokens.count();
     let grown = match tree(alloc, tokens, Category::File, 0, ROOM) {
@@ -37,7 +36,7 @@ pub fn parse(alloc: Global, tokens: &Tokens) -> Result<File, ParseError>
     if grown.node.last() != count {
         return Err(ParseError::Fault(no_tree(tokens)));
     }
-    let Ok(copy) = copied(alloc, tokens) else {
+    let Ok(copy) = tokens.copy(alloc) else {
         return Err(ParseError::Memory);
     };
     Ok(File::new(copy, grown.node))
@@ -55,15 +54,4 @@ fn no_tree(tokens: &Tokens) -> Fault
             end: tokens.length(),
         },
     }
-}
-
-/// A copy of the tokens.
-fn copied(alloc: Global, tokens: &Tokens) -> Result<Vec<Token>, AllocError>
-    ensures { IfOk result (λ v. v.items ≡ tokens.now.tokens) }
-{
-    let mut copy = Vec::new(alloc);
-    for i in 0..tokens.count() {
-        copy.push(tokens.get(i))?;
-    }
-    Ok(copy)
 }

@@ -3,7 +3,11 @@
 use crate::error::ParseError;
 use crate::parser::parse;
 use go_base::{Fault, FaultCode};
+use go_grammar::kind::Kind;
 use go_tokens::lex::lex;
+use go_tree::file::File;
+use go_tree::node::Node;
+use go_tree::statement_lists::StatementLists;
 use std::alloc::Global;
 use std::test::Fail;
 
@@ -463,13 +467,30 @@ fn nested(alloc: Global, pieces: [&'static str; 5], count: u32) -> Result<String
     Ok(text)
 }
 
-/// The tree of a file, written out.
-fn written(alloc: Global, text: &str) -> Result<String, Fail> {
+/// The file of this number with this text.
+fn parsed(alloc: Global, number: u32, text: &str) -> Result<File, Fail> {
     if text.len() > 1_048_576 {
         return Err("a file has at most 1 MiB".into());
     }
-    let tokens = lex(alloc, 0, text.as_bytes())?;
-    let file = parse(alloc, &tokens)?;
+    let tokens = lex(alloc, number, text.as_bytes())?;
+    Ok(parse(alloc, &tokens)?)
+}
+
+/// The part of a text over which a node stands.
+fn text_of<'a>(file: &File, node: &Node, text: &'a str) -> Result<&'a str, Fail> {
+    if node.first() >= node.last() || node.last() > file.count() {
+        return Err("a node has a token, and lies within the file".into());
+    }
+    let span = file.span(node);
+    Ok(
+        text.get(span.start as usize..span.end as usize)
+            .ok_or("a node lies within the text")?,
+    )
+}
+
+/// The tree of a file, written out.
+fn written(alloc: Global, text: &str) -> Result<String, Fail> {
+    let file = parsed(alloc, 0, text)?;
     Ok(format!(in alloc; "{:?}", file.root())?)
 }
 
@@ -495,6 +516,94 @@ fn writes_trees_out(rt: HostRuntime) -> Result<(), Fail> {
     ] {
         assert_eq!(rt; written(rt.alloc(), text)?.as_str(), tree);
     }
+    Ok(())
+}
+
+/// Each call on a file.
+#[test]
+fn reads_a_file(rt: HostRuntime) -> Result<(), Fail> {
+    let file = parsed(rt.alloc(), 3, "package p; func f()")?;
+    assert_eq!(rt; file.number(), 3);
+    assert_eq!(rt; file.count(), 8);
+    assert_eq!(rt; file.tokens().length(), 19);
+    assert_eq!(rt; file.root().kind(), Kind::File);
+    assert!(rt; file.imports().is_none());
+    assert_eq!(rt; file.declarations().len(), 1);
+    assert!(rt; file.declaration(1).is_none());
+    assert_eq!(rt; file.text(file.package_name()), b"p".as_slice());
+    assert_eq!(rt; file.text(4), b"f".as_slice());
+    assert_eq!(rt; file.text(7), b"".as_slice());
+    assert_eq!(rt; file.token_span(4).start, 16);
+    let node = file.declaration(0).ok_or("a function")?;
+    assert!(rt; file.leaf_text(node).is_none());
+    assert_eq!(rt; node.first(), 3);
+    assert_eq!(rt; node.last(), 7);
+    assert_eq!(rt; file.start(node), 11);
+    assert_eq!(rt; file.end(node), 19);
+    let span = file.span(node);
+    assert_eq!(rt; span.file, 3);
+    assert_eq!(rt; span.start, 11);
+    assert_eq!(rt; span.end, 19);
+    Ok(())
+}
+
+/// The text of a name is that of its token.
+#[test]
+fn reads_the_text_of_a_name(rt: HostRuntime) -> Result<(), Fail> {
+    let file = parsed(rt.alloc(), 0, "package p; type T int")?;
+    let body = file.declaration(0).ok_or("a declaration")?.part(0);
+    let name = body.ok_or("a specification")?.part(0).ok_or("a name")?;
+    assert_eq!(rt; file.leaf_text(name).ok_or("a text")?, b"int".as_slice());
+    Ok(())
+}
+
+/// Functions without a body have numbers, and other declarations have none.
+#[test]
+fn numbers_functions(rt: HostRuntime) -> Result<(), Fail> {
+    let text = "package p; import \"a\"; func f(x int) { }; var v int; func g() int; func h() { }";
+    let file = parsed(rt.alloc(), 0, text)?;
+    let functions = file.functions(rt.alloc())?;
+    assert_eq!(rt; functions.count(), 3);
+    for (number, wanted) in ["func f(x int) { }", "func g() int", "func h() { }"]
+        .iter()
+        .enumerate()
+    {
+        let node = functions.get(number).ok_or(*wanted)?;
+        assert_eq!(rt; text_of(&file, node, text)?, *wanted);
+    }
+    assert!(rt; functions.get(3).is_none());
+    Ok(())
+}
+
+/// Blocks and clauses, each in front of those within it.
+#[test]
+fn numbers_statement_lists(rt: HostRuntime) -> Result<(), Fail> {
+    let text =
+        "package p; func f(x int) { if x == 1 { a() } else if x == 2 { } else { for { b() } }; \
+        switch x { case 1, 2: c(); { d() }; default: e() }; { } }";
+    let file = parsed(rt.alloc(), 0, text)?;
+    let function = file.declaration(0).ok_or("a function")?;
+    let lists = StatementLists::of(rt.alloc(), function)?;
+    assert_eq!(rt; lists.count(), 9);
+    for (number, wanted) in [
+        "{ if x == 1 { a() } else if x == 2 { } else { for { b() } }; \
+            switch x { case 1, 2: c(); { d() }; default: e() }; { } }",
+        "{ a() }",
+        "{ }",
+        "{ for { b() } }",
+        "{ b() }",
+        "case 1, 2: c(); { d() };",
+        "{ d() }",
+        "default: e()",
+        "{ }",
+    ]
+    .iter()
+    .enumerate()
+    {
+        let node = lists.get(number).ok_or(*wanted)?;
+        assert_eq!(rt; text_of(&file, node, text)?, *wanted, "{number}");
+    }
+    assert!(rt; lists.get(9).is_none());
     Ok(())
 }
 

@@ -1,4 +1,6 @@
 pub mod Examples
+pub mod Heights
 pub mod Order
+pub mod Package
 pub mod Rows
 pub mod Tiles

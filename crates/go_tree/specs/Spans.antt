@@ -3,12 +3,22 @@ use Rattle.std.specs.Prelude.{ℕ, ◌-◌, Option, List, slice_get}
 use Rattle.std.specs.Option.{option_map}
 use Rattle.go_base.specs.declared.Span.{Span}
 use Rattle.go_tokens.specs.declared.token.Token.{Token}
-use Rattle.go_tokens.specs.Tokens.{span_of}
+use Rattle.go_tokens.specs.Tokens.{TokenList, span_of, text_of}
+use Rattle.go_grammar.specs.Reader.{◌>>=◌}
 use Rattle.go_grammar.specs.Trees.{Tree, first, last}
+use Rattle.go_tree.specs.Expressions.{leaf_of}
 
--- the bytes of the token of this number
+-- the place of the token of this number
 abbrev pub span_at : List Token → ℕ → Option Span
 span_at ts i = option_map span_of (slice_get ts i)
+
+-- the bytes of the token of this number
+abbrev pub token_text : TokenList → ℕ → Option (List ℕ)
+token_text l i = option_map (text_of l) (slice_get l.tokens i)
+
+-- the bytes of a name or a literal: those of its token
+abbrev pub leaf_text : TokenList → Tree → Option (List ℕ)
+leaf_text l t = leaf_of t >>= λ leaf. token_text l leaf.token
 
 -- The bytes of a node: from the first byte of its first token, up to behind the last byte of its last token.
 abbrev pub start_of : List Token → Tree → Option ℕ

@@ -1,7 +1,8 @@
 // Syntax trees of Go files.
 //
-// A tree is made of one type of node: a kind, a range of tokens, and parts. `File` holds the tokens of a file and the tree
-// that stands over all of them.
+// A tree is made of one type of node: a kind, a range of tokens, and parts. `File` holds the tokens of a file with its text,
+// and the tree that stands over all of them. `functions` and `statement_lists` number the functions of a file and the blocks
+// and clauses of a function.
 //
 // `declaration`, `statement`, `header` and `expression` have a small struct for each sort of node that names its parts. The
 // contract of each `of` is the exact value: what the definitions in specs/Declarations.antt, Statements.antt, Headers.antt and
@@ -13,9 +14,11 @@ mod agree;
 pub mod declaration;
 pub mod expression;
 pub mod file;
+pub mod functions;
 pub mod header;
 pub mod laws;
 pub mod node;
 pub mod statement;
+pub mod statement_lists;
 #[cfg(test)]
 mod tests;

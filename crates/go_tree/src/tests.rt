@@ -1,7 +1,6 @@
 // Trees built by hand, and each call on them.
 
-ghost use Rattle.std.specs.Prelude.{◌≡◌, ◌<◌, [], ◌∷◌, IfOk};
-ghost use Rattle.go_tokens.specs.Tokens.{kinds};
+ghost use Rattle.std.specs.Prelude.{◌≡◌, IfOk};
 ghost use Rattle.go_grammar.specs.Trees.{node, none, more, skip};
 ghost use Rattle.go_tree.specs.Views.{view};
 
@@ -12,50 +11,15 @@ use crate::declaration::{
 use crate::expression::{
     Binary, Bounds, Bracketed, Call, Composite, Keyed, Leaf, Parenthesized, Selector, Unary,
 };
-use crate::file::File;
 use crate::header::{Condition, ForClause, RangeClause, Tag};
 use crate::node::Node;
 use crate::statement::{
     Assignment, Block, Clause, Define, ExpressionStatement, For, If, OperatorAssignment, Return,
     StepStatement, Switch,
 };
-use go_base::Span;
 use go_grammar::kind::{Arithmetic, Kind, Operator, Sign, Sort, Step};
-use go_tokens::token::{Token, TokenKind};
 use std::alloc::{AllocError, Global};
 use std::test::Fail;
-
-/// The token of this number, one byte behind a blank.
-fn token(kind: TokenKind, number: u32) -> Token
-    requires { number < 100 }
-    ensures { result.kind ≡ kind }
-{
-    Token {
-        kind,
-        span: Span {
-            file: 3,
-            start: 2 * number,
-            end: 2 * number + 1,
-        },
-    }
-}
-
-/// `package p; func f();`
-fn tokens(alloc: Global) -> Result<Vec<Token>, AllocError>
-    ensures { IfOk result (λ ts. kinds ts.items ≡ TokenKind.Package ∷ TokenKind.Identifier ∷ TokenKind.Semicolon ∷ TokenKind.Func ∷ TokenKind.Identifier ∷ TokenKind.LeftParenthesis ∷ TokenKind.RightParenthesis ∷ TokenKind.Semicolon ∷ []) }
-{
-    let tokens = vec![in alloc;
-        token(TokenKind::Package, 0),
-        token(TokenKind::Identifier, 1),
-        token(TokenKind::Semicolon, 2),
-        token(TokenKind::Func, 3),
-        token(TokenKind::Identifier, 4),
-        token(TokenKind::LeftParenthesis, 5),
-        token(TokenKind::RightParenthesis, 6),
-        token(TokenKind::Semicolon, 7),
-    ]?;
-    Ok(tokens)
-}
 
 /// A node without parts.
 fn leaf(alloc: Global, kind: Kind, first: u32, last: u32) -> Node
@@ -64,7 +28,7 @@ fn leaf(alloc: Global, kind: Kind, first: u32, last: u32) -> Node
     Node::new(kind, first, last, Vec::new(alloc))
 }
 
-/// The signature `()` at the token 5.
+/// The signature `()` at the token 5 of `package p; func f();`.
 fn signature(alloc: Global) -> Result<Node, AllocError>
     ensures { IfOk result (λ n. view n ≡ node Kind.Signature 5 7 (more (node Kind.Parameters 5 7 none) (skip none))) }
 {
@@ -78,13 +42,6 @@ fn function(alloc: Global) -> Result<Node, AllocError>
 {
     let parts = vec![in alloc; Some(signature(alloc)?), None]?;
     Ok(Node::new(Kind::FunctionDeclaration, 3, 7, parts))
-}
-
-#[tactic(auto, using(crate::proofs::Examples::small_file))]
-fn file(alloc: Global) -> Result<File, AllocError> {
-    let parts = vec![in alloc; None, Some(function(alloc)?)]?;
-    let root = Node::new(Kind::File, 0, 8, parts);
-    Ok(File::new(tokens(alloc)?, root))
 }
 
 /// Where a part begins, if it is there.
@@ -105,29 +62,17 @@ fn three(alloc: Global, kind: Kind) -> Result<Node, AllocError> {
 }
 
 #[test]
-fn reads_a_file(rt: HostRuntime) -> Result<(), Fail> {
-    let file = file(rt.alloc())?;
-    assert_eq!(rt; file.root().kind(), Kind::File);
-    assert_eq!(rt; file.tokens().len(), 8);
-    assert!(rt; file.imports().is_none());
-    assert_eq!(rt; file.declarations().len(), 1);
-    let node = file.root().part(1).ok_or("a function")?;
+fn reads_a_function(rt: HostRuntime) -> Result<(), Fail> {
+    let node = function(rt.alloc())?;
     assert_eq!(rt; node.first(), 3);
     assert_eq!(rt; node.last(), 7);
-    assert_eq!(rt; file.start(node), 6);
-    assert_eq!(rt; file.end(node), 13);
-    let span = file.span(node);
-    assert_eq!(rt; span.file, 3);
-    assert_eq!(rt; span.start, 6);
-    assert_eq!(rt; span.end, 13);
-    assert_eq!(rt; file.token_span(4).start, 8);
-    let function = FunctionDeclaration::of(node).ok_or("a function")?;
+    let function = FunctionDeclaration::of(&node).ok_or("a function")?;
     assert_eq!(rt; function.name, 4);
     assert!(rt; function.body.is_none());
     let signature = Signature::of(function.signature).ok_or("a signature")?;
     assert_eq!(rt; signature.parameters.first(), 5);
     assert!(rt; signature.result.is_none());
-    assert!(rt; FunctionDeclaration::of(file.root()).is_none());
+    assert!(rt; FunctionDeclaration::of(function.signature).is_none());
     Ok(())
 }
 

@@ -1,4 +1,4 @@
-use Rattle.std.proofs.Common.{◌≡◌, suc, ◌≤◌, sym, ap, ◌∙◌, subst, refl}
+use Rattle.std.proofs.Common.{◌≡◌, suc, ◌≤◌, sym, ap, ◌∙◌, subst}
 use Rattle.std.specs.Prelude.{slice_get, if◌then◌else◌}
 use Rattle.go_tokens.specs.Tokens.{kinds}
 use Rattle.go_grammar.specs.declared.items.Turn.TheVariants.{Item}

@@ -1,5 +1,5 @@
 use Rattle.std.proofs.Common.{◌≡◌, None, length, sym, ◌∙◌, subst}
-use Rattle.go_tokens.specs.Tokens.{kinds}
+use Rattle.go_tokens.specs.Tokens.{IsTokenList, kinds}
 use Rattle.go_grammar.specs.declared.kind.Category.TheVariants as category
 use Rattle.go_grammar.specs.Reader.{read, Tends}
 use Rattle.go_grammar.specs.Grammar.{IsFile}
@@ -26,4 +26,7 @@ pub new-requires : goal.new-requires
 new-requires c =
     let ts0 = c.args.tokens.now.tokens in
     let all : last (view c.in-Ok.grown.node) ≡ length (kinds ts0) = sym c.last.ensures ∙ c.if-last-count.false ∙ c.count-count.ensures.count ∙ sym (length-kinds ts0) in
-    subst (λ xs. IsFile (kinds xs) (view c.in-Ok.grown.node)) (sym c.in-Ok-copied.ensures) (is_file (kinds ts0) (view c.in-Ok.grown.node) c.in-Ok.ensures.tends all)
+    record {
+      tree = subst (λ l. IsFile (kinds l.tokens) (view c.in-Ok.grown.node)) (sym c.in-Ok-copy.ensures) (is_file (kinds ts0) (view c.in-Ok.grown.node) c.in-Ok.ensures.tends all);
+      tokens = subst IsTokenList (sym c.in-Ok-copy.ensures) c.count-count.ensures.list;
+    }
