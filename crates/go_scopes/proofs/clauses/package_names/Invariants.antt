@@ -1,0 +1,10 @@
+use Rattle.std.proofs.Common.{◌≡◌, drop}
+use Rattle.std.specs.Option.{option_map}
+use Rattle.go_names.specs.Faults.{package_names, least_from}
+use Rattle.go_scopes.specs.Views.{failure_of, units_view}
+use Rattle.go_scopes.proofs.clauses.package_names.Given as goal
+
+abbrev pub invariant-loop-file : goal.invariant-loop-file
+invariant-loop-file l =
+    least_from (option_map failure_of l.found) (package_names l.name l.file (units_view (drop l.file l.units)))
+    ≡ least_from (option_map failure_of l.fn.found) (package_names l.name 0 (units_view l.units))

@@ -1,0 +1,21 @@
+use Rattle.std.proofs.Common.{◌≡◌, ◌+◌, ◌∙◌, ◌∷◌, [], length, drop, map, sym, ap}
+use Rattle.std.specs.Option.{option_map}
+use Rattle.go_base.specs.declared.fault.FaultCode.TheVariants as code
+use Rattle.go_names.specs.Faults.{needs_itself, cycles, fault_if, least_from}
+use Rattle.go_scopes.specs.Views.{place_of, failure_of, found_view, asked_view}
+use Rattle.go_scopes.proofs.Rounds.{drop_read, least_fault}
+use Rattle.go_scopes.proofs.cycles.cycles.Goals as goal
+
+pub loop-d-preserved : goal.loop-d-preserved
+loop-d-preserved c =
+    let asks = map asked_view c.args.lookups.now in
+    let k = length c.args.declared.now + length c.args.declared.now in
+    let xs = c.args.declared.now in
+    let i = c.loop-d.d-index in
+    let x = c.d-item.result in
+    let f = option_map failure_of c.loop-d.fault in
+    let rest = cycles asks k (map found_view (drop (i + 1) xs)) in
+    let here : drop i xs ≡ x ∷ drop (i + 1) xs = drop_read xs i x c.loop-d-test.true c.d-item.is in
+    let one : least_from f (cycles asks k (map found_view (drop i xs))) ≡ least_from (least_from f (fault_if (needs_itself asks k (found_view x)) code.Cycle (place_of x.place) [])) rest =
+    ap (λ ds. least_from f (cycles asks k (map found_view ds))) here ∙ least_fault f (needs_itself asks k (found_view x)) code.Cycle (place_of x.place) rest in
+    ap (λ g. least_from g rest) c.in_ok-fault.ensures ∙ sym one ∙ c.loop-d.invariant
