@@ -7,12 +7,14 @@
 
 mod arithmetic;
 mod lexing;
+mod names;
 mod parsing;
 mod tables;
 mod types;
 
 use arithmetic::Arithmetic;
 use lexing::Lexing;
+use names::Names;
 use parsing::Parsing;
 use tables::run;
 use types::TypeRelations;
@@ -21,5 +23,6 @@ fn main(rt: HostRuntime) -> anyhow::Result<()> {
     run(&rt, &Arithmetic)?;
     run(&rt, &Lexing)?;
     run(&rt, &Parsing)?;
-    run(&rt, &TypeRelations)
+    run(&rt, &TypeRelations)?;
+    run(&rt, &Names)
 }
