@@ -2,10 +2,10 @@
 use Rattle.std.proofs.Common.{◌≡◌, ℕ, ◌<◌, ◌≤◌, ◌⊎◌, inl, inr, Bool, true, false, ◌&&◌, if◌then◌else◌, nat_eq, List, [], ◌∷◌, ◌++◌, Option, Some, None, refl, sym, ap, ◌∙◌, subst, arith, append_assoc}
 use Rattle.std.proofs.lemmas.Bool.Decides.{nat_tests}
 use Rattle.go_tokens.specs.Spellings.{same_text}
-use Rattle.go_names.specs.declared.context.Scope.{Scope}
-use Rattle.go_names.specs.declared.object.Extent.{Extent}
-use Rattle.go_names.specs.declared.object.Extent.TheVariants as extent
-use Rattle.go_names.specs.Meanings.{Meaning, covers, lies_inside, covering, is_innermost, innermost_of, innermost, meaning_at}
+use Rattle.go_tree.specs.declared.context.Scope.{Scope}
+use Rattle.go_tree.specs.declared.object.Extent.{Extent}
+use Rattle.go_tree.specs.declared.object.Extent.TheVariants as extent
+use Rattle.go_tree.specs.Meanings.{Meaning, covers, lies_inside, covering, is_innermost, innermost_of, innermost, meaning_at}
 use Rattle.go_names.specs.Orders.{Nests}
 use Rattle.go_names.specs.Scopes.{is_local, is_import, is_package, locals_of, first_by, inner, over, inmost, otherwise, reached, scope_of, Each, AreNested}
 

@@ -16,7 +16,7 @@ use Rattle.go_grammar.specs.Categories.{within, place_of, tightness, is_type, is
 use Rattle.go_grammar.specs.Rules.{Items, Rule, End, Then, Maybe, Unless, Many, item}
 use Rattle.go_grammar.specs.Trees.{Tree, node, Trees, none, more, skip, kind_of, last}
 use Rattle.go_grammar.specs.Grammar.{rule, Derives, Spells, Goes}
-use Rattle.go_names.specs.Contexts.{opens}
+use Rattle.go_tree.specs.Contexts.{opens}
 
 -- what the parts of a node have to do with declarations
 pub data Layer : Type 0 where

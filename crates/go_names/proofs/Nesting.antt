@@ -7,19 +7,19 @@ use Rattle.go_grammar.specs.declared.kind.Sort.TheVariants as sort
 use Rattle.go_grammar.specs.Trees.{Tree, node, Trees, none, more, skip, kind_of, first, last}
 use Rattle.go_grammar.specs.Grammar.{is_name, ends_named}
 use Rattle.go_tree.specs.Views.{part_at}
-use Rattle.go_names.specs.declared.context.Block.{Block}
-use Rattle.go_names.specs.declared.context.Block.TheVariants as block
-use Rattle.go_names.specs.declared.context.Entity.{Entity}
-use Rattle.go_names.specs.declared.context.Entity.TheVariants as entity
-use Rattle.go_names.specs.declared.context.Scope.{Scope}
-use Rattle.go_names.specs.declared.context.Role.{Role}
-use Rattle.go_names.specs.declared.context.Role.TheVariants as role
-use Rattle.go_names.specs.declared.context.Context.{Context}
-use Rattle.go_names.specs.declared.event.Declaration.{Declaration}
-use Rattle.go_names.specs.declared.event.Event.{Event}
-use Rattle.go_names.specs.declared.event.Event.TheVariants as event
-use Rattle.go_names.specs.Contexts.{is_there, file_context, opens, end_in, enter, role_in, parameters_in, body_scope, called_in, if_name, if_first, entry_role}
-use Rattle.go_names.specs.Events.{statement_events, own_events, name_events, function_events, misplaced, is_default, default_events, second_defaults, is_more, pass, begin, events, events_of}
+use Rattle.go_tree.specs.declared.context.Block.{Block}
+use Rattle.go_tree.specs.declared.context.Block.TheVariants as block
+use Rattle.go_tree.specs.declared.context.Entity.{Entity}
+use Rattle.go_tree.specs.declared.context.Entity.TheVariants as entity
+use Rattle.go_tree.specs.declared.context.Scope.{Scope}
+use Rattle.go_tree.specs.declared.context.Role.{Role}
+use Rattle.go_tree.specs.declared.context.Role.TheVariants as role
+use Rattle.go_tree.specs.declared.context.Context.{Context}
+use Rattle.go_tree.specs.declared.event.Declaration.{Declaration}
+use Rattle.go_tree.specs.declared.event.Event.{Event}
+use Rattle.go_tree.specs.declared.event.Event.TheVariants as event
+use Rattle.go_tree.specs.Contexts.{is_there, file_context, opens, end_in, enter, role_in, parameters_in, body_scope, called_in, if_name, if_first, entry_role}
+use Rattle.go_tree.specs.Events.{statement_events, own_events, name_events, function_events, misplaced, is_default, default_events, second_defaults, is_more, pass, begin, events, events_of}
 use Rattle.go_names.specs.Orders.{EachDeclared, Nests, ScopesNest, BeginsAt, BeginsIn, IsFollowed}
 use Rattle.go_names.proofs.Rising.{behind_name, IsLaidOut, LieIn, laid_grows, lie_order}
 use Rattle.go_names.proofs.Layers.{Naming as NamingLayer, Function, Body, Holding, layer, IsPlain, ArePlain, IsLayered, AreLayered, layered_naming}

@@ -13,13 +13,13 @@ use Rattle.go_grammar.specs.Trees.{Tree, node, Trees, none, more, skip, kind_of,
 use Rattle.go_grammar.specs.Grammar.{rule, Derives, Spells, Goes, ends_named}
 use Rattle.go_grammar.proofs.Ranges.{words_order, gap_order, between_order, spells_order, goes_order, derives_grows}
 use Rattle.go_tree.specs.Views.{part_at}
-use Rattle.go_names.specs.declared.context.Role.{Role}
-use Rattle.go_names.specs.declared.context.Role.TheVariants as role
-use Rattle.go_names.specs.declared.context.Context.{Context}
-use Rattle.go_names.specs.declared.event.Event.{Event}
-use Rattle.go_names.specs.declared.event.Event.TheVariants as event
-use Rattle.go_names.specs.Contexts.{is_there, enter}
-use Rattle.go_names.specs.Events.{statement_events, own_events, name_events, function_events, misplaced, is_default, default_events, second_defaults, is_more, pass, begin, events, events_of}
+use Rattle.go_tree.specs.declared.context.Role.{Role}
+use Rattle.go_tree.specs.declared.context.Role.TheVariants as role
+use Rattle.go_tree.specs.declared.context.Context.{Context}
+use Rattle.go_tree.specs.declared.event.Event.{Event}
+use Rattle.go_tree.specs.declared.event.Event.TheVariants as event
+use Rattle.go_tree.specs.Contexts.{is_there, enter}
+use Rattle.go_tree.specs.Events.{statement_events, own_events, name_events, function_events, misplaced, is_default, default_events, second_defaults, is_more, pass, begin, events, events_of}
 use Rattle.go_names.specs.Orders.{AreInOrder}
 
 -- the token behind the words of a node that hold its name

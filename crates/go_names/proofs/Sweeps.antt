@@ -2,9 +2,9 @@
 use Rattle.std.proofs.Common.{◌≡◌, ℕ, ◌<◌, ◌≤◌, Bool, true, false, ◌&&◌, if◌then◌else◌, List, [], ◌∷◌, ◌++◌, Option, Some, None, refl, ap, ◌∙◌, arith}
 use Rattle.std.proofs.lemmas.Bool.Decides.{nat_tests}
 use Rattle.go_tokens.specs.Spellings.{same_text}
-use Rattle.go_names.specs.declared.object.Extent.{Extent}
-use Rattle.go_names.specs.declared.object.Extent.TheVariants as extent
-use Rattle.go_names.specs.Meanings.{Meaning, covers, lies_inside}
+use Rattle.go_tree.specs.declared.object.Extent.{Extent}
+use Rattle.go_tree.specs.declared.object.Extent.TheVariants as extent
+use Rattle.go_tree.specs.Meanings.{Meaning, covers, lies_inside}
 use Rattle.go_names.specs.Scopes.{is_local, locals_of, inner, over, inmost, scope_of, Each, token_of, AreSwept}
 use Rattle.go_names.proofs.Innermost.{inside_self}
 
@@ -45,7 +45,7 @@ pub inmost_later : (n t : ℕ) (w : List ℕ) (a : Option Meaning) (i : ℕ) (ms
 inmost_later n t w a i [] lt l h = refl
 inmost_later n t w a i (m ∷ ms) lt l h =
     ap (λ o. inmost n t w o ms) (over_later n t w a m l.0 (omega (arith, lt, h.0, h.1)))
-    ∙ inmost_later n t w a (token_of m.source) ms (omega (arith, lt, h.0)) l.1 h.2
+    ∙ inmost_later n t w a (token_of m.source) ms (omega (arith, lt, h.0)) l.1 h.3
 
 -- the last of a list, where it has ended
 pub inmost_ended : (n t : ℕ) (w : List ℕ) (a : Option Meaning) (ms : List Meaning) (m : Meaning) → is_local n m.extent ≡ true → (scope_of m.extent).to ≤ t → inmost n t w a (ms ++ m ∷ []) ≡ inmost n t w a ms

@@ -5,10 +5,10 @@ use Rattle.go_grammar.specs.Trees.{Tree, Trees, more}
 use Rattle.go_grammar.specs.Grammar.{ends_named}
 use Rattle.go_tree.specs.declared.node.Node.{Node}
 use Rattle.go_tree.specs.Views.{view, views}
-use Rattle.go_names.specs.declared.context.Context.{Context}
-use Rattle.go_names.specs.declared.event.Event.{Event}
-use Rattle.go_names.specs.Contexts.{enter}
-use Rattle.go_names.specs.Events.{pass, is_more, events, events_of}
+use Rattle.go_tree.specs.declared.context.Context.{Context}
+use Rattle.go_tree.specs.declared.event.Event.{Event}
+use Rattle.go_tree.specs.Contexts.{enter}
+use Rattle.go_tree.specs.Events.{pass, is_more, events, events_of}
 
 -- the parts that are left at one that is there
 pub views-at : (ps : List (Option Node)) (n : ℕ) (p : Node) → slice_get ps n ≡ Some (Some p) → views (drop n ps) ≡ more (view p) (views (drop (n + 1) ps))

@@ -1,13 +1,13 @@
 -- How names and scopes lie in what a tree has to do with names.
 use Rattle.std.specs.Prelude.{◌≡◌, ℕ, suc, ◌<◌, ◌≤◌, ◌⊎◌, List, [], ◌∷◌}
-use Rattle.go_names.specs.declared.context.Block.{Block}
-use Rattle.go_names.specs.declared.context.Block.TheVariants as block
-use Rattle.go_names.specs.declared.context.Entity.{Entity}
-use Rattle.go_names.specs.declared.context.Entity.TheVariants as entity
-use Rattle.go_names.specs.declared.context.Scope.{Scope}
-use Rattle.go_names.specs.declared.event.Declaration.{Declaration}
-use Rattle.go_names.specs.declared.event.Event.{Event}
-use Rattle.go_names.specs.declared.event.Event.TheVariants as event
+use Rattle.go_tree.specs.declared.context.Block.{Block}
+use Rattle.go_tree.specs.declared.context.Block.TheVariants as block
+use Rattle.go_tree.specs.declared.context.Entity.{Entity}
+use Rattle.go_tree.specs.declared.context.Entity.TheVariants as entity
+use Rattle.go_tree.specs.declared.context.Scope.{Scope}
+use Rattle.go_tree.specs.declared.event.Declaration.{Declaration}
+use Rattle.go_tree.specs.declared.event.Event.{Event}
+use Rattle.go_tree.specs.declared.event.Event.TheVariants as event
 
 -- The tokens of the names that are declared or looked up rise, from the token i on and before the token j.
 abbrev pub AreInOrder : ℕ → ℕ → List Event → Type 0

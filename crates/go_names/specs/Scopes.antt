@@ -1,12 +1,12 @@
 -- The meanings of a name in the blocks of a file, from the outer ones to the inner.
 use Rattle.std.specs.Prelude.{ℕ, ◌≤◌, Bool, true, false, ◌&&◌, if◌then◌else◌, nat_eq, List, [], ◌∷◌, Option, Some, None}
 use Rattle.go_tokens.specs.Spellings.{same_text}
-use Rattle.go_names.specs.declared.context.Scope.{Scope}
-use Rattle.go_names.specs.declared.object.Extent.{Extent}
-use Rattle.go_names.specs.declared.object.Extent.TheVariants as extent
-use Rattle.go_names.specs.declared.event.Event.{Event}
-use Rattle.go_names.specs.Meanings.{Found, Meaning, covers, lies_inside}
-use Rattle.go_names.specs.Meanings as names
+use Rattle.go_tree.specs.declared.context.Scope.{Scope}
+use Rattle.go_tree.specs.declared.object.Extent.{Extent}
+use Rattle.go_tree.specs.declared.object.Extent.TheVariants as extent
+use Rattle.go_tree.specs.declared.event.Event.{Event}
+use Rattle.go_tree.specs.Meanings.{Found, Meaning, covers, lies_inside}
+use Rattle.go_tree.specs.Meanings as names
 use Rattle.go_names.specs.Orders.{AreInOrder, EachDeclared, Nests, ScopesNest, IsFollowed}
 
 abbrev pub is_local : ℕ → Extent → Bool
@@ -71,10 +71,10 @@ abbrev pub token_of : Option Found → ℕ
 token_of None = 0
 token_of (Some d) = d.it.name
 
--- The names stand in order from the token i on, and the scope of each begins at the name or behind it.
+-- The names stand in order from the token i on, and the scope of each begins at the name or behind it and ends there or later.
 abbrev pub AreSwept : ℕ → List Meaning → Type 0
 AreSwept i [] = Unit
-AreSwept i (m ∷ ms) = (i ≤ token_of m.source) × (token_of m.source ≤ (scope_of m.extent).from) × AreSwept (token_of m.source) ms
+AreSwept i (m ∷ ms) = (i ≤ token_of m.source) × (token_of m.source ≤ (scope_of m.extent).from) × ((scope_of m.extent).from ≤ (scope_of m.extent).to) × AreSwept (token_of m.source) ms
 
 -- what the tree of a file tells
 pub record IsOrderly (es : List Event) : Type 0 where

@@ -4,10 +4,10 @@ ghost use Rattle.std.specs.Prelude.{◌≡◌, ℕ, List, None};
 ghost use Rattle.go_tokens.specs.declared.token.TokenKind.{TokenKind};
 ghost use Rattle.go_grammar.specs.Grammar.{IsFile};
 ghost use Rattle.go_grammar.specs.Trees.{Tree, last};
-ghost use Rattle.go_names.specs.Contexts.{file_context};
-ghost use Rattle.go_names.specs.Events.{events};
-ghost use Rattle.go_names.specs.Meanings.{Meaning, meanings, meaning_at};
-ghost use Rattle.go_names.specs.Meanings as names;
+ghost use Rattle.go_tree.specs.Contexts.{file_context};
+ghost use Rattle.go_tree.specs.Events.{events};
+ghost use Rattle.go_tree.specs.Meanings.{Meaning, meanings, meaning_at};
+ghost use Rattle.go_tree.specs.Meanings as names;
 ghost use Rattle.go_names.specs.Orders.{AreInOrder, EachDeclared, ScopesNest, IsFollowed};
 ghost use Rattle.go_names.specs.Scopes.{AreNested, AreSwept, IsOrderly, AreOrderly, locals_of, reached, inmost, first_by, is_import, is_package};
 

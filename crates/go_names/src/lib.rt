@@ -5,14 +5,10 @@
 // in specs/; the contract of `events` is the exact list.
 #![tactic(auto)]
 
-pub mod context;
 pub mod enter;
-pub mod event;
 pub mod laws;
-pub mod object;
 pub mod own;
 pub mod predeclared;
 #[cfg(test)]
 mod tests;
-pub mod uses;
 pub mod walk;

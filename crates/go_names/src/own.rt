@@ -3,13 +3,13 @@
 ghost use Rattle.std.specs.Prelude.{◌≡◌, ◌<◌, ◌++◌, ◌∷◌, [], OnOk, false};
 ghost use Rattle.go_grammar.specs.Trees.{kind_of, first, last, parts};
 ghost use Rattle.go_tree.specs.Views.{view, views, part_at};
-ghost use Rattle.go_names.specs.declared.event.Event.TheVariants as event;
-ghost use Rattle.go_names.specs.Contexts.{is_there};
-ghost use Rattle.go_names.specs.Events.{declared, used, parameter_declared, parameter_events, name_events, function_declared, function_events, declaration_events, type_declared, misplaced, is_default, default_events, second_defaults, own_events, statement_events};
+ghost use Rattle.go_tree.specs.declared.event.Event.TheVariants as event;
+ghost use Rattle.go_tree.specs.Contexts.{is_there};
+ghost use Rattle.go_tree.specs.Events.{declared, used, parameter_declared, parameter_events, name_events, function_declared, function_events, declaration_events, type_declared, misplaced, is_default, default_events, second_defaults, own_events, statement_events};
 
-use crate::context::{Block, Context, Entity, Manner, Naming, Role, Scope};
+use go_tree::context::{Block, Context, Entity, Manner, Naming, Role, Scope};
 use crate::enter::{has_part, scope_from};
-use crate::event::{Declaration, Event, Member, Use};
+use go_tree::event::{Declaration, Event, Member, Use};
 use go_grammar::kind::{Kind, Sort};
 use go_tree::node::Node;
 use std::alloc::AllocError;

@@ -2,10 +2,10 @@
 
 ghost use Rattle.std.specs.Prelude.{◌≡◌, map};
 ghost use Rattle.go_tokens.specs.Spellings.{same_text, listed};
-ghost use Rattle.go_names.specs.Predeclared.{known_names, unknown_names, known_in};
-ghost use Rattle.go_names.specs.Meanings.{predeclared_object};
+ghost use Rattle.go_tree.specs.Predeclared.{known_names, unknown_names, known_in};
+ghost use Rattle.go_tree.specs.Meanings.{predeclared_object};
 
-use crate::object::{Object, Predeclared};
+use go_tree::object::{Object, Predeclared};
 
 /// Those of the profile.
 const KNOWN: [(&[u8], Predeclared); 24] = [

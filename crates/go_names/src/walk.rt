@@ -4,12 +4,12 @@ ghost use Rattle.std.specs.Prelude.{◌≡◌, ◌++◌, OnOk, IfOk};
 ghost use Rattle.go_grammar.specs.Grammar.{ends_named};
 ghost use Rattle.go_grammar.specs.Trees.{kind_of, first, last, parts};
 ghost use Rattle.go_tree.specs.Views.{view, views};
-ghost use Rattle.go_names.specs.Contexts.{file_context};
-ghost use Rattle.go_names.specs.Events.{is_more, events, events_of};
+ghost use Rattle.go_tree.specs.Contexts.{file_context};
+ghost use Rattle.go_tree.specs.Events.{is_more, events, events_of};
 
-use crate::context::Context;
+use go_tree::context::Context;
 use crate::enter::{begin, ends_named, enter, file_context, pass};
-use crate::event::Event;
+use go_tree::event::Event;
 use crate::own::{push_own, push_statement};
 use go_tree::node::Node;
 use std::alloc::{AllocError, Global};

@@ -2,10 +2,12 @@
 use Rattle.std.proofs.Common.{◌≡◌, ℕ, suc, refl, Option, List, [], not}
 use Rattle.go_tokens.specs.Tokens.{TokenList}
 use Rattle.go_base.specs.declared.fault.FaultCode.TheVariants as code
-use Rattle.go_names.specs.declared.event.Event.{Event}
-use Rattle.go_names.specs.declared.event.Event.TheVariants as event
-use Rattle.go_names.specs.Meanings.{Found, word, bytes_at, is_fmt_path}
-use Rattle.go_names.specs.Faults.{Failure, is_outside, is_read_byte, clause_fault, least_from}
+use Rattle.go_tree.specs.declared.event.Event.{Event}
+use Rattle.go_tree.specs.declared.event.Event.TheVariants as event
+use Rattle.go_tree.specs.Meanings.{Found, word, bytes_at, is_fmt_path}
+use Rattle.go_tree.specs.Failures.{Failure, least_from}
+use Rattle.go_tree.specs.Clauses.{is_outside, is_read_byte}
+use Rattle.go_tree.specs.MISSING.{clause_fault}
 use Rattle.go_scopes.proofs.Least.{least_from-fault_if}
 
 pub least_from_clause_fault : (f : Option Failure) (ds : List Found) (n : ℕ) (ts : TokenList) (e : Event) (gs : List Failure) → least_from f (clause_fault ds n ts e gs) ≡ least_from (least_from f (clause_fault ds n ts e [])) gs

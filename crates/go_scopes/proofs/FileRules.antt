@@ -3,10 +3,14 @@ use Rattle.std.proofs.Common.{◌≡◌, ◌∙◌, ℕ, suc, ◌+◌, ◌<◌, 
 use Rattle.std.proofs.Math.Seq.{take-suc}
 use Rattle.go_tokens.specs.Tokens.{TokenList}
 use Rattle.go_base.specs.declared.fault.FaultCode.TheVariants as code
-use Rattle.go_names.specs.declared.event.Event.{Event}
-use Rattle.go_names.specs.declared.event.Event.TheVariants as event
-use Rattle.go_names.specs.Meanings.{Unit, word, bytes_at, bytes_of}
-use Rattle.go_names.specs.Faults.{Failure, Asked, second_imports, uses_import, is_duplicate, event_fault, event_faults, file_faults, least_from}
+use Rattle.go_tree.specs.declared.event.Event.{Event}
+use Rattle.go_tree.specs.declared.event.Event.TheVariants as event
+use Rattle.go_tree.specs.Meanings.{Unit, word, bytes_at, bytes_of}
+use Rattle.go_tree.specs.Failures.{Failure, least_from}
+use Rattle.go_tree.specs.Lookups.{Asked, uses_import}
+use Rattle.go_tree.specs.Redeclared.{second_imports}
+use Rattle.go_tree.specs.Duplicates.{is_duplicate}
+use Rattle.go_tree.specs.MISSING.{event_fault, event_faults, file_faults}
 use Rattle.go_scopes.proofs.Least.{least_from-append, least_from-fault, least_from-fault_if}
 
 pub least_from-file : (f0 f1 f2 : Option Failure) (asks : List Asked) (n : ℕ) (u : Unit) (all rest : List Unit) (b : Bool) → all ≡ u ∷ rest → b ≡ uses_import n asks → f1 ≡ least_from f0 (second_imports false n u.tokens u.events) → f2 ≡ least_from f1 (event_faults b n u.tokens [] u.events) → least_from f2 (file_faults asks (suc n) rest) ≡ least_from f0 (file_faults asks n all)

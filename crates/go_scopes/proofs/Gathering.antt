@@ -6,11 +6,11 @@ use Rattle.go_scopes.specs.Gathered.{Gathers}
 use Rattle.std.specs.Cmp.Lexicographic.{pointwise}
 use Rattle.go_tokens.specs.Tokens.{TokenList}
 use Rattle.go_tokens.specs.Spellings.{same_text}
-use Rattle.go_names.specs.declared.event.Member.{Member}
-use Rattle.go_names.specs.declared.event.Event.{Event}
-use Rattle.go_names.specs.declared.event.Event.TheVariants as event
-use Rattle.go_names.specs.Meanings.{word}
-use Rattle.go_names.specs.Faults.{same_member, has_member}
+use Rattle.go_tree.specs.declared.event.Member.{Member}
+use Rattle.go_tree.specs.declared.event.Event.{Event}
+use Rattle.go_tree.specs.declared.event.Event.TheVariants as event
+use Rattle.go_tree.specs.Meanings.{word}
+use Rattle.go_tree.specs.Duplicates.{same_member, has_member}
 
 pub same_text-pointwise : (a b : List ℕ) → pointwise nat_eq a b ≡ same_text b a
 same_text-pointwise [] [] = refl

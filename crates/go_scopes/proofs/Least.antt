@@ -1,8 +1,9 @@
 -- The least of the faults of several rules is that of one rule after another.
 use Rattle.std.proofs.Common.{◌≡◌, refl, Bool, true, false, Option, List, [], ◌∷◌, ◌++◌}
 use Rattle.go_base.specs.declared.fault.FaultCode.{FaultCode}
-use Rattle.go_names.specs.Meanings.{Place}
-use Rattle.go_names.specs.Faults.{Failure, earlier, fault, fault_if, least_from}
+use Rattle.go_tree.specs.Meanings.{Place}
+use Rattle.go_tree.specs.Failures.{Failure, earlier, fault, least_from}
+use Rattle.go_tree.specs.MISSING.{fault_if}
 
 pub least_from-append : (f : Option Failure) (a b : List Failure) → least_from f (a ++ b) ≡ least_from (least_from f a) b
 least_from-append f [] b = refl

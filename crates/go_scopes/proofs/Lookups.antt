@@ -1,15 +1,17 @@
 -- The faults of a name that is looked up come before other ones.
 use Rattle.std.proofs.Common.{◌≡◌, refl, Bool, true, false, Option, Some, None, List, [], ◌∷◌, codes, not, ◌&&◌, if◌then◌else◌, sym, ap, ◌∙◌}
 use Rattle.go_tokens.specs.Spellings.{same_text, listed}
-use Rattle.go_names.specs.declared.context.Role.{Role}
-use Rattle.go_names.specs.declared.context.Role.TheVariants as role
-use Rattle.go_names.specs.declared.object.Predeclared.TheVariants as predeclared
-use Rattle.go_names.specs.declared.object.Object.{Object}
-use Rattle.go_names.specs.declared.object.Object.TheVariants as object
+use Rattle.go_tree.specs.declared.context.Role.{Role}
+use Rattle.go_tree.specs.declared.context.Role.TheVariants as role
+use Rattle.go_tree.specs.declared.object.Predeclared.TheVariants as predeclared
+use Rattle.go_tree.specs.declared.object.Object.{Object}
+use Rattle.go_tree.specs.declared.object.Object.TheVariants as object
 use Rattle.go_base.specs.declared.fault.FaultCode.TheVariants as code
-use Rattle.go_names.specs.Predeclared.{unknown_names}
-use Rattle.go_names.specs.Faults.{Failure, Asked, import_fault, lookup_fault, is_initial, lookups, least_from, fault, fault_if}
-use Rattle.go_names.specs.Meanings.{object_by}
+use Rattle.go_tree.specs.Predeclared.{unknown_names}
+use Rattle.go_tree.specs.Failures.{Failure, least_from, fault}
+use Rattle.go_tree.specs.Lookups.{Asked, is_initial}
+use Rattle.go_tree.specs.MISSING.{import_fault, lookup_fault, lookups, fault_if}
+use Rattle.go_tree.specs.Meanings.{object_by}
 use Rattle.go_scopes.proofs.Least.{least_from-fault_if}
 
 of_two : (f : Option Failure) (b : Bool) (g h : Failure) (fs : List Failure) → least_from f (if b then g ∷ fs else h ∷ fs) ≡ least_from (least_from f (if b then g ∷ [] else h ∷ [])) fs

@@ -1,6 +1,6 @@
 -- The least fault of some rules, and of one more behind them.
 use Rattle.std.proofs.Common.{◌≡◌, ◌∙◌, ap, sym, Option, List, ◌++◌, None}
-use Rattle.go_names.specs.Faults.{Failure, least, least_from}
+use Rattle.go_tree.specs.Failures.{Failure, least, least_from}
 use Rattle.go_scopes.proofs.Least.{least_from-append}
 
 pub one_more : (rules rule : List Failure) (f g : Option Failure) → f ≡ least rules → g ≡ least_from f rule → g ≡ least (rules ++ rule)

@@ -2,8 +2,9 @@
 use Rattle.std.proofs.Common.{◌≡◌, ℕ, zero, suc, ◌+◌, ◌∙◌, List, [], ◌∷◌, ◌++◌, Some, length, drop, slice_get, ap, sym, arith}
 use Rattle.std.proofs.Math.Seq.{drop-append-add}
 use Rattle.go_base.specs.declared.fault.FaultCode.TheVariants as code
-use Rattle.go_names.specs.Meanings.{Place}
-use Rattle.go_names.specs.Faults.{fault, first_fault}
+use Rattle.go_tree.specs.Meanings.{Place}
+use Rattle.go_tree.specs.Failures.{fault}
+use Rattle.go_tree.specs.MISSING.{first_fault}
 
 pub first_behind : (a b : List Place) (n : ℕ) (s : Place) → slice_get a n ≡ Some s → first_fault (drop n (a ++ b)) ≡ fault code.Limit s ∷ []
 first_behind [] b n s h = cc

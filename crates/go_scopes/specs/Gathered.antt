@@ -6,10 +6,10 @@ use Rattle.std.specs.Borrow.{Bor}
 use Rattle.std.specs.Cmp.Lexicographic.{pointwise}
 use Rattle.go_tokens.specs.Tokens.{TokenList}
 use Rattle.go_tokens.specs.Spellings.{same_text}
-use Rattle.go_names.specs.declared.event.Member.{Member}
-use Rattle.go_names.specs.declared.event.Member.TheVariants as member
-use Rattle.go_names.specs.declared.event.Event.{Event}
-use Rattle.go_names.specs.Faults.{same_member, has_member}
+use Rattle.go_tree.specs.declared.event.Member.{Member}
+use Rattle.go_tree.specs.declared.event.Member.TheVariants as member
+use Rattle.go_tree.specs.declared.event.Event.{Event}
+use Rattle.go_tree.specs.Duplicates.{same_member, has_member}
 use Rattle.go_scopes.specs.declared.members.Members.{Members}
 
 -- whether two names, each with the number of its group, are the same

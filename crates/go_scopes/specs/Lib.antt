@@ -1,9 +1,4 @@
 pub mod Views
-pub mod Groups
-pub mod Tables
-pub mod Keys
-pub mod Needs
 pub mod Gathered
-pub mod Ranks
 pub mod Resolve
 pub mod Used

@@ -4,9 +4,9 @@ use Rattle.go_base.specs.declared.fault.Fault.{Fault}
 use Rattle.go_grammar.specs.Trees.{last}
 use Rattle.go_tree.specs.File.{FileTree}
 use Rattle.go_tree.specs.Views.{view}
-use Rattle.go_names.specs.Contexts.{file_context}
-use Rattle.go_names.specs.Events.{events}
-use Rattle.go_names.specs.Meanings.{Unit}
+use Rattle.go_tree.specs.Contexts.{file_context}
+use Rattle.go_tree.specs.Events.{events}
+use Rattle.go_tree.specs.Meanings.{Unit}
 use Rattle.go_scopes.specs.declared.error.ResolveError.{ResolveError}
 use Rattle.go_scopes.specs.declared.error.ResolveError.TheVariants as errors
 

@@ -2,9 +2,9 @@
 use Rattle.std.specs.Prelude.{ℕ, ◌≡◌, Bool, true, false, ◌&&◌, ◌||◌, not, nat_eq, List, Option, Some, None}
 use Rattle.std.specs.HashSet.{HashSet}
 use Rattle.std.specs.HashSet as set
-use Rattle.go_names.specs.Meanings.{Found, Meaning, object_by}
-use Rattle.go_names.specs.Faults.{Asked, is_assigned, means, is_used, is_import, uses_import}
-use Rattle.go_scopes.specs.Tables.{same_spot}
+use Rattle.go_tree.specs.Meanings.{Found, Meaning, object_by}
+use Rattle.go_tree.specs.Lookups.{Asked, is_assigned, means, is_used, is_import, uses_import}
+use Rattle.go_lookup.specs.Tables.{same_spot}
 
 abbrev pub source_spot : Option Found → Option (ℕ × ℕ)
 source_spot None = None

@@ -1,38 +1,7 @@
--- The packages, declarations and names of the definitions, as the program holds them.
-use Rattle.std.specs.Prelude.{List, map}
-use Rattle.std.specs.Option.{option_map}
-use Rattle.go_base.specs.declared.span.Span.{Span}
+-- The faults of the definitions, as the program holds them.
 use Rattle.go_base.specs.declared.fault.Fault.{Fault}
-use Rattle.go_names.specs.Meanings.{Place}
-use Rattle.go_names.specs.Meanings as names
-use Rattle.go_names.specs.Faults.{Failure}
-use Rattle.go_names.specs.Faults as rules
-use Rattle.go_scopes.specs.declared.unit.Unit.{Unit}
-use Rattle.go_scopes.specs.declared.found.Found.{Found}
-use Rattle.go_scopes.specs.declared.meaning.Meaning.{Meaning}
-use Rattle.go_scopes.specs.declared.lookup.Asked.{Asked}
-use Rattle.go_scopes.specs.declared.cycles.Needed.{Needed}
-
-abbrev pub unit_view : Unit → names.Unit
-unit_view u = record { tokens = u.tokens.now; events = u.events.items }
-
-abbrev pub units_view : List Unit → List names.Unit
-units_view us = map unit_view us
-
-abbrev pub place_of : Span → Place
-place_of s = record { file = s.file; start = s.start; end = s.end }
+use Rattle.go_tree.specs.Failures.{Failure}
+use Rattle.go_lookup.specs.Views.{place_of}
 
 abbrev pub failure_of : Fault → Failure
 failure_of f = record { code = f.code; place = place_of f.span }
-
-abbrev pub found_view : Found → names.Found
-found_view f = record { file = f.file; name = f.name.now; place = place_of f.place; it = f.declaration }
-
-abbrev pub meaning_view : Meaning → names.Meaning
-meaning_view m = record { name = m.name.now; extent = m.extent; object = m.object; source = option_map found_view m.source }
-
-abbrev pub asked_view : Asked → rules.Asked
-asked_view a = record { file = a.file; name = a.name.now; place = place_of a.place; whole = place_of a.whole; selected = a.selected.now; meaning = option_map meaning_view a.meaning; it = a.lookup }
-
-abbrev pub needed_view : Needed → rules.Needed
-needed_view x = record { it = found_view x.found; full = x.full }

@@ -2,9 +2,13 @@
 
 ghost use Rattle.std.specs.Prelude.{◌≡◌, ◌&&◌, IfOk, OnOk, List, false, not, map};
 ghost use Rattle.std.specs.Option.{option_map};
-ghost use Rattle.go_names.specs.Faults.{has_import, hidden_import, second_imports, is_counted, is_assigned, is_used, unused_variables, least_from};
-ghost use Rattle.go_names.specs.Faults as rules;
-ghost use Rattle.go_scopes.specs.Views.{failure_of, unit_view, units_view, found_view, asked_view};
+ghost use Rattle.go_tree.specs.Redeclared.{has_import, second_imports};
+ghost use Rattle.go_tree.specs.MISSING.{hidden_import};
+ghost use Rattle.go_tree.specs.Lookups.{is_counted, is_assigned, is_used, unused_variables};
+ghost use Rattle.go_tree.specs.Failures.{least_from};
+ghost use Rattle.go_tree.specs.Faults as rules;
+ghost use Rattle.go_lookup.specs.Views.{unit_view, units_view, found_view, asked_view};
+ghost use Rattle.go_scopes.specs.Views.{failure_of};
 ghost use Rattle.go_scopes.specs.Used.{used_spot, AddsUse, AreUsed};
 
 use crate::failure::note;
@@ -14,8 +18,8 @@ use crate::lookup::Asked;
 use crate::meaning::{Meaning, imports_fmt};
 use crate::unit::{Unit, bytes_at, is_fmt, is_fmt_path};
 use go_base::{Fault, FaultCode, Memory};
-use go_names::context::{Block, Entity, Role};
-use go_names::event::Event;
+use go_tree::context::{Block, Entity, Role};
+use go_tree::event::Event;
 use std::alloc::{AllocError, Global};
 use std::collections::HashSet;
 

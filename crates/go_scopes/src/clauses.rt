@@ -2,18 +2,21 @@
 
 ghost use Rattle.std.specs.Prelude.{◌≡◌, ◌≤◌, ◌+◌, ◌++◌, suc, IfOk, None, List, [], length, map, codes};
 ghost use Rattle.std.specs.Option.{option_map};
-ghost use Rattle.go_names.specs.Meanings.{bytes_at};
-ghost use Rattle.go_names.specs.Meanings as names;
-ghost use Rattle.go_names.specs.Faults.{package_names, first_name, declares, is_spelled, is_read_byte, is_outside, clause_fault, clause_faults_in, clause_faults_from, least_from};
-ghost use Rattle.go_scopes.specs.Views.{place_of, failure_of, unit_view, units_view, found_view};
+ghost use Rattle.go_tree.specs.Meanings.{bytes_at};
+ghost use Rattle.go_tree.specs.Meanings as names;
+ghost use Rattle.go_tree.specs.Clauses.{package_names, first_name, declares, is_spelled, is_read_byte, is_outside};
+ghost use Rattle.go_tree.specs.MISSING.{clause_fault, clause_faults_in, clause_faults_from};
+ghost use Rattle.go_tree.specs.Failures.{least_from};
+ghost use Rattle.go_lookup.specs.Views.{place_of, unit_view, units_view, found_view};
+ghost use Rattle.go_scopes.specs.Views.{failure_of};
 
 use crate::failure::note;
 use crate::found::Found;
 use crate::kinds::is_package;
 use crate::unit::{Unit, bytes_at, is_blank, is_fmt_path, same, word};
 use go_base::{Fault, FaultCode, Memory, Span};
-use go_names::context::{Block, Entity};
-use go_names::event::Event;
+use go_tree::context::{Block, Entity};
+use go_tree::event::Event;
 use go_tokens::tokens::Tokens;
 use std::alloc::Global;
 

@@ -2,8 +2,10 @@
 
 ghost use Rattle.std.specs.Prelude.{◌≡◌, []};
 ghost use Rattle.std.specs.Option.{option_map};
-ghost use Rattle.go_names.specs.Faults.{is_earlier, earlier, least_from, fault_if};
-ghost use Rattle.go_scopes.specs.Views.{place_of, failure_of};
+ghost use Rattle.go_tree.specs.Failures.{is_earlier, earlier, least_from};
+ghost use Rattle.go_tree.specs.MISSING.{fault_if};
+ghost use Rattle.go_lookup.specs.Views.{place_of};
+ghost use Rattle.go_scopes.specs.Views.{failure_of};
 
 use go_base::{Fault, FaultCode, Span};
 

@@ -2,12 +2,16 @@
 
 ghost use Rattle.std.specs.Prelude.{◌≡◌, ◌≤◌, ◌+◌, IfOk, IfErr, OnOk, Some, List, length, map, [], slice_get};
 ghost use Rattle.std.specs.Option.{option_map};
-ghost use Rattle.go_names.specs.Faults.{is_import, is_duplicate, event_fault, event_faults, file_faults, statements_in, statements_from, too_many, least_from};
+ghost use Rattle.go_tree.specs.Lookups.{is_import};
+ghost use Rattle.go_tree.specs.Duplicates.{is_duplicate};
+ghost use Rattle.go_tree.specs.MISSING.{event_fault, event_faults, file_faults, statements_in, statements_from, too_many};
+ghost use Rattle.go_tree.specs.Failures.{least_from};
 ghost use Rattle.go_tokens.specs.Tokens.{TokenList};
-ghost use Rattle.go_names.specs.declared.event.Event.{Event};
+ghost use Rattle.go_tree.specs.declared.event.Event.{Event};
 ghost use Rattle.go_scopes.specs.Gathered.{Gathers};
 ghost use Rattle.go_scopes.specs.Used.{AddsImport, UseImports};
-ghost use Rattle.go_scopes.specs.Views.{place_of, failure_of, unit_view, units_view, asked_view};
+ghost use Rattle.go_lookup.specs.Views.{place_of, unit_view, units_view, asked_view};
+ghost use Rattle.go_scopes.specs.Views.{failure_of};
 
 use crate::blocks::second_imports;
 use crate::failure::note;
@@ -16,8 +20,8 @@ use crate::meaning::object_by;
 use crate::members::Members;
 use crate::unit::{Unit, bytes_at, bytes_of, is_blank, word};
 use go_base::{Fault, FaultCode, Memory, Span};
-use go_names::event::{Event, Member};
-use go_names::object::Object;
+use go_tree::event::{Event, Member};
+use go_tree::object::Object;
 use go_tokens::tokens::Tokens;
 use std::alloc::{AllocError, Global};
 use std::collections::HashSet;

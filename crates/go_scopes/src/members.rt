@@ -2,12 +2,12 @@
 
 ghost use Rattle.std.specs.Prelude.{◌≡◌, ◌++◌, ◌∷◌, [], List, OnOk};
 ghost use Rattle.go_tokens.specs.Tokens.{TokenList};
-ghost use Rattle.go_names.specs.declared.event.Event.{Event};
-ghost use Rattle.go_names.specs.Faults.{has_member};
+ghost use Rattle.go_tree.specs.declared.event.Event.{Event};
+ghost use Rattle.go_tree.specs.Duplicates.{has_member};
 ghost use Rattle.go_scopes.specs.Gathered.{AddsName, AddsMember, Gathers};
 
 use crate::unit::word;
-use go_names::event::{Event, Member};
+use go_tree::event::{Event, Member};
 use go_tokens::tokens::Tokens;
 use std::alloc::{AllocError, Global};
 use std::collections::HashSet;

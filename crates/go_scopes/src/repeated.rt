@@ -2,16 +2,18 @@
 
 ghost use Rattle.std.specs.Prelude.{◌≡◌, ◌&&◌, not, nat_eq, [], List, IfOk, map};
 ghost use Rattle.std.specs.Option.{option_map};
-ghost use Rattle.go_names.specs.Meanings as meanings;
-ghost use Rattle.go_names.specs.Faults.{has_clash, redeclared, is_by_define, has_new, none_new, least_from};
-ghost use Rattle.go_scopes.specs.Views.{failure_of, found_view};
-ghost use Rattle.go_scopes.specs.Keys.{KnowsNames, KnowsStatements};
+ghost use Rattle.go_tree.specs.Meanings as meanings;
+ghost use Rattle.go_tree.specs.Redeclared.{has_clash, redeclared, is_by_define, has_new, none_new};
+ghost use Rattle.go_tree.specs.Failures.{least_from};
+ghost use Rattle.go_lookup.specs.Views.{found_view};
+ghost use Rattle.go_scopes.specs.Views.{failure_of};
+ghost use Rattle.go_lookup.specs.Keys.{KnowsNames, KnowsStatements};
 
 use crate::failure::note;
 use crate::found::Found;
 use crate::keys::{Key, Statement, add_name, add_statement, is_parameter, key_of, statement_of};
 use go_base::{Fault, FaultCode, Memory};
-use go_names::context::Manner;
+use go_tree::context::Manner;
 use indexmap::{IndexMap, IndexSet};
 use std::alloc::Global;
 
@@ -40,16 +42,6 @@ pub fn redeclared(
         add_name(&mut names, d)?;
     }
     Ok(found)
-}
-
-/// Whether the name stands before a `:=`.
-pub fn is_by_define(manner: Manner) -> bool
-    ensures { result ≡ is_by_define manner }
-{
-    match manner {
-        Manner::Declared => false,
-        Manner::Defined | Manner::Ranged => true,
-    }
 }
 
 /// The statements that declare some of the declarations by `:=`.

@@ -2,8 +2,8 @@
 
 use crate::error::ResolveError;
 use crate::resolve::resolve;
-use go_names::context::Entity;
-use go_names::object::{Declared, Object, Predeclared};
+use go_tree::context::Entity;
+use go_tree::object::{Declared, Object, Predeclared};
 use go_parse::parse;
 use go_tokens::lex::lex;
 use go_tree::file::File;

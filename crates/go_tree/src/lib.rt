@@ -11,14 +11,18 @@
 #![tactic(auto)]
 
 mod agree;
+pub mod context;
 pub mod declaration;
+pub mod event;
 pub mod expression;
 pub mod file;
 pub mod functions;
 pub mod header;
 pub mod laws;
 pub mod node;
+pub mod object;
 pub mod statement;
 pub mod statement_lists;
 #[cfg(test)]
 mod tests;
+pub mod uses;

@@ -1,8 +1,8 @@
 use Rattle.std.proofs.Common.{subst}
 use Rattle.go_grammar.specs.declared.kind.Category.TheVariants as category
 use Rattle.go_grammar.specs.Trees.{last}
-use Rattle.go_names.specs.Contexts.{file_context}
-use Rattle.go_names.specs.Events.{events}
+use Rattle.go_tree.specs.Contexts.{file_context}
+use Rattle.go_tree.specs.Events.{events}
 use Rattle.go_names.specs.Orders.{AreInOrder}
 use Rattle.go_names.proofs.Rising.{derives_laid, events_order}
 use Rattle.go_names.proofs.laws.names_are_in_order.Goals as goal

@@ -1,6 +1,6 @@
 use Rattle.std.proofs.Common.{◌≡◌, ◌++◌, false, drop}
 use Rattle.go_tree.specs.Views.{views}
-use Rattle.go_names.specs.Events.{second_defaults}
+use Rattle.go_tree.specs.Events.{second_defaults}
 use Rattle.go_names.proofs.own.push_second_defaults.Given as goal
 
 abbrev pub invariant-loop-place : goal.invariant-loop-place

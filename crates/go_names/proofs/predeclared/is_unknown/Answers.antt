@@ -1,6 +1,6 @@
 use Rattle.std.proofs.Common.{rules, arith}
 use Rattle.std.proofs.lemmas.Grind.{common_steps}
-use Rattle.go_names.specs.Predeclared.{unknown_names}
+use Rattle.go_tree.specs.Predeclared.{unknown_names}
 use Rattle.go_names.proofs.predeclared.is_unknown.Goals as goal
 
 pub returns : goal.returns

@@ -1,5 +1,5 @@
 use Rattle.std.proofs.Common.{◌≡◌, length, map}
-use Rattle.go_names.specs.Predeclared.{known_in}
+use Rattle.go_tree.specs.Predeclared.{known_in}
 use Rattle.go_names.proofs.predeclared.known_in.Given as goal
 
 abbrev pub invariant-loop-table : goal.invariant-loop-table

@@ -1,6 +1,6 @@
 use Rattle.std.proofs.Common.{rules, arith}
 use Rattle.std.proofs.lemmas.Grind.{common_steps}
-use Rattle.go_names.specs.Predeclared.{known_names}
+use Rattle.go_tree.specs.Predeclared.{known_names}
 use Rattle.go_names.proofs.predeclared.predeclared_object.Goals as goal
 
 pub returns-in-None : goal.returns-in-None

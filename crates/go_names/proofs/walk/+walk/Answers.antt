@@ -4,7 +4,7 @@ use Rattle.std.proofs.lemmas.List.{take_all, length-drop}
 use Rattle.go_grammar.specs.Grammar.{ends_named}
 use Rattle.go_grammar.specs.Trees.{kind_of, first, last, parts}
 use Rattle.go_tree.specs.Views.{view, views}
-use Rattle.go_names.specs.Events.{is_more}
+use Rattle.go_tree.specs.Events.{is_more}
 use Rattle.go_names.proofs.Heights.{height, heights, height-part, height-parts}
 use Rattle.go_names.proofs.Told.{views-at, told-more}
 use Rattle.go_names.proofs.walk.+walk.Goals as goal

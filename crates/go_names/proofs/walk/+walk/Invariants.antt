@@ -1,7 +1,7 @@
 use Rattle.std.proofs.Common.{◌≡◌, ◌++◌, ◌*◌, ◌+◌, drop}
 use Rattle.go_grammar.specs.Trees.{kind_of, first, last, parts}
 use Rattle.go_tree.specs.Views.{view, views}
-use Rattle.go_names.specs.Events.{events_of}
+use Rattle.go_tree.specs.Events.{events_of}
 use Rattle.go_names.proofs.Heights.{height}
 use Rattle.go_names.proofs.walk.+walk.Given as goal
 

@@ -1,6 +1,6 @@
 use Rattle.std.proofs.Common.{◌≡◌, drop}
 use Rattle.go_tree.specs.Views.{views}
-use Rattle.go_names.specs.Events.{is_more}
+use Rattle.go_tree.specs.Events.{is_more}
 use Rattle.go_names.proofs.walk.is_more.Given as goal
 
 abbrev pub invariant-loop-place : goal.invariant-loop-place

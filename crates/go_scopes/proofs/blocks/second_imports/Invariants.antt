@@ -1,6 +1,7 @@
 use Rattle.std.proofs.Common.{◌≡◌, drop, false}
 use Rattle.std.specs.Option.{option_map}
-use Rattle.go_names.specs.Faults.{second_imports, least_from}
+use Rattle.go_tree.specs.Redeclared.{second_imports}
+use Rattle.go_tree.specs.Failures.{least_from}
 use Rattle.go_scopes.specs.Views.{failure_of}
 use Rattle.go_scopes.proofs.blocks.second_imports.Given as goal
 

@@ -1,6 +1,6 @@
 use Rattle.std.proofs.Common.{arith, map}
 use Rattle.std.proofs.lemmas.Grind.{common_steps}
-use Rattle.go_scopes.specs.Views.{asked_view}
+use Rattle.go_lookup.specs.Views.{asked_view}
 use Rattle.go_scopes.proofs.Least.{least_from-fault_if}
 use Rattle.go_scopes.proofs.blocks.unused_variables.Goals as goal
 

@@ -1,7 +1,9 @@
 use Rattle.std.proofs.Common.{◌≡◌, drop, map}
 use Rattle.std.specs.Option.{option_map}
-use Rattle.go_names.specs.Faults.{unused_variables, least_from}
-use Rattle.go_scopes.specs.Views.{failure_of, found_view, asked_view}
+use Rattle.go_tree.specs.Lookups.{unused_variables}
+use Rattle.go_tree.specs.Failures.{least_from}
+use Rattle.go_lookup.specs.Views.{found_view, asked_view}
+use Rattle.go_scopes.specs.Views.{failure_of}
 use Rattle.go_scopes.proofs.blocks.unused_variables.Given as goal
 
 abbrev pub invariant-loop-d : goal.invariant-loop-d

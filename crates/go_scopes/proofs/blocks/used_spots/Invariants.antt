@@ -1,9 +1,9 @@
 use Rattle.std.proofs.Common.{◌≡◌, ◌||◌, drop, map}
 use Rattle.std.specs.HashSet as set
-use Rattle.go_names.specs.Meanings.{Found}
-use Rattle.go_names.specs.Faults.{is_used}
-use Rattle.go_scopes.specs.Tables.{same_spot}
-use Rattle.go_scopes.specs.Views.{asked_view}
+use Rattle.go_tree.specs.Meanings.{Found}
+use Rattle.go_tree.specs.Lookups.{is_used}
+use Rattle.go_lookup.specs.Tables.{same_spot}
+use Rattle.go_lookup.specs.Views.{asked_view}
 use Rattle.go_scopes.proofs.blocks.used_spots.Given as goal
 
 abbrev pub invariant-loop-a : goal.invariant-loop-a

@@ -1,6 +1,6 @@
 use Rattle.std.proofs.Common.{arith, map}
 use Rattle.std.proofs.lemmas.Grind.{common_steps}
-use Rattle.go_scopes.specs.Views.{found_view}
+use Rattle.go_lookup.specs.Views.{found_view}
 use Rattle.go_scopes.proofs.Least.{least_from-append}
 use Rattle.go_scopes.proofs.clauses.clause_faults.Goals as goal
 

@@ -1,7 +1,10 @@
 use Rattle.std.proofs.Common.{◌≡◌, ◌++◌, drop, map, None}
 use Rattle.std.specs.Option.{option_map}
-use Rattle.go_names.specs.Faults.{first_name, package_names, clause_faults_from, least_from}
-use Rattle.go_scopes.specs.Views.{failure_of, found_view, units_view}
+use Rattle.go_tree.specs.Clauses.{first_name, package_names}
+use Rattle.go_tree.specs.MISSING.{clause_faults_from}
+use Rattle.go_tree.specs.Failures.{least_from}
+use Rattle.go_lookup.specs.Views.{found_view, units_view}
+use Rattle.go_scopes.specs.Views.{failure_of}
 use Rattle.go_scopes.proofs.clauses.clause_faults.Given as goal
 
 abbrev pub invariant-loop-file : goal.invariant-loop-file

@@ -1,7 +1,9 @@
 use Rattle.std.proofs.Common.{◌≡◌, List, drop, codes}
 use Rattle.std.specs.Option.{option_map}
-use Rattle.go_names.specs.Meanings.{Found}
-use Rattle.go_names.specs.Faults.{declares, clause_faults_in, least_from}
+use Rattle.go_tree.specs.Meanings.{Found}
+use Rattle.go_tree.specs.Clauses.{declares}
+use Rattle.go_tree.specs.MISSING.{clause_faults_in}
+use Rattle.go_tree.specs.Failures.{least_from}
 use Rattle.go_scopes.specs.Views.{failure_of}
 use Rattle.go_scopes.proofs.clauses.clause_faults_in.Given as goal
 

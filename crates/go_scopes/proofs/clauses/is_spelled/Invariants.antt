@@ -1,5 +1,5 @@
 use Rattle.std.proofs.Common.{◌≡◌, ◌+◌, drop, map}
-use Rattle.go_names.specs.Faults.{is_spelled}
+use Rattle.go_tree.specs.Clauses.{is_spelled}
 use Rattle.go_scopes.proofs.clauses.is_spelled.Given as goal
 
 abbrev pub invariant-loop-text : goal.invariant-loop-text

@@ -1,7 +1,9 @@
 use Rattle.std.proofs.Common.{◌≡◌, drop}
 use Rattle.std.specs.Option.{option_map}
-use Rattle.go_names.specs.Faults.{package_names, least_from}
-use Rattle.go_scopes.specs.Views.{failure_of, units_view}
+use Rattle.go_tree.specs.Clauses.{package_names}
+use Rattle.go_tree.specs.Failures.{least_from}
+use Rattle.go_lookup.specs.Views.{units_view}
+use Rattle.go_scopes.specs.Views.{failure_of}
 use Rattle.go_scopes.proofs.clauses.package_names.Given as goal
 
 abbrev pub invariant-loop-file : goal.invariant-loop-file

@@ -1,10 +1,13 @@
 use Rattle.std.proofs.Common.{◌≡◌, ◌+◌, ◌∙◌, ◌∷◌, [], length, drop, map, sym, ap}
 use Rattle.std.specs.Option.{option_map}
 use Rattle.go_base.specs.declared.fault.FaultCode.TheVariants as code
-use Rattle.go_names.specs.Faults.{needs_itself, cycles, fault_if, least_from}
-use Rattle.go_scopes.specs.Views.{place_of, failure_of, found_view, asked_view}
-use Rattle.go_scopes.proofs.Rounds.{drop_read, least_fault}
-use Rattle.go_scopes.proofs.cycles.cycles.Goals as goal
+use Rattle.go_tree.specs.Needs.{needs_itself, cycles}
+use Rattle.go_tree.specs.MISSING.{fault_if}
+use Rattle.go_tree.specs.Failures.{least_from}
+use Rattle.go_lookup.specs.Views.{place_of, found_view, asked_view}
+use Rattle.go_scopes.specs.Views.{failure_of}
+use Rattle.go_cycles.proofs.Rounds.{drop_read, least_fault}
+use Rattle.go_cycles.proofs.cycles.cycles.Goals as goal
 
 pub loop-d-preserved : goal.loop-d-preserved
 loop-d-preserved c =

@@ -1,8 +1,10 @@
 use Rattle.std.proofs.Common.{◌≡◌, ◌+◌, length, map, drop}
 use Rattle.std.specs.Option.{option_map}
-use Rattle.go_names.specs.Faults.{cycles, least_from}
-use Rattle.go_scopes.specs.Views.{failure_of, found_view, asked_view}
-use Rattle.go_scopes.proofs.cycles.cycles.Given as goal
+use Rattle.go_tree.specs.Needs.{cycles}
+use Rattle.go_tree.specs.Failures.{least_from}
+use Rattle.go_lookup.specs.Views.{found_view, asked_view}
+use Rattle.go_scopes.specs.Views.{failure_of}
+use Rattle.go_cycles.proofs.cycles.cycles.Given as goal
 
 abbrev pub invariant-loop-d : goal.invariant-loop-d
 invariant-loop-d l =

@@ -1,6 +1,7 @@
 use Rattle.std.proofs.Common.{◌≡◌, [], take, drop}
 use Rattle.std.specs.Option.{option_map}
-use Rattle.go_names.specs.Faults.{event_faults, least_from}
+use Rattle.go_tree.specs.MISSING.{event_faults}
+use Rattle.go_tree.specs.Failures.{least_from}
 use Rattle.go_scopes.specs.Gathered.{Gathers}
 use Rattle.go_scopes.specs.Views.{failure_of}
 use Rattle.go_scopes.proofs.files.event_faults.Given as goal

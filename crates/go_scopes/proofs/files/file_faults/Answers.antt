@@ -1,7 +1,9 @@
 use Rattle.std.proofs.Common.{◌≡◌, ◌∷◌, ◌∙◌, suc, sym, ap, drop, drop-cons, add-one, map}
 use Rattle.std.specs.Option.{option_map}
-use Rattle.go_names.specs.Faults.{file_faults, least_from}
-use Rattle.go_scopes.specs.Views.{failure_of, unit_view, units_view, asked_view}
+use Rattle.go_tree.specs.MISSING.{file_faults}
+use Rattle.go_tree.specs.Failures.{least_from}
+use Rattle.go_lookup.specs.Views.{unit_view, units_view, asked_view}
+use Rattle.go_scopes.specs.Views.{failure_of}
 use Rattle.go_scopes.proofs.FileRules.{least_from-file}
 use Rattle.go_scopes.proofs.files.file_faults.Goals as goal
 

@@ -1,5 +1,5 @@
 use Rattle.std.proofs.Common.{◌≡◌, ◌+◌, drop, length, slice_get}
-use Rattle.go_names.specs.Faults.{statements_in}
+use Rattle.go_tree.specs.MISSING.{statements_in}
 use Rattle.go_scopes.proofs.files.nth_statement.Given as goal
 
 abbrev pub invariant-loop-event : goal.invariant-loop-event

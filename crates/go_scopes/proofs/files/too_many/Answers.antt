@@ -1,7 +1,9 @@
 use Rattle.std.proofs.Common.{◌≡◌, ◌+◌, ◌++◌, ◌∷◌, ◌∙◌, suc, sym, ap, drop, drop-cons, add-one}
 use Rattle.std.specs.Option.{option_map}
-use Rattle.go_names.specs.Faults.{statements_in, statements_from, least_from}
-use Rattle.go_scopes.specs.Views.{failure_of, place_of, units_view}
+use Rattle.go_tree.specs.MISSING.{statements_in, statements_from}
+use Rattle.go_tree.specs.Failures.{least_from}
+use Rattle.go_lookup.specs.Views.{place_of, units_view}
+use Rattle.go_scopes.specs.Views.{failure_of}
 use Rattle.go_scopes.proofs.Statements.{first_found, none_found}
 use Rattle.go_scopes.proofs.files.too_many.Goals as goal
 

@@ -1,6 +1,6 @@
 use Rattle.std.proofs.Common.{◌≡◌, drop}
-use Rattle.go_names.specs.Faults.{statements_from, first_fault}
-use Rattle.go_scopes.specs.Views.{units_view}
+use Rattle.go_tree.specs.MISSING.{statements_from, first_fault}
+use Rattle.go_lookup.specs.Views.{units_view}
 use Rattle.go_scopes.proofs.files.too_many.Given as goal
 
 abbrev pub invariant-loop-file : goal.invariant-loop-file

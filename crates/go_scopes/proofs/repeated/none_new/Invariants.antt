@@ -1,7 +1,9 @@
 use Rattle.std.proofs.Common.{◌≡◌, length, map}
 use Rattle.std.specs.Option.{option_map}
-use Rattle.go_names.specs.Faults.{none_new, least_from}
-use Rattle.go_scopes.specs.Views.{failure_of, found_view}
+use Rattle.go_tree.specs.Redeclared.{none_new}
+use Rattle.go_tree.specs.Failures.{least_from}
+use Rattle.go_lookup.specs.Views.{found_view}
+use Rattle.go_scopes.specs.Views.{failure_of}
 use Rattle.go_scopes.proofs.repeated.none_new.Given as goal
 
 abbrev pub invariant-loop-all : goal.invariant-loop-all

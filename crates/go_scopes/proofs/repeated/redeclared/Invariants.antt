@@ -1,8 +1,10 @@
 use Rattle.std.proofs.Common.{◌≡◌, take, drop, map, []}
 use Rattle.std.specs.Option.{option_map}
-use Rattle.go_names.specs.Faults.{redeclared, least_from}
-use Rattle.go_scopes.specs.Views.{failure_of, found_view}
-use Rattle.go_scopes.specs.Keys.{KnowsNames}
+use Rattle.go_tree.specs.Redeclared.{redeclared}
+use Rattle.go_tree.specs.Failures.{least_from}
+use Rattle.go_lookup.specs.Views.{found_view}
+use Rattle.go_scopes.specs.Views.{failure_of}
+use Rattle.go_lookup.specs.Keys.{KnowsNames}
 use Rattle.go_scopes.proofs.repeated.redeclared.Given as goal
 
 abbrev pub invariant-loop-d : goal.invariant-loop-d

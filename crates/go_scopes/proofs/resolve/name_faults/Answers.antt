@@ -1,10 +1,15 @@
 use Rattle.std.proofs.Common.{◌≡◌, ◌∙◌, ◌+◌, ◌++◌, ap, map, length, [], sym}
 use Rattle.std.proofs.lemmas.List.{length-map}
 use Rattle.std.specs.Option.{option_map}
-use Rattle.go_names.specs.Meanings.{found}
-use Rattle.go_names.specs.Faults.{asked_from, least, least_from, redeclared, has_import, hidden_import, none_new, lookups, unused_variables, file_faults, statements_from, too_many, cycles}
-use Rattle.go_scopes.specs.Views.{failure_of, units_view, found_view, asked_view}
-use Rattle.go_scopes.specs.Groups.{all_of}
+use Rattle.go_tree.specs.Meanings.{found}
+use Rattle.go_tree.specs.Lookups.{asked_from, unused_variables}
+use Rattle.go_tree.specs.Failures.{least, least_from}
+use Rattle.go_tree.specs.Redeclared.{redeclared, has_import, none_new}
+use Rattle.go_tree.specs.MISSING.{hidden_import, lookups, file_faults, statements_from, too_many}
+use Rattle.go_tree.specs.Needs.{cycles}
+use Rattle.go_lookup.specs.Views.{units_view, found_view, asked_view}
+use Rattle.go_scopes.specs.Views.{failure_of}
+use Rattle.go_lookup.specs.Groups.{all_of}
 use Rattle.go_scopes.proofs.NameRules.{one_more, rule_by}
 use Rattle.go_scopes.proofs.resolve.name_faults.Goals as goal
 

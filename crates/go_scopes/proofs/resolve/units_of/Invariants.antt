@@ -1,5 +1,5 @@
 use Rattle.std.proofs.Common.{◌≡◌, ◌++◌, drop}
-use Rattle.go_scopes.specs.Views.{units_view}
+use Rattle.go_lookup.specs.Views.{units_view}
 use Rattle.go_scopes.specs.Resolve.{units_of}
 use Rattle.go_scopes.proofs.resolve.units_of.Given as goal
 

@@ -1,6 +1,6 @@
 use Rattle.std.proofs.Common.{◌∙◌, sym, ap, ◌||◌, ◌&&◌, nat_eq}
 use Rattle.go_tokens.specs.Spellings.{same_text}
-use Rattle.go_names.specs.Faults.{same_member}
+use Rattle.go_tree.specs.Duplicates.{same_member}
 use Rattle.go_scopes.proofs.Gathering.{has_member-one, has_member-other}
 use Rattle.go_scopes.proofs.members.Members.add.Goals as goal
 

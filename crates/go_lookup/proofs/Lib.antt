@@ -1,0 +1,5 @@
+pub mod Ascii
+pub mod Cells
+pub mod Groups
+pub mod Named
+pub mod Tables

@@ -1,0 +1,4 @@
+pub mod Views
+pub mod Groups
+pub mod Tables
+pub mod Keys

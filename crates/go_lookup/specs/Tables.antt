@@ -1,0 +1,28 @@
+-- The objects of a file's tokens, as they come from its events one by one, from the last one on.
+use Rattle.std.specs.Prelude.{ℕ, ◌≡◌, Bool, ◌&&◌, if◌then◌else◌, nat_eq, List, [], ◌∷◌, Option, Some, None, set}
+use Rattle.std.specs.HashMap.{HashMap}
+use Rattle.std.specs.HashMap as hash
+use Rattle.go_tokens.specs.Tokens.{TokenList}
+use Rattle.go_tree.specs.declared.event.Event.{Event}
+use Rattle.go_tree.specs.declared.event.Event.TheVariants as event
+use Rattle.go_tree.specs.declared.object.Object.{Object}
+use Rattle.go_tree.specs.Meanings.{Meaning, word, is_declared_at, own_object, object_at}
+
+-- the object that is declared at a place, if one is
+abbrev pub declared_object : ℕ → ℕ → List Meaning → Option Object
+declared_object n t [] = None
+declared_object n t (m ∷ ms) = if is_declared_at n t m.source then Some m.object else declared_object n t ms
+
+-- whether two places, each the number of a file and that of a token, are the same
+abbrev pub same_spot : ℕ × ℕ → ℕ × ℕ → Bool
+same_spot a b = nat_eq a.0 b.0 && nat_eq a.1 b.1
+
+-- The table has the objects that are declared, by their places.
+abbrev pub Owns : {S : Type 0} → HashMap (ℕ × ℕ) Object S → List Meaning → Type 0
+Owns owners ms = (n t : ℕ) → hash.get same_spot owners (n, t) ≡ declared_object n t ms
+
+-- what one more event in front makes of the objects of the tokens
+abbrev pub over_event : List Meaning → ℕ → TokenList → Event → List (Option Object) → List (Option Object)
+over_event ms n ts (event.Use u) os = set os u.name (object_at ms n u.name (word ts u.name))
+over_event ms n ts (event.Declaration d) os = set os d.name (own_object n d.name (word ts d.name) ms ms)
+over_event ms n ts e os = os

@@ -1,0 +1,33 @@
+-- The packages, declarations and names of the definitions, as the program holds them.
+use Rattle.std.specs.Prelude.{List, map}
+use Rattle.std.specs.Option.{option_map}
+use Rattle.go_base.specs.declared.span.Span.{Span}
+use Rattle.go_tree.specs.Meanings.{Place}
+use Rattle.go_tree.specs.Meanings as names
+use Rattle.go_tree.specs.Lookups as rules
+use Rattle.go_lookup.specs.declared.unit.Unit.{Unit}
+use Rattle.go_lookup.specs.declared.found.Found.{Found}
+use Rattle.go_lookup.specs.declared.meaning.Meaning.{Meaning}
+use Rattle.go_lookup.specs.declared.meaning.Numbers.{Numbers}
+use Rattle.go_lookup.specs.declared.lookup.Asked.{Asked}
+
+abbrev pub unit_view : Unit → names.Unit
+unit_view u = record { tokens = u.tokens.now; events = u.events.items }
+
+abbrev pub units_view : List Unit → List names.Unit
+units_view us = map unit_view us
+
+abbrev pub place_of : Span → Place
+place_of s = record { file = s.file; start = s.start; end = s.end }
+
+abbrev pub found_view : Found → names.Found
+found_view f = record { file = f.file; name = f.name.now; place = place_of f.place; it = f.declaration }
+
+abbrev pub meaning_view : Meaning → names.Meaning
+meaning_view m = record { name = m.name.now; extent = m.extent; object = m.object; source = option_map found_view m.source }
+
+abbrev pub asked_view : Asked → rules.Asked
+asked_view a = record { file = a.file; name = a.name.now; place = place_of a.place; whole = place_of a.whole; selected = a.selected.now; meaning = option_map meaning_view a.meaning; it = a.lookup }
+
+abbrev pub numbers_view : Numbers → names.Numbers
+numbers_view k = record { shared = k.shared; functions = k.functions; local = k.local }

@@ -1,0 +1,81 @@
+// The objects of a package, and the locals of its functions.
+
+ghost use Rattle.std.specs.Prelude.{◌≡◌, IfOk, map};
+ghost use Rattle.go_tree.specs.Uses.{declared_by, declared_in_package, begins_function, own_locals, function_locals};
+ghost use Rattle.go_lookup.specs.Views.{found_view};
+
+use crate::found::Found;
+use go_tree::context::{Block, Entity};
+use go_tree::object::Declared;
+use std::alloc::{AllocError, Global};
+
+/// Where and as what it is declared.
+fn declared_by(d: &Found<'_>) -> Declared
+    ensures { result ≡ declared_by (found_view d.now) }
+{
+    Declared {
+        file: d.file,
+        name: d.declaration.name,
+        entity: d.declaration.entity,
+    }
+}
+
+/// The objects of the package, in order.
+pub fn declared_in_package(
+    alloc: Global,
+    declared: &[Found<'_>],
+) -> Result<Vec<Declared>, AllocError>
+    ensures { IfOk result (λ v. v.items ≡ declared_in_package (map found_view declared.now)) }
+{
+    let mut out = Vec::new(alloc);
+    for d in declared {
+        if let Block::Package = d.declaration.block {
+            out.push(declared_by(d))?;
+        }
+    }
+    Ok(out)
+}
+
+/// Whether it declares a function.
+fn begins_function(d: &Found<'_>) -> bool
+    ensures { result ≡ begins_function (found_view d.now) }
+{
+    match (d.declaration.block, d.declaration.entity) {
+        (Block::Package, Entity::Function) => true,
+        _ => false,
+    }
+}
+
+/// The locals in front of the next function, in order.
+fn own_locals(alloc: Global, declared: &[Found<'_>]) -> Result<Vec<Declared>, AllocError>
+    ensures { IfOk result (λ v. v.items ≡ own_locals (map found_view declared.now)) }
+{
+    let mut out = Vec::new(alloc);
+    for d in declared {
+        if begins_function(d) {
+            return Ok(out);
+        }
+        if let Block::Local(_) = d.declaration.block {
+            out.push(declared_by(d))?;
+        }
+    }
+    Ok(out)
+}
+
+/// The locals of each function.
+pub fn function_locals(
+    alloc: Global,
+    declared: &[Found<'_>],
+) -> Result<Vec<Vec<Declared>>, AllocError>
+    ensures { IfOk result (λ v. map (λ v. v.items) v.items ≡ function_locals (map found_view declared.now)) }
+{
+    let mut out = Vec::new(alloc);
+    let mut left = declared;
+    while let [d, rest @ ..] = left {
+        if begins_function(d) {
+            out.push(own_locals(alloc, rest)?)?;
+        }
+        left = rest;
+    }
+    Ok(out)
+}

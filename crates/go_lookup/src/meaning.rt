@@ -1,0 +1,254 @@
+// What names mean.
+
+ghost use Rattle.std.specs.Prelude.{◌≡◌, ◌≤◌, ◌<◌, ◌-◌, ◌^◌, ◌++◌, IfOk, OnOk, length, map};
+ghost use Rattle.std.specs.Option.{option_map};
+ghost use Rattle.go_tree.specs.Meanings.{covers, lies_inside, extent_of, first_numbers, own_number, is_function, behind_shared, numbers_behind, numbered, imports_fmt, imported_from, meanings, covering, is_innermost, innermost, predeclared_object, object_by, is_declared_at};
+ghost use Rattle.go_lookup.specs.Views.{unit_view, units_view, found_view, meaning_view, numbers_view};
+
+use crate::found::Found;
+use crate::unit::{Unit, is_fmt_path, same};
+use go_base::Memory;
+use go_tree::context::{Block, Entity};
+use go_tree::event::{Declaration, Event};
+use go_tree::object::{Extent, Object};
+use go_names::predeclared::predeclared_object;
+use std::alloc::{AllocError, Global};
+
+/// A name with a meaning.
+#[derive(Clone, Copy, Debug)]
+pub struct Meaning<'a> {
+    pub name: &'a [u8],
+    pub extent: Extent,
+    pub object: Object,
+    /// Its declaration, if it isn't imported.
+    pub source: Option<Found<'a>>,
+}
+
+/// Whether the extent has the token of the file.
+fn covers(extent: Extent, file: u32, token: u32) -> bool
+    ensures { result ≡ covers extent file token }
+{
+    match extent {
+        Extent::Everywhere => true,
+        Extent::Throughout(own) => own == file,
+        Extent::Between { file: own, scope } => {
+            own == file && scope.from <= token && token < scope.to
+        }
+    }
+}
+
+/// Whether the first extent lies inside the second.
+fn lies_inside(a: Extent, b: Extent) -> bool
+    ensures { result ≡ lies_inside a b }
+{
+    match (a, b) {
+        (_, Extent::Everywhere) => true,
+        (Extent::Throughout(m), Extent::Throughout(n)) => m == n,
+        (Extent::Between { file: m, .. }, Extent::Throughout(n)) => m == n,
+        (Extent::Between { file: m, scope: s }, Extent::Between { file: n, scope: r }) => {
+            m == n && r.from <= s.from && s.to <= r.to
+        }
+        (Extent::Everywhere, _) | (Extent::Throughout(_), Extent::Between { .. }) => false,
+    }
+}
+
+/// Where a declaration gives its name a meaning.
+fn extent_of(d: &Found<'_>) -> Extent
+    ensures { result ≡ extent_of (found_view d.now) }
+{
+    match d.declaration.block {
+        Block::Package => Extent::Everywhere,
+        Block::Local(_) => Extent::Between {
+            file: d.file,
+            scope: d.declaration.scope,
+        },
+    }
+}
+
+/// The numbers that come next: of the package's objects, of the functions, and of the locals of the present function.
+#[derive(Clone, Copy, Debug)]
+struct Numbers {
+    shared: usize,
+    functions: usize,
+    local: usize,
+}
+
+impl Numbers {
+    /// The object of a declaration in this block.
+    fn object(self, block: Block) -> Object
+        ensures { result ≡ own_number (numbers_view self) block }
+    {
+        match block {
+            Block::Package => Object::Package(self.shared),
+            Block::Local(_) => Object::Local {
+                function: self.functions.saturating_sub(1),
+                number: self.local,
+            },
+        }
+    }
+
+    /// The numbers behind an object of the package.
+    fn behind_shared(self, entity: Entity) -> Numbers
+        requires shared { self.shared < 2 ^ 64 - 1 }
+        requires functions { self.functions < 2 ^ 64 - 1 }
+        ensures { numbers_view result ≡ behind_shared (numbers_view self) (is_function entity) }
+    {
+        let shared = self.shared + 1;
+        match entity {
+            Entity::Function => Numbers {
+                shared,
+                functions: self.functions + 1,
+                local: 0,
+            },
+            Entity::Constant | Entity::Type | Entity::Variable | Entity::Parameter => {
+                Numbers { shared, ..self }
+            }
+        }
+    }
+
+    /// The numbers behind the declaration.
+    fn behind(self, d: &Declaration) -> Numbers
+        requires shared { self.shared < 2 ^ 64 - 1 }
+        requires functions { self.functions < 2 ^ 64 - 1 }
+        requires local { self.local < 2 ^ 64 - 1 }
+        ensures { numbers_view result ≡ numbers_behind (numbers_view self) d.now.entity d.now.block }
+    {
+        match d.block {
+            Block::Package => self.behind_shared(d.entity),
+            Block::Local(_) => Numbers {
+                local: self.local + 1,
+                ..self
+            },
+        }
+    }
+}
+
+/// What the declarations mean, behind other meanings.
+fn push_numbered<'a>(out: &mut Vec<Meaning<'a>>, all: &[Found<'a>]) -> Result<(), AllocError>
+    ensures { OnOk result (map meaning_view out.new.items ≡ map meaning_view out.old.items ++ numbered first_numbers (map found_view all.now)) }
+{
+    let mut numbers = Numbers {
+        shared: 0,
+        functions: 0,
+        local: 0,
+    };
+    for d in all {
+        out.push(Meaning {
+            name: d.name,
+            extent: extent_of(d),
+            object: numbers.object(d.declaration.block),
+            source: Some(*d),
+        })?;
+        numbers = numbers.behind(&d.declaration);
+    }
+    Ok(())
+}
+
+/// Whether the file imports `fmt`.
+pub fn imports_fmt(alloc: Global, unit: &Unit<'_>) -> Result<bool, Memory>
+    ensures { IfOk result (λ b. b ≡ imports_fmt (unit_view unit.now).tokens (unit_view unit.now).events) }
+{
+    for event in &unit.events {
+        if let Event::Import { path } = event {
+            if is_fmt_path(alloc, unit.tokens, *path)? {
+                return Ok(true);
+            }
+        }
+    }
+    Ok(false)
+}
+
+/// What the imports mean.
+fn imported<'a>(alloc: Global, units: &[Unit<'_>]) -> Result<Vec<Meaning<'a>>, Memory>
+    requires { length units.now ≤ 256 }
+    ensures { IfOk result (λ v. map meaning_view v.items ≡ imported_from 0 (units_view units.now)) }
+{
+    let mut out = Vec::new(alloc);
+    for (file, unit) in units.iter().enumerate() {
+        if imports_fmt(alloc, unit)? {
+            out.push(Meaning {
+                name: b"fmt",
+                extent: Extent::Throughout(file as u32),
+                object: Object::Import,
+                source: None,
+            })?;
+        }
+    }
+    Ok(out)
+}
+
+/// What the imports and the declarations of a package mean.
+pub fn meanings<'a>(
+    alloc: Global,
+    units: &[Unit<'_>],
+    declarations: &[Found<'a>],
+) -> Result<Vec<Meaning<'a>>, Memory>
+    requires { length units.now ≤ 256 }
+    ensures { IfOk result (λ v. map meaning_view v.items ≡ imported_from 0 (units_view units.now) ++ numbered first_numbers (map found_view declarations.now)) }
+{
+    let mut out = imported(alloc, units)?;
+    push_numbered(&mut out, declarations)?;
+    Ok(out)
+}
+
+/// The meanings of the name that cover the token of the file, behind others.
+pub fn push_covering<'a>(
+    out: &mut Vec<Meaning<'a>>,
+    all: &[Meaning<'a>],
+    file: u32,
+    token: u32,
+    name: &[u8],
+) -> Result<(), AllocError>
+    ensures { OnOk result (map meaning_view out.new.items ≡ map meaning_view out.old.items ++ covering file token name.now (map meaning_view all.now)) }
+{
+    for meaning in all {
+        if same(meaning.name, name) && covers(meaning.extent, file, token) {
+            out.push(*meaning)?;
+        }
+    }
+    Ok(())
+}
+
+/// Whether the extent lies inside those of all meanings.
+fn is_innermost(extent: Extent, among: &[Meaning<'_>]) -> bool
+    ensures { result ≡ is_innermost extent (map meaning_view among.now) }
+{
+    for other in among {
+        if !lies_inside(extent, other.extent) {
+            return false;
+        }
+    }
+    true
+}
+
+/// The first meaning whose extent lies inside all others.
+pub fn innermost<'a>(among: &[Meaning<'a>]) -> Option<Meaning<'a>>
+    ensures { option_map meaning_view result ≡ innermost (map meaning_view among.now) }
+{
+    for meaning in among {
+        if is_innermost(meaning.extent, among) {
+            return Some(*meaning);
+        }
+    }
+    None
+}
+
+/// What the name means with this declared meaning, or without one.
+pub fn object_by(name: &[u8], meaning: Option<Meaning<'_>>) -> Option<Object>
+    ensures { result ≡ object_by name.now (option_map meaning_view meaning.entry) }
+{
+    match meaning {
+        None => predeclared_object(name),
+        Some(meaning) => Some(meaning.object),
+    }
+}
+
+/// Whether the token of the file is where it is declared.
+pub fn is_declared_at(file: u32, token: u32, source: Option<Found<'_>>) -> bool
+    ensures { result ≡ is_declared_at file token (option_map found_view source.entry) }
+{
+    match source {
+        None => false,
+        Some(d) => d.file == file && d.declaration.name == token,
+    }
+}

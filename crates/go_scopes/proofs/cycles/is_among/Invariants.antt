@@ -1,7 +1,0 @@
-use Rattle.std.proofs.Common.{◌≡◌, map, drop}
-use Rattle.go_names.specs.Faults.{is_among}
-use Rattle.go_scopes.specs.Views.{found_view, needed_view}
-use Rattle.go_scopes.proofs.cycles.is_among.Given as goal
-
-abbrev pub invariant-loop-x : goal.invariant-loop-x
-invariant-loop-x l = is_among (found_view l.d) (map needed_view l.all) ≡ is_among (found_view l.d) (map needed_view (drop l.x-index l.all))

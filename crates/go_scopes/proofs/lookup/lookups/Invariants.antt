@@ -1,8 +1,0 @@
-use Rattle.std.proofs.Common.{◌≡◌, map, drop}
-use Rattle.std.specs.Option.{option_map}
-use Rattle.go_names.specs.Faults.{lookups, least_from}
-use Rattle.go_scopes.specs.Views.{failure_of, asked_view}
-use Rattle.go_scopes.proofs.lookup.lookups.Given as goal
-
-abbrev pub invariant-loop-a : goal.invariant-loop-a
-invariant-loop-a l = least_from (option_map failure_of l.found) (lookups (map asked_view (drop l.a-index l.all))) ≡ least_from (option_map failure_of l.fn.found) (lookups (map asked_view l.all))
