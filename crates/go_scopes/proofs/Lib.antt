@@ -1,8 +1,5 @@
-mod NameRules
-pub mod ClauseRules
-pub mod FileRules
 pub mod Gathering
 pub mod Least
-pub mod Lookups
+pub mod Seconds
 pub mod Statements
 pub mod UsedSpots

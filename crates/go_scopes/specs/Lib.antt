@@ -1,4 +1,4 @@
-pub mod Views
 pub mod Gathered
-pub mod Resolve
+pub mod Noted
 pub mod Used
+pub mod Views

@@ -3,7 +3,7 @@ use Rattle.std.specs.Prelude.{ℕ, ◌≡◌, Bool, true, false, ◌&&◌, ◌||
 use Rattle.std.specs.HashSet.{HashSet}
 use Rattle.std.specs.HashSet as set
 use Rattle.go_tree.specs.Meanings.{Found, Meaning, object_by}
-use Rattle.go_tree.specs.Lookups.{Asked, is_assigned, means, is_used, is_import, uses_import}
+use Rattle.go_tree.specs.Lookups.{Asked, object_asked, is_assigned, means, is_used, is_import, uses_import}
 use Rattle.go_lookup.specs.Tables.{same_spot}
 
 abbrev pub source_spot : Option Found → Option (ℕ × ℕ)
@@ -36,7 +36,7 @@ AreUsed places asks = (d : Found) → set.contains same_spot places (d.file, d.i
 
 -- Of the files, the second ones have also that whose import the name means.
 abbrev pub AddsImport : {S : Type 0} → HashSet ℕ S → HashSet ℕ S → Asked → Type 0
-AddsImport old new a = (n : ℕ) → set.contains nat_eq new n ≡ ((nat_eq a.file n && is_import (object_by a.name a.meaning)) || set.contains nat_eq old n)
+AddsImport old new a = (n : ℕ) → set.contains nat_eq new n ≡ ((nat_eq a.file n && is_import (object_asked a)) || set.contains nat_eq old n)
 
 -- The files are those that use their imports.
 abbrev pub UseImports : {S : Type 0} → HashSet ℕ S → List Asked → Type 0

@@ -2,9 +2,9 @@
 
 ghost use Rattle.std.specs.Prelude.{◌≡◌, []};
 ghost use Rattle.std.specs.Option.{option_map};
-ghost use Rattle.go_tree.specs.Failures.{is_earlier, earlier, least_from};
-ghost use Rattle.go_tree.specs.MISSING.{fault_if};
+ghost use Rattle.go_tree.specs.Failures.{is_earlier, earlier, place_if};
 ghost use Rattle.go_lookup.specs.Views.{place_of};
+ghost use Rattle.go_scopes.specs.Noted.{noted};
 ghost use Rattle.go_scopes.specs.Views.{failure_of};
 
 use go_base::{Fault, FaultCode, Span};
@@ -43,7 +43,7 @@ pub fn earlier(found: Option<Fault>, other: Fault) -> Option<Fault>
 
 /// The earlier of a fault that may be there and one that there is if the rule fails.
 pub fn note(found: Option<Fault>, fails: bool, code: FaultCode, span: Span) -> Option<Fault>
-    ensures { option_map failure_of result ≡ least_from (option_map failure_of found) (fault_if fails code (place_of span) []) }
+    ensures { option_map failure_of result ≡ noted (option_map failure_of found) code (place_if fails (place_of span) []) }
 {
     if fails {
         earlier(found, Fault { code, span })

@@ -1,28 +1,17 @@
 // The names of a package: what each means, or what is wrong with them.
 //
 // `resolve` answers what each identifier means exactly where no rule on clauses and names fails, else the fault that the
-// definitions in go_names report. Each rule is a function whose contract is its list of faults, as far as the least of them.
+// definitions in go_tree report. Each rule is a function that takes the least fault so far, and whose contract names the places
+// where the rule fails: it answers the least of that fault and those at these places.
 #![tactic(auto)]
 
-mod blocks;
-mod clauses;
-mod cycles;
-mod declared;
 pub mod error;
-mod failure;
-mod files;
-mod found;
-mod keys;
-mod kinds;
-mod lookup;
-mod meaning;
-mod meant;
-mod members;
-mod ranks;
-mod repeated;
-pub mod resolve;
-mod search;
-mod table;
-#[cfg(test)]
-mod tests;
-pub mod unit;
+pub mod failure;
+pub mod file_rule;
+pub mod branches;
+pub mod clauses;
+pub mod duplicates;
+pub mod members;
+pub mod redeclared;
+pub mod unused;
+pub mod lookups;

@@ -54,14 +54,16 @@ is_spelled ts i (w ∷ ws) = same_text (word ts i) w && is_spelled ts (suc i) ws
 abbrev pub read_byte : List (List ℕ)
 read_byte = codes "func" ∷ codes "readByte" ∷ codes "(" ∷ codes ")" ∷ codes "int" ∷ []
 
-abbrev pub is_read_byte : List Found → TokenList → ℕ → ℕ → Bool
-is_read_byte ds ts i j = nat_eq j (i + 5) && is_spelled ts i read_byte && not (declares (codes "int") ds)
+-- `hidden` says whether the package declares `int`
+abbrev pub is_read_byte : Bool → TokenList → ℕ → ℕ → Bool
+is_read_byte hidden ts i j = nat_eq j (i + 5) && is_spelled ts i read_byte && not hidden
 
--- the others; ds are the declarations of the package
-abbrev pub bodiless : List Found → ℕ → TokenList → List Event → List Place
-bodiless ds n ts [] = []
-bodiless ds n ts (event.Bodiless i j ∷ es) = place_if (not (is_read_byte ds ts i j)) (bytes_at n ts (suc i)) (bodiless ds n ts es)
-bodiless ds n ts (e ∷ es) = bodiless ds n ts es
+-- the others
+abbrev pub bodiless : Bool → ℕ → TokenList → List Event → List Place
+bodiless hidden n ts [] = []
+bodiless hidden n ts (event.Bodiless i j ∷ es) = place_if (not (is_read_byte hidden ts i j)) (bytes_at n ts (suc i)) (bodiless hidden n ts es)
+bodiless hidden n ts (e ∷ es) = bodiless hidden n ts es
 
+-- the argument ds has the declarations of the package
 abbrev pub missing_bodies : List Found → List Unit → List Place
-missing_bodies ds us = of_files (bodiless ds) 0 us
+missing_bodies ds us = of_files (bodiless (declares (codes "int") ds)) 0 us

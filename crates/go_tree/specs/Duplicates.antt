@@ -28,11 +28,15 @@ is_duplicate member.Field g w ts before = is_blank w || has_member member.Field 
 is_duplicate member.Key g w ts before = has_member member.Key g w ts before
 is_duplicate member.Parameter g w ts before = not (is_blank w) && has_member member.Parameter g w ts before
 
+-- the place of an event behind others, in front of other places
+abbrev pub member_place : List Event → ℕ → TokenList → Event → List Place → List Place
+member_place before n ts (event.Member m g x) ss = place_if (is_duplicate m g (word ts x) ts before) (bytes_at n ts x) ss
+member_place before n ts e ss = ss
+
 -- the argument `before` has the events in front
 abbrev pub second_members : List Event → ℕ → TokenList → List Event → List Place
 second_members before n ts [] = []
-second_members before n ts (event.Member m g x ∷ es) = place_if (is_duplicate m g (word ts x) ts before) (bytes_at n ts x) (second_members (before ++ event.Member m g x ∷ []) n ts es)
-second_members before n ts (e ∷ es) = second_members (before ++ e ∷ []) n ts es
+second_members before n ts (e ∷ es) = member_place before n ts e (second_members (before ++ e ∷ []) n ts es)
 
 -- A switch has one default at most.
 abbrev pub second_defaults : ℕ → TokenList → List Event → List Place

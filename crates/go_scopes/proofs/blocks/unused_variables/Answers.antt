@@ -1,8 +1,0 @@
-use Rattle.std.proofs.Common.{arith, map}
-use Rattle.std.proofs.lemmas.Grind.{common_steps}
-use Rattle.go_lookup.specs.Views.{asked_view}
-use Rattle.go_scopes.proofs.Least.{least_from-fault_if}
-use Rattle.go_scopes.proofs.blocks.unused_variables.Goals as goal
-
-pub loop-d-preserved : goal.loop-d-preserved
-loop-d-preserved c = grind (arith, common_steps, least_from-fault_if, c.is_unused.ensures (map asked_view c.args.lookups.now) c.in_ok-spots.ensures)

@@ -1,0 +1,22 @@
+use Rattle.std.proofs.Common.{◌∙◌, refl, take}
+use Rattle.std.specs.Option.{option_map}
+use Rattle.go_base.specs.declared.fault.FaultCode.TheVariants as code
+use Rattle.go_scopes.specs.Views.{failure_of}
+use Rattle.go_scopes.proofs.Gathering.{gathers-more}
+use Rattle.go_scopes.proofs.Seconds.{noted_second}
+use Rattle.go_scopes.proofs.duplicates.SecondMembersFileRule.note_in.Goals as goal
+
+pub loop-event-init : goal.loop-event-init
+loop-event-init c = record { rest = refl; before = c.new-members.ensures c.args.unit.now.tokens.now }
+
+pub loop-event-preserved : goal.loop-event-preserved
+loop-event-preserved c =
+    let ts = c.args.unit.now.tokens.now in
+    let es = c.args.unit.now.events.items in
+    let read = c.deref-event-items.result.now in
+    let i = c.loop-event.event-index in
+    let before = c.loop-event.invariant.before in
+    record {
+      rest = noted_second (option_map failure_of c.loop-event.found) (option_map failure_of c.note_member-found.result) code.Duplicate c.args.file ts i es read _ c.deref-event-items.ensures.value c.loop-event-test.true (c.note_member-found.ensures (take i es) before) ∙ c.loop-event.invariant.rest;
+      before = gathers-more c.add.new.self ts i es read _ c.deref-event-items.ensures.value c.loop-event-test.true (c.in_ok-add.ensures (take i es) before);
+    }

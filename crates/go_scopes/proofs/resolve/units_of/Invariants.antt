@@ -1,7 +1,0 @@
-use Rattle.std.proofs.Common.{◌≡◌, ◌++◌, drop}
-use Rattle.go_lookup.specs.Views.{units_view}
-use Rattle.go_scopes.specs.Resolve.{units_of}
-use Rattle.go_scopes.proofs.resolve.units_of.Given as goal
-
-abbrev pub invariant-loop-file : goal.invariant-loop-file
-invariant-loop-file l = units_view l.units.items ++ units_of (drop l.file-index l.files) ≡ units_of l.files
