@@ -1,2 +1,2 @@
 pub mod Ranked
-pub mod Rounds
+pub mod AllNeeded

@@ -14,7 +14,7 @@ use Rattle.go_cycles.specs.declared.ranks.Rank.{Rank}
 use Rattle.go_cycles.specs.declared.ranks.Part.{Part}
 use Rattle.go_cycles.specs.declared.ranks.Part.TheVariants as part
 use Rattle.go_cycles.specs.Ranks.{Place, same_part, same_place, bound_of, rank_of, part_of, own_part, is_within, HasRank, Grows, Covers, CoversAll, is_ranked, is_source_ranked, are_ranked, is_above}
-use Rattle.go_cycles.proofs.Rounds.{needs_some, needs_none}
+use Rattle.go_cycles.proofs.AllNeeded.{needs_some, needs_none}
 
 -- ---- bounds grow
 

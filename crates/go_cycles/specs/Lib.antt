@@ -1,3 +1,4 @@
 pub mod Needs
+pub mod Order
 pub mod Ranks
 pub mod Views

@@ -4,6 +4,8 @@
 // ranks, by which a declaration is seen not to need itself, and circles, by which one is seen to do so.
 #![tactic(auto)]
 
-pub mod cycles;
+pub mod needs;
+pub mod order;
 pub mod ranks;
+mod rounds;
 mod search;

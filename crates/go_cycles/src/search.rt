@@ -2,7 +2,7 @@
 //
 // Nothing rests on the ranks being right: what they show is tried against the names before it counts.
 
-use crate::cycles::source_of;
+use crate::needs::source_of;
 use go_lookup::found::Found;
 use go_lookup::lookup::Asked;
 use crate::ranks::{Part, Place, Rank, Ranks, full_part, partial_part};

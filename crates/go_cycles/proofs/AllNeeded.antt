@@ -2,12 +2,8 @@
 use Rattle.std.proofs.Common.{◌≡◌, ◌≤◌, ◌<◌, ◌+◌, ◌-◌, ◌∙◌, ℕ, zero, suc, Bool, true, false, List, [], ◌∷◌, ◌++◌, length, refl, ap, sym, arith, Option, Some, None, drop, get_or, add-one, ◌&&◌, ◌||◌, if◌then◌else◌, nat_eq, append-nil, append_assoc}
 use Rattle.std.proofs.Math.Seq.{drop-cons, drop-append_seam}
 use Rattle.std.proofs.lemmas.Grind.{common_steps}
-use Rattle.go_base.specs.declared.fault.FaultCode.{FaultCode}
-use Rattle.go_tree.specs.Meanings.{Place}
 use Rattle.go_tree.specs.Lookups.{Asked}
 use Rattle.go_tree.specs.Needs.{Needed, is_same, same_way, is_known, with_one, with_all, needs, needs_of, all_needed}
-use Rattle.go_tree.specs.Failures.{Failure, least_from}
-use Rattle.go_tree.specs.MISSING.{fault_if}
 use Rattle.go_cycles.specs.Needs.{needed_by}
 
 pub longer_one : (x : Needed) (xs : List Needed) → length xs ≤ length (with_one x xs)
@@ -41,9 +37,6 @@ needs_some a asks x y h = grind (arith, common_steps)
 pub needs_none : (a : Asked) (asks : List Asked) (x : Needed) → needed_by a x ≡ None → needs (a ∷ asks) x ≡ needs asks x
 needs_none a asks x h = grind (arith, common_steps)
 
-pub least_fault : (f : Option Failure) (b : Bool) (c : FaultCode) (p : Place) (gs : List Failure) → least_from f (fault_if b c p gs) ≡ least_from (least_from f (fault_if b c p [])) gs
-least_fault f true c p gs = refl
-least_fault f false c p gs = refl
 
 pub round_more : (asks : List Asked) (x : Needed) (xs zs : List Needed) → with_all (needs_of asks (x ∷ xs)) zs ≡ with_all (needs_of asks xs) (with_all (needs asks x) zs)
 round_more asks x xs zs = with_append (needs asks x) (needs_of asks xs) zs
