@@ -1,2 +1,3 @@
-pub mod Ranked
 pub mod AllNeeded
+pub mod Circled
+pub mod Ranked

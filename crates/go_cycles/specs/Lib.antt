@@ -1,3 +1,4 @@
+pub mod Circles
 pub mod Needs
 pub mod Order
 pub mod Ranks
