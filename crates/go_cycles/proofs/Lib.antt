@@ -1,2 +1,3 @@
+pub mod AllNeeded
+pub mod Circled
 pub mod Ranked
-pub mod Rounds

@@ -14,7 +14,7 @@ use Rattle.go_cycles.specs.declared.ranks.Rank.{Rank}
 use Rattle.go_cycles.specs.declared.ranks.Part.{Part}
 use Rattle.go_cycles.specs.declared.ranks.Part.TheVariants as part
 use Rattle.go_cycles.specs.Ranks.{Place, same_part, same_place, bound_of, rank_of, part_of, own_part, is_within, HasRank, Grows, Covers, CoversAll, is_ranked, is_source_ranked, are_ranked, is_above}
-use Rattle.go_cycles.proofs.Rounds.{needs_some, needs_none}
+use Rattle.go_cycles.proofs.AllNeeded.{needs_some, needs_none}
 
 -- ---- bounds grow
 
@@ -36,11 +36,11 @@ part_sound part.Partial (part.Value d) e = absurd (grind (arith, e))
 part_sound part.Partial part.Full e = absurd (grind (arith, e))
 part_sound part.Partial part.Partial e = refl
 
-both_left : (b c : Bool) → (b && c) ≡ true → b ≡ true
+pub both_left : (b c : Bool) → (b && c) ≡ true → b ≡ true
 both_left true c e = refl
 both_left false c e = e
 
-both_right : (b c : Bool) → (b && c) ≡ true → c ≡ true
+pub both_right : (b c : Bool) → (b && c) ≡ true → c ≡ true
 both_right true c e = e
 both_right false c e = absurd (grind (arith, e))
 
@@ -75,7 +75,7 @@ needed_way None s y e = absurd (grind (arith, e))
 needed_way (Some f) None y e = absurd (grind (arith, e))
 needed_way (Some f) (Some d) y e = grind (arith, e)
 
-needed_source_of : (w : Option Bool) (s : Option Found) (y : Needed) → needed_in w s ≡ Some y → s ≡ Some y.it
+pub needed_source_of : (w : Option Bool) (s : Option Found) (y : Needed) → needed_in w s ≡ Some y → s ≡ Some y.it
 needed_source_of None s y e = absurd (grind (arith, e))
 needed_source_of (Some f) None y e = absurd (grind (arith, e))
 needed_source_of (Some f) (Some d) y e = grind (arith, e)
@@ -110,7 +110,7 @@ within_third : (h : Bool) (x y z r : ℕ) → (not h || (nat_le x r && nat_le y 
 within_third true x y z r e s = grind (arith, e)
 within_third false x y z r e s = absurd (grind (arith, s))
 
-same_number : (x y : ℕ) → nat_eq x y ≡ true → x ≡ y
+pub same_number : (x y : ℕ) → nat_eq x y ≡ true → x ≡ y
 same_number x y e = grind (arith, e)
 
 -- what a declaration needs has no higher rank than the one that it is within
@@ -136,7 +136,7 @@ abbrev pub Each : (Needed → Type 0) → List Needed → Type 0
 Each P [] = Unit {0}
 Each P (x ∷ xs) = P x × Each P xs
 
-each_append : (P : Needed → Type 0) (xs ys : List Needed) → Each P xs → Each P ys → Each P (xs ++ ys)
+pub each_append : (P : Needed → Type 0) (xs ys : List Needed) → Each P xs → Each P ys → Each P (xs ++ ys)
 each_append P [] ys h k = k
 each_append P (x ∷ xs) ys h k = (h.0, each_append P xs ys h.1 k)
 
@@ -147,11 +147,11 @@ each_if P false xs ys h k = k
 each_one : (P : Needed → Type 0) (x : Needed) (xs : List Needed) → P x → Each P xs → Each P (with_one x xs)
 each_one P x xs p h = each_if P (is_known x xs) xs (xs ++ x ∷ []) h (each_append P xs (x ∷ []) h (p, tt))
 
-each_all : (P : Needed → Type 0) (ys xs : List Needed) → Each P ys → Each P xs → Each P (with_all ys xs)
+pub each_all : (P : Needed → Type 0) (ys xs : List Needed) → Each P ys → Each P xs → Each P (with_all ys xs)
 each_all P [] xs k h = h
 each_all P (y ∷ ys) xs k h = each_all P ys (with_one y xs) k.1 (each_one P y xs k.0 h)
 
-each_more : (P Q : Needed → Type 0) (xs : List Needed) → ((x : Needed) → P x → Q x) → Each P xs → Each Q xs
+pub each_more : (P Q : Needed → Type 0) (xs : List Needed) → ((x : Needed) → P x → Q x) → Each P xs → Each Q xs
 each_more P Q [] f h = tt
 each_more P Q (x ∷ xs) f h = (f x h.0, each_more P Q xs f h.1)
 
@@ -163,7 +163,7 @@ pub record IsLow {S T : Type 0} (m : HashMap Place ℕ S) (ranks : HashMap (ℕ 
 source_ranked : {S T : Type 0} (m : HashMap Place ℕ S) (ranks : HashMap (ℕ × ℕ) Rank T) (s : Option Found) (d : Found) → s ≡ Some d → is_source_ranked m ranks s ≡ true → is_ranked m ranks d ≡ true
 source_ranked m ranks s d e h = subst (λ o. is_source_ranked m ranks o ≡ true) e h
 
-needs_by : (P : Needed → Type 0) (a : Asked) (asks : List Asked) (x : Needed) (o : Option Needed) → needed_by a x ≡ o → ((y : Needed) → needed_by a x ≡ Some y → P y) → Each P (needs asks x) → Each P (needs (a ∷ asks) x)
+pub needs_by : (P : Needed → Type 0) (a : Asked) (asks : List Asked) (x : Needed) (o : Option Needed) → needed_by a x ≡ o → ((y : Needed) → needed_by a x ≡ Some y → P y) → Each P (needs asks x) → Each P (needs (a ∷ asks) x)
 needs_by P a asks x None e p h = subst (Each P) (sym (needs_none a asks x e)) h
 needs_by P a asks x (Some y) e p h = subst (Each P) (sym (needs_some a asks x y e)) (p y e, h)
 

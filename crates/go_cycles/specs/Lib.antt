@@ -1,3 +1,5 @@
+pub mod Circles
 pub mod Needs
+pub mod Order
 pub mod Ranks
 pub mod Views

@@ -3,7 +3,6 @@ use Rattle.std.specs.Prelude.{Bool, false, ◌&&◌, not, nat_eq, Option, Some, 
 use Rattle.go_tree.specs.Meanings.{Found, Meaning}
 use Rattle.go_tree.specs.Lookups.{Asked}
 use Rattle.go_tree.specs.Needs.{Needed, has_source, if_so, way}
-use Rattle.go_tree.specs.Failures.{Failure, is_earlier}
 
 -- the declaration that a meaning comes from
 abbrev pub source_of : Option Meaning → Option Found

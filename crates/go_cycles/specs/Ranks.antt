@@ -100,7 +100,3 @@ are_ranked m ranks (a ∷ asks) = is_source_ranked m ranks (source_of a.meaning)
 -- whether a declaration needs only ones of lower ranks than its own, in full and in part
 abbrev pub is_above : {S T : Type 0} → HashMap Place ℕ S → HashMap (ℕ × ℕ) Rank T → Found → Bool
 is_above m ranks d = nat_le 1 (rank_of ranks d.file d.it.name false) && nat_le (rank_of ranks d.file d.it.name false) (rank_of ranks d.file d.it.name true) && is_within m d false (rank_of ranks d.file d.it.name false - 1)
-
--- The bounds are those of the ranks, and it is known whether no name calls for a declaration of a higher rank.
-abbrev pub IsOrder : {S T : Type 0} → HashMap Place ℕ S → HashMap (ℕ × ℕ) Rank T → Bool → List Asked → Type 0
-IsOrder m ranks holds asks = CoversAll m ranks asks × (holds ≡ are_ranked m ranks asks)

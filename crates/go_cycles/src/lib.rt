@@ -4,6 +4,12 @@
 // ranks, by which a declaration is seen not to need itself, and circles, by which one is seen to do so.
 #![tactic(auto)]
 
-pub mod cycles;
+mod circle;
+mod columns;
+mod graph;
+pub mod needs;
+pub mod order;
 pub mod ranks;
+mod rounds;
 mod search;
+mod walk;

@@ -5,7 +5,7 @@ ghost use Rattle.std.specs.HashMap as hash;
 ghost use Rattle.go_cycles.specs.Ranks.{rank_of, bound_of, full_part, partial_part, is_within, HasRank, Grows, Covers, CoversAll, is_ranked, are_ranked, is_above};
 ghost use Rattle.go_lookup.specs.Views.{found_view, asked_view};
 
-use crate::cycles::source_of;
+use crate::needs::source_of;
 use go_lookup::found::Found;
 use go_lookup::lookup::Asked;
 use go_tree::context::{Reach, Site};

@@ -2,141 +2,11 @@
 //
 // Nothing rests on the ranks being right: what they show is tried against the names before it counts.
 
-use crate::cycles::source_of;
+use crate::graph::{Edge, Graph, node_of};
+use crate::ranks::{Rank, Ranks};
 use go_lookup::found::Found;
-use go_lookup::lookup::Asked;
-use crate::ranks::{Part, Place, Rank, Ranks, full_part, partial_part};
 use std::alloc::{AllocError, Global};
 use std::collections::HashMap;
-
-/// Declarations and parts of specifications as nodes, each with the nodes that it needs.
-#[derive(Drop)]
-struct Graph {
-    alloc: Global,
-    edges: Vec<Vec<usize>>,
-    /// The numbers of declarations, by their files and names.
-    declared: HashMap<(u32, u32), usize>,
-    /// The nodes of parts.
-    parts: HashMap<Place, usize>,
-}
-
-/// The node of a declaration that is needed in full or in part.
-fn node_of(number: usize, full: bool) -> usize {
-    number.saturating_mul(2).saturating_add(usize::from(full))
-}
-
-impl Graph {
-    fn new(alloc: Global) -> Graph {
-        Graph {
-            alloc,
-            edges: Vec::new(alloc),
-            declared: HashMap::new(alloc),
-            parts: HashMap::new(alloc),
-        }
-    }
-
-    /// A new node.
-    fn add_node(&mut self) -> Result<usize, AllocError> {
-        let node = self.edges.len();
-        self.edges.push(Vec::new(self.alloc))?;
-        Ok(node)
-    }
-
-    /// The one node needs the other one.
-    fn add_edge(&mut self, from: usize, to: usize) -> Result<(), AllocError> {
-        if from < self.edges.len() {
-            self.edges[from].push(to)?;
-        }
-        Ok(())
-    }
-
-    /// The nodes of the declarations.
-    fn add_declared(&mut self, declared: &[Found<'_>]) -> Result<(), AllocError> {
-        for (number, d) in declared.iter().enumerate() {
-            self.declared.insert((d.file, d.declaration.name), number)?;
-            self.add_node()?;
-            self.add_node()?;
-        }
-        Ok(())
-    }
-
-    /// The node of a part.
-    fn part(&mut self, place: Place) -> Result<usize, AllocError> {
-        if let Some(node) = self.parts.get(&place).copied() {
-            return Ok(node);
-        }
-        let node = self.add_node()?;
-        self.parts.insert(place, node)?;
-        Ok(node)
-    }
-
-    /// A part of a file needs a declaration, if it is a part.
-    fn add_need(
-        &mut self,
-        file: u32,
-        part: Option<(u32, Part)>,
-        to: usize,
-    ) -> Result<(), AllocError> {
-        if let Some((specification, part)) = part {
-            let from = self.part(((file, specification), part))?;
-            self.add_edge(from, to)?;
-        }
-        Ok(())
-    }
-
-    /// What a name calls for.
-    fn add_lookup(&mut self, a: &Asked<'_>) -> Result<(), AllocError> {
-        let Some(d) = source_of(a.meaning) else {
-            return Ok(());
-        };
-        let Some(number) = self.declared.get(&(d.file, d.declaration.name)).copied() else {
-            return Ok(());
-        };
-        let site = a.lookup.site;
-        self.add_need(a.file, full_part(site), node_of(number, true))?;
-        self.add_need(a.file, partial_part(site), node_of(number, false))
-    }
-
-    /// A declaration needs what stands in its parts.
-    fn add_parts(&mut self, number: usize, d: &Found<'_>, full: bool) -> Result<(), AllocError> {
-        let node = node_of(number, full);
-        let own = if full { Part::Full } else { Part::Partial };
-        for part in [Part::Always, Part::Value(d.declaration.column), own] {
-            let place = ((d.file, d.declaration.source), part);
-            if let Some(to) = self.parts.get(&place).copied() {
-                self.add_edge(node, to)?;
-            }
-        }
-        Ok(())
-    }
-
-    /// What a declaration needs. What is needed of it in part is needed of it in full too.
-    fn add_needs(&mut self, number: usize, d: &Found<'_>) -> Result<(), AllocError> {
-        self.add_edge(node_of(number, true), node_of(number, false))?;
-        if d.declaration.source != 0 {
-            self.add_parts(number, d, true)?;
-            self.add_parts(number, d, false)?;
-        }
-        Ok(())
-    }
-}
-
-/// The graph of what needs what.
-fn graph_of(
-    alloc: Global,
-    lookups: &[Asked<'_>],
-    declared: &[Found<'_>],
-) -> Result<Graph, AllocError> {
-    let mut graph = Graph::new(alloc);
-    graph.add_declared(declared)?;
-    for a in lookups {
-        graph.add_lookup(a)?;
-    }
-    for (number, d) in declared.iter().enumerate() {
-        graph.add_needs(number, d)?;
-    }
-    Ok(graph)
-}
 
 /// The number in a row, or 0 behind its end.
 fn at(row: &[usize], place: usize) -> usize {
@@ -152,8 +22,8 @@ fn put(row: &mut Vec<usize>, place: usize, number: usize) {
 
 /// A search for strongly connected components (Tarjan). Those that need no others come first.
 #[derive(Drop)]
-struct Search {
-    edges: Vec<Vec<usize>>,
+struct Search<'a> {
+    edges: &'a [Vec<Edge>],
     /// When each node was visited, from 1 on; 0 for one that wasn't.
     visits: Vec<usize>,
     /// The earliest visit of what is open and was seen from a node.
@@ -168,8 +38,8 @@ struct Search {
     closed: usize,
 }
 
-impl Search {
-    fn new(alloc: Global, edges: Vec<Vec<usize>>) -> Result<Search, AllocError> {
+impl<'a> Search<'a> {
+    fn new(alloc: Global, edges: &'a [Vec<Edge>]) -> Result<Search<'a>, AllocError> {
         let count = edges.len();
         Ok(Search {
             edges,
@@ -233,7 +103,7 @@ impl Search {
     }
 
     fn next_of(&self, node: usize, number: usize) -> Option<usize> {
-        self.edges.get(node)?.get(number).copied()
+        Some(self.edges.get(node)?.get(number)?.to)
     }
 
     /// Goes along one edge, or back; says whether there was a way to go.
@@ -267,7 +137,7 @@ impl Search {
 }
 
 /// As many steps as a search has: one for each node and each edge, and a last one.
-fn steps_of(edges: &[Vec<usize>]) -> usize {
+fn steps_of(edges: &[Vec<Edge>]) -> usize {
     let mut steps: usize = 1;
     for row in edges {
         steps = steps.saturating_add(1).saturating_add(row.len());
@@ -276,8 +146,8 @@ fn steps_of(edges: &[Vec<usize>]) -> usize {
 }
 
 /// The components of the nodes.
-fn components(alloc: Global, edges: Vec<Vec<usize>>) -> Result<Vec<usize>, AllocError> {
-    let steps = steps_of(&edges);
+fn components(alloc: Global, edges: &[Vec<Edge>]) -> Result<Vec<usize>, AllocError> {
+    let steps = steps_of(edges);
     let count = edges.len();
     let mut search = Search::new(alloc, edges)?;
     for node in 0..count {
@@ -289,11 +159,10 @@ fn components(alloc: Global, edges: Vec<Vec<usize>>) -> Result<Vec<usize>, Alloc
 /// Ranks by which no declaration needs one of a higher rank.
 pub fn ranks(
     alloc: Global,
-    lookups: &[Asked<'_>],
+    graph: &Graph,
     declared: &[Found<'_>],
 ) -> Result<Ranks, AllocError> {
-    let graph = graph_of(alloc, lookups, declared)?;
-    let components = components(alloc, graph.edges)?;
+    let components = components(alloc, &graph.edges)?;
     let mut ranks = HashMap::new(alloc);
     for (number, d) in declared.iter().enumerate() {
         ranks.insert(

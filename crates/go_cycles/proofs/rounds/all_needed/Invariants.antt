@@ -2,7 +2,7 @@ use Rattle.std.proofs.Common.{◌≡◌, ◌-◌, map}
 use Rattle.go_tree.specs.Needs.{needs_of, with_all, all_needed}
 use Rattle.go_lookup.specs.Views.{asked_view}
 use Rattle.go_cycles.specs.Views.{needed_view}
-use Rattle.go_cycles.proofs.cycles.all_needed.Given as goal
+use Rattle.go_cycles.proofs.rounds.all_needed.Given as goal
 
 -- The new ones need whatever the next round adds.
 abbrev pub invariant-loop-round : goal.invariant-loop-round

@@ -2,8 +2,8 @@ use Rattle.std.proofs.Common.{◌≡◌, ◌+◌, ◌∙◌, ◌∷◌, drop, ma
 use Rattle.go_tree.specs.Needs.{needs_of, with_all, needs}
 use Rattle.go_lookup.specs.Views.{asked_view}
 use Rattle.go_cycles.specs.Views.{needed_view}
-use Rattle.go_cycles.proofs.Rounds.{drop_read, round_more}
-use Rattle.go_cycles.proofs.cycles.push_round.Goals as goal
+use Rattle.go_cycles.proofs.AllNeeded.{drop_read, round_more}
+use Rattle.go_cycles.proofs.rounds.push_round.Goals as goal
 
 pub loop-x-preserved : goal.loop-x-preserved
 loop-x-preserved c =

@@ -4,8 +4,8 @@ use Rattle.std.proofs.lemmas.List.{drop-map}
 use Rattle.go_tree.specs.Needs.{needs_of, with_all}
 use Rattle.go_lookup.specs.Views.{asked_view}
 use Rattle.go_cycles.specs.Views.{needed_view}
-use Rattle.go_cycles.proofs.Rounds.{last_round, next_round, fresh_round}
-use Rattle.go_cycles.proofs.cycles.all_needed.Goals as goal
+use Rattle.go_cycles.proofs.AllNeeded.{last_round, next_round, fresh_round}
+use Rattle.go_cycles.proofs.rounds.all_needed.Goals as goal
 
 pub returns-then-len-end : goal.returns-then-len-end
 returns-then-len-end c =

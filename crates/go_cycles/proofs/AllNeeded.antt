@@ -2,12 +2,8 @@
 use Rattle.std.proofs.Common.{◌≡◌, ◌≤◌, ◌<◌, ◌+◌, ◌-◌, ◌∙◌, ℕ, zero, suc, Bool, true, false, List, [], ◌∷◌, ◌++◌, length, refl, ap, sym, arith, Option, Some, None, drop, get_or, add-one, ◌&&◌, ◌||◌, if◌then◌else◌, nat_eq, append-nil, append_assoc}
 use Rattle.std.proofs.Math.Seq.{drop-cons, drop-append_seam}
 use Rattle.std.proofs.lemmas.Grind.{common_steps}
-use Rattle.go_base.specs.declared.fault.FaultCode.{FaultCode}
-use Rattle.go_tree.specs.Meanings.{Place}
 use Rattle.go_tree.specs.Lookups.{Asked}
 use Rattle.go_tree.specs.Needs.{Needed, is_same, same_way, is_known, with_one, with_all, needs, needs_of, all_needed}
-use Rattle.go_tree.specs.Failures.{Failure, least_from}
-use Rattle.go_tree.specs.MISSING.{fault_if}
 use Rattle.go_cycles.specs.Needs.{needed_by}
 
 pub longer_one : (x : Needed) (xs : List Needed) → length xs ≤ length (with_one x xs)
@@ -41,9 +37,6 @@ needs_some a asks x y h = grind (arith, common_steps)
 pub needs_none : (a : Asked) (asks : List Asked) (x : Needed) → needed_by a x ≡ None → needs (a ∷ asks) x ≡ needs asks x
 needs_none a asks x h = grind (arith, common_steps)
 
-pub least_fault : (f : Option Failure) (b : Bool) (c : FaultCode) (p : Place) (gs : List Failure) → least_from f (fault_if b c p gs) ≡ least_from (least_from f (fault_if b c p [])) gs
-least_fault f true c p gs = refl
-least_fault f false c p gs = refl
 
 pub round_more : (asks : List Asked) (x : Needed) (xs zs : List Needed) → with_all (needs_of asks (x ∷ xs)) zs ≡ with_all (needs_of asks xs) (with_all (needs asks x) zs)
 round_more asks x xs zs = with_append (needs asks x) (needs_of asks xs) zs
@@ -66,15 +59,15 @@ next_round asks rounds round xs ys all low h e =
 
 -- ---- only what is new is looked at
 
-or_more : (b c e : Bool) → (b || c) ≡ true → (c ≡ true → e ≡ true) → (b || e) ≡ true
+pub or_more : (b c e : Bool) → (b || c) ≡ true → (c ≡ true → e ≡ true) → (b || e) ≡ true
 or_more true c e h f = refl
 or_more false c e h f = f h
 
-or_last : (b c : Bool) → c ≡ true → (b || c) ≡ true
+pub or_last : (b c : Bool) → c ≡ true → (b || c) ≡ true
 or_last true c h = refl
 or_last false c h = h
 
-both_true : (b c : Bool) → b ≡ true → c ≡ true → (b && c) ≡ true
+pub both_true : (b c : Bool) → b ≡ true → c ≡ true → (b && c) ≡ true
 both_true true c h k = k
 both_true false c h k = h
 
@@ -82,7 +75,7 @@ way_itself : (b : Bool) → same_way b b ≡ true
 way_itself true = refl
 way_itself false = refl
 
-known_append : (x : Needed) (xs ys : List Needed) → is_known x xs ≡ true → is_known x (xs ++ ys) ≡ true
+pub known_append : (x : Needed) (xs ys : List Needed) → is_known x xs ≡ true → is_known x (xs ++ ys) ≡ true
 known_append x [] ys h = absurd (grind (arith, h))
 known_append x (z ∷ zs) ys h = or_more (is_same x.it z.it && same_way x.full z.full) (is_known x zs) (is_known x (zs ++ ys)) h (known_append x zs ys)
 
@@ -93,11 +86,11 @@ known_if x false xs ys h k = k
 known_one : (x y : Needed) (xs : List Needed) → is_known x xs ≡ true → is_known x (with_one y xs) ≡ true
 known_one x y xs h = known_if x (is_known y xs) xs (xs ++ y ∷ []) h (known_append x xs (y ∷ []) h)
 
-known_all : (x : Needed) (ys xs : List Needed) → is_known x xs ≡ true → is_known x (with_all ys xs) ≡ true
+pub known_all : (x : Needed) (ys xs : List Needed) → is_known x xs ≡ true → is_known x (with_all ys xs) ≡ true
 known_all x [] xs h = h
 known_all x (y ∷ ys) xs h = known_all x ys (with_one y xs) (known_one x y xs h)
 
-itself : (x : Needed) → (is_same x.it x.it && same_way x.full x.full) ≡ true
+pub itself : (x : Needed) → (is_same x.it x.it && same_way x.full x.full) ≡ true
 itself x = both_true (nat_eq x.it.file x.it.file && nat_eq x.it.it.name x.it.it.name) (same_way x.full x.full) (grind arith) (way_itself x.full)
 
 known_last : (x : Needed) (xs : List Needed) → is_known x (xs ++ x ∷ []) ≡ true
@@ -115,7 +108,7 @@ abbrev pub AllKnown : List Needed → List Needed → Type 0
 AllKnown [] zs = Unit {0}
 AllKnown (y ∷ ys) zs = (is_known y zs ≡ true) × AllKnown ys zs
 
-each_known : (ys xs : List Needed) → AllKnown ys (with_all ys xs)
+pub each_known : (ys xs : List Needed) → AllKnown ys (with_all ys xs)
 each_known [] xs = tt
 each_known (y ∷ ys) xs = (known_all y ys (with_one y xs) (known_new y xs), each_known ys (with_one y xs))
 

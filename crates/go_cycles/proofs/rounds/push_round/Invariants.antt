@@ -2,7 +2,7 @@ use Rattle.std.proofs.Common.{◌≡◌, map, drop}
 use Rattle.go_tree.specs.Needs.{needs_of, with_all}
 use Rattle.go_lookup.specs.Views.{asked_view}
 use Rattle.go_cycles.specs.Views.{needed_view}
-use Rattle.go_cycles.proofs.cycles.push_round.Given as goal
+use Rattle.go_cycles.proofs.rounds.push_round.Given as goal
 
 abbrev pub invariant-loop-x : goal.invariant-loop-x
 invariant-loop-x l =

@@ -1,0 +1,60 @@
+// The columns of specifications whose types and values declarations have.
+
+ghost use Rattle.std.specs.Prelude.{◌≡◌, map};
+ghost use Rattle.go_lookup.specs.Views.{found_view, asked_view};
+ghost use Rattle.go_cycles.specs.Circles.{is_listed, are_listed};
+
+use crate::needs::source_of;
+use go_lookup::found::Found;
+use go_lookup::lookup::Asked;
+use std::alloc::{AllocError, Global};
+use std::collections::HashMap;
+
+/// The specification and the column whose type and value a declaration has.
+#[derive(Clone, Copy, Debug)]
+pub struct Column {
+    pub specification: u32,
+    pub number: usize,
+}
+
+/// The columns of declarations, by the numbers of their files and their names' tokens.
+pub type Columns = HashMap<(u32, u32), Column>;
+
+/// The columns of the declarations.
+pub fn columns_of(alloc: Global, declared: &[Found<'_>]) -> Result<Columns, AllocError> {
+    let mut columns = HashMap::new(alloc);
+    for d in declared {
+        let column = Column {
+            specification: d.declaration.source,
+            number: d.declaration.column,
+        };
+        columns.insert((d.file, d.declaration.name), column)?;
+    }
+    Ok(columns)
+}
+
+/// Whether this is the column of the declaration.
+fn is_listed(columns: &Columns, d: &Found<'_>) -> bool
+    ensures { result ≡ is_listed columns.now (found_view d.now) }
+{
+    match columns.get(&(d.file, d.declaration.name)) {
+        None => false,
+        Some(column) => {
+            column.specification == d.declaration.source && column.number == d.declaration.column
+        }
+    }
+}
+
+/// Whether all declarations that the names call for have their columns, so that no two of one name differ in them.
+pub fn are_listed(columns: &Columns, lookups: &[Asked<'_>]) -> bool
+    ensures { result ≡ are_listed columns.now (map asked_view lookups.now) }
+{
+    for a in lookups {
+        if let Some(d) = source_of(a.meaning) {
+            if !is_listed(columns, &d) {
+                return false;
+            }
+        }
+    }
+    true
+}

@@ -1,0 +1,162 @@
+// What needs what, as a graph.
+//
+// It is for searches only: what they find is tried against the names before it counts.
+
+use crate::needs::source_of;
+use crate::ranks::{Part, Place, full_part, partial_part};
+use go_lookup::found::Found;
+use go_lookup::lookup::Asked;
+use std::alloc::{AllocError, Global};
+use std::collections::HashMap;
+
+/// Why the one node needs the other one.
+#[derive(Clone, Copy, Debug)]
+pub enum Reason {
+    /// It is a part of the declaration.
+    Part,
+    /// The name of this number stands in the part.
+    Name(usize),
+    /// What is needed of a declaration in part is needed of it in full too.
+    Weaker,
+}
+
+/// A node that is needed.
+#[derive(Clone, Copy, Debug)]
+pub struct Edge {
+    pub to: usize,
+    pub reason: Reason,
+}
+
+/// Declarations and parts of specifications as nodes, each with the nodes that it needs.
+#[derive(Drop)]
+pub struct Graph {
+    pub edges: Vec<Vec<Edge>>,
+    /// The numbers of declarations, by their files and names.
+    pub declared: HashMap<(u32, u32), usize>,
+    /// The nodes of parts.
+    parts: HashMap<Place, usize>,
+    alloc: Global,
+}
+
+/// The node of a declaration that is needed in full or in part.
+pub fn node_of(number: usize, full: bool) -> usize {
+    number.saturating_mul(2).saturating_add(usize::from(full))
+}
+
+impl Graph {
+    fn new(alloc: Global) -> Graph {
+        Graph {
+            edges: Vec::new(alloc),
+            declared: HashMap::new(alloc),
+            parts: HashMap::new(alloc),
+            alloc,
+        }
+    }
+
+    /// A new node.
+    fn add_node(&mut self) -> Result<usize, AllocError> {
+        let node = self.edges.len();
+        self.edges.push(Vec::new(self.alloc))?;
+        Ok(node)
+    }
+
+    /// The one node needs the other one.
+    fn add_edge(&mut self, from: usize, to: usize, reason: Reason) -> Result<(), AllocError> {
+        if from < self.edges.len() {
+            self.edges[from].push(Edge { to, reason })?;
+        }
+        Ok(())
+    }
+
+    /// The nodes of the declarations.
+    fn add_declared(&mut self, declared: &[Found<'_>]) -> Result<(), AllocError> {
+        for (number, d) in declared.iter().enumerate() {
+            self.declared.insert((d.file, d.declaration.name), number)?;
+            self.add_node()?;
+            self.add_node()?;
+        }
+        Ok(())
+    }
+
+    /// The node of a part.
+    fn part(&mut self, place: Place) -> Result<usize, AllocError> {
+        if let Some(node) = self.parts.get(&place).copied() {
+            return Ok(node);
+        }
+        let node = self.add_node()?;
+        self.parts.insert(place, node)?;
+        Ok(node)
+    }
+
+    /// The name of this number stands in a part of a file, if it does, and calls for a declaration.
+    fn add_need(
+        &mut self,
+        file: u32,
+        part: Option<(u32, Part)>,
+        name: usize,
+        to: usize,
+    ) -> Result<(), AllocError> {
+        if let Some((specification, part)) = part {
+            let from = self.part(((file, specification), part))?;
+            self.add_edge(from, to, Reason::Name(name))?;
+        }
+        Ok(())
+    }
+
+    /// What the name of this number calls for.
+    fn add_lookup(&mut self, name: usize, a: &Asked<'_>) -> Result<(), AllocError> {
+        let Some(d) = source_of(a.meaning) else {
+            return Ok(());
+        };
+        let Some(number) = self.declared.get(&(d.file, d.declaration.name)).copied() else {
+            return Ok(());
+        };
+        let site = a.lookup.site;
+        self.add_need(a.file, full_part(site), name, node_of(number, true))?;
+        self.add_need(a.file, partial_part(site), name, node_of(number, false))
+    }
+
+    /// A declaration needs what stands in its parts.
+    fn add_parts(&mut self, number: usize, d: &Found<'_>, full: bool) -> Result<(), AllocError> {
+        let node = node_of(number, full);
+        let own = if full { Part::Full } else { Part::Partial };
+        for part in [Part::Always, Part::Value(d.declaration.column), own] {
+            let place = ((d.file, d.declaration.source), part);
+            if let Some(to) = self.parts.get(&place).copied() {
+                self.add_edge(node, to, Reason::Part)?;
+            }
+        }
+        Ok(())
+    }
+
+    /// What a declaration needs.
+    fn add_needs(&mut self, number: usize, d: &Found<'_>) -> Result<(), AllocError> {
+        self.add_edge(
+            node_of(number, true),
+            node_of(number, false),
+            Reason::Weaker,
+        )?;
+        if d.declaration.source != 0 {
+            self.add_parts(number, d, true)?;
+            self.add_parts(number, d, false)?;
+        }
+        Ok(())
+    }
+}
+
+/// The graph of what needs what.
+pub fn graph_of(
+    alloc: Global,
+    lookups: &[Asked<'_>],
+    declared: &[Found<'_>],
+) -> Result<Graph, AllocError> {
+    let mut graph = Graph::new(alloc);
+    graph.add_declared(declared)?;
+    for (name, a) in lookups.iter().enumerate() {
+        graph.add_lookup(name, a)?;
+    }
+    for (number, d) in declared.iter().enumerate() {
+        graph.add_needs(number, d)?;
+    }
+    Ok(graph)
+}

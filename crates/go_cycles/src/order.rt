@@ -1,0 +1,81 @@
+// The order of the declarations of a package by what needs what.
+
+ghost use Rattle.std.specs.Prelude.{◌≡◌, IfOk, map};
+ghost use Rattle.go_tree.specs.Needs.{needs_itself};
+ghost use Rattle.go_lookup.specs.Views.{found_view, asked_view};
+ghost use Rattle.go_cycles.specs.Order.{IsOrder};
+
+use crate::circle::circle;
+use crate::columns::{Columns, are_listed, columns_of};
+use crate::graph::{Graph, graph_of};
+use crate::ranks::{Bounds, Ranks, are_ranked, bounds, is_above};
+use crate::rounds::needs_itself;
+use crate::search::ranks;
+use crate::walk::is_circle;
+use go_lookup::found::Found;
+use go_lookup::lookup::Asked;
+use std::alloc::{AllocError, Global};
+
+/// What needs what in a package, with what shows whether a declaration needs itself.
+#[derive(Drop)]
+pub struct Order {
+    ranks: Ranks,
+    bounds: Bounds,
+    /// Whether no name calls for a declaration that needs one of a higher rank.
+    holds: bool,
+    columns: Columns,
+    /// Whether all declarations that the names call for have their columns.
+    listed: bool,
+    graph: Graph,
+}
+
+/// The order of the declarations by what needs what.
+pub fn order_of(
+    alloc: Global,
+    lookups: &[Asked<'_>],
+    declared: &[Found<'_>],
+) -> Result<Order, AllocError>
+    ensures { IfOk result (λ o. IsOrder o (map asked_view lookups.now)) }
+{
+    let graph = graph_of(alloc, lookups, declared)?;
+    let ranks = ranks(alloc, &graph, declared)?;
+    let bounds = bounds(alloc, lookups, &ranks)?;
+    let holds = are_ranked(&bounds, &ranks, lookups);
+    let columns = columns_of(alloc, declared)?;
+    let listed = are_listed(&columns, lookups);
+    Ok(Order {
+        ranks,
+        bounds,
+        holds,
+        columns,
+        listed,
+        graph,
+    })
+}
+
+impl Order {
+    /// Whether a declaration needs itself, by way of at most `rounds` others (Go specification: Type declarations, Package
+    /// initialization).
+    ///
+    /// It doesn't where it needs only ones of lower ranks, and does where there is a circle. The rounds of the definition decide
+    /// what is left, which is nothing if the searches are right.
+    pub fn needs_itself<'a>(
+        &self,
+        alloc: Global,
+        lookups: &[Asked<'a>],
+        rounds: usize,
+        d: &Found<'a>,
+    ) -> Result<bool, AllocError>
+        requires { IsOrder self.now (map asked_view lookups.now) }
+        ensures { IfOk result (λ b. b ≡ needs_itself (map asked_view lookups.now) rounds (found_view d.now)) }
+    {
+        if self.holds && is_above(&self.bounds, &self.ranks, d) {
+            return Ok(false);
+        }
+        let names = circle(alloc, &self.graph, d)?;
+        if self.listed && is_circle(lookups, rounds, d, &names) {
+            return Ok(true);
+        }
+        needs_itself(alloc, lookups, rounds, d)
+    }
+}
