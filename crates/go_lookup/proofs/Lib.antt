@@ -3,3 +3,5 @@ pub mod Cells
 pub mod Groups
 pub mod Named
 pub mod Tables
+pub mod Behind
+pub mod Places

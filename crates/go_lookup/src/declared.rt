@@ -1,12 +1,18 @@
 // The objects of a package, and the locals of its functions.
 
-ghost use Rattle.std.specs.Prelude.{◌≡◌, IfOk, map};
-ghost use Rattle.go_tree.specs.Uses.{declared_by, declared_in_package, begins_function, own_locals, function_locals};
-ghost use Rattle.go_lookup.specs.Views.{found_view};
+ghost use Rattle.std.specs.Prelude.{◌≡◌, None, IfOk, map};
+ghost use Rattle.go_tree.specs.Failures.{least};
+ghost use Rattle.go_tree.specs.Faults.{clause_faults};
+ghost use Rattle.go_tree.specs.Meanings as names;
+ghost use Rattle.go_tree.specs.Uses.{declared_by, declared_in_package, begins_function, own_locals, function_locals, uses};
+ghost use Rattle.go_names.specs.Scopes.{AreOrderly};
+ghost use Rattle.go_lookup.specs.Views.{units_view, found_view};
 
 use crate::found::Found;
+use crate::unit::Unit;
 use go_tree::context::{Block, Entity};
-use go_tree::object::Declared;
+use go_tree::object::{Declared, Object};
+use go_tree::uses::Uses;
 use std::alloc::{AllocError, Global};
 
 /// Where and as what it is declared.
@@ -78,4 +84,22 @@ pub fn function_locals(
         left = rest;
     }
     Ok(out)
+}
+
+/// What the names mean, by the objects of the tokens and the declarations.
+pub fn uses_of(
+    alloc: Global,
+    units: &[Unit<'_>],
+    objects: Vec<Vec<Option<Object>>>,
+    declared: &[Found<'_>],
+) -> Result<Uses, AllocError>
+    requires orderly { AreOrderly (units_view units.now) }
+    requires clauses { least (clause_faults (units_view units.now)) ≡ None }
+    requires declared { map found_view declared.now ≡ names.declarations (units_view units.now) }
+    requires objects { map (λ v. v.items) objects.items ≡ names.objects (units_view units.now) }
+    ensures { IfOk result (λ u. u ≡ uses (units_view units.now)) }
+{
+    let package_level = declared_in_package(alloc, declared)?;
+    let locals = function_locals(alloc, declared)?;
+    Ok(Uses::new(objects, package_level, locals))
 }

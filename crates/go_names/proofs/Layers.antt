@@ -60,7 +60,7 @@ abbrev mutual
   AreLayered Holding (more p ps) = IsLayered p × AreLayered Holding ps
 
 -- the kinds of expressions and types, and of what stands only in them and in declarations
-abbrev is_plain : Kind → Bool
+abbrev pub is_plain : Kind → Bool
 is_plain kind.NameList = true
 is_plain kind.DeclaredName = true
 is_plain kind.TypedValues = true
@@ -95,7 +95,7 @@ is_plain kind.NewNames = true
 is_plain k = false
 
 -- and their categories
-abbrev has_plain : Category → Bool
+abbrev pub has_plain : Category → Bool
 has_plain category.NameList = true
 has_plain category.DeclaredName = true
 has_plain category.ConstantRest = true
@@ -118,7 +118,7 @@ has_plain (category.Targets p) = true
 has_plain (category.NewNames p) = true
 has_plain c = false
 
-abbrev all_plain : Rule → Bool
+abbrev pub all_plain : Rule → Bool
 all_plain (End ws) = true
 all_plain (Then ws c r) = has_plain c && all_plain r
 all_plain (Maybe ws c r) = has_plain c && all_plain r
@@ -242,7 +242,7 @@ new_plain : (p : Place) (k : Kind) → within (category.NewNames p) k ≡ true �
 new_plain p kind.NewNames h = refl
 new_plain p k h = cc
 
-within_plain : (c : Category) (k : Kind) → has_plain c ≡ true → within c k ≡ true → is_plain k ≡ true
+pub within_plain : (c : Category) (k : Kind) → has_plain c ≡ true → within c k ≡ true → is_plain k ≡ true
 within_plain category.NameList k e h = names_plain k h
 within_plain category.DeclaredName k e h = declared_plain k h
 within_plain category.ConstantRest k e h = constant_plain k h
@@ -265,7 +265,7 @@ within_plain (category.Targets p) k e h = targets_plain p k h
 within_plain (category.NewNames p) k e h = new_plain p k h
 within_plain c k e h = let no : false ≡ true = e in cc
 
-rule_plain : (p : Place) (k : Kind) → is_plain k ≡ true → all_plain (rule p k) ≡ true
+pub rule_plain : (p : Place) (k : Kind) → is_plain k ≡ true → all_plain (rule p k) ≡ true
 rule_plain p kind.NameList e = refl
 rule_plain p kind.DeclaredName e = refl
 rule_plain p kind.TypedValues e = refl
@@ -320,7 +320,7 @@ rule_fits p (kind.Specification sort.Type) = refl
 rule_fits p (kind.Specification sort.Variable) = refl
 rule_fits p k = refl
 
-and_both : (a b : Bool) → a && b ≡ true → (a ≡ true) × (b ≡ true)
+pub and_both : (a b : Bool) → a && b ≡ true → (a ≡ true) × (b ≡ true)
 and_both true b h = (refl, h)
 and_both false b h = cc
 

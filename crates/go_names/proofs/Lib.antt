@@ -6,3 +6,4 @@ pub mod Nesting
 pub mod Rising
 pub mod Sweeps
 pub mod Told
+pub mod Outer

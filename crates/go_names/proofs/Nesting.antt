@@ -24,7 +24,7 @@ use Rattle.go_names.specs.Orders.{EachDeclared, Nests, ScopesNest, BeginsAt, Beg
 use Rattle.go_names.proofs.Rising.{behind_name, IsLaidOut, LieIn, laid_grows, lie_order}
 use Rattle.go_names.proofs.Layers.{Naming as NamingLayer, Function, Body, Holding, layer, IsPlain, ArePlain, IsLayered, AreLayered, layered_naming}
 
-each_append : (Q : Declaration → Type 0) (es fs : List Event) → EachDeclared Q es → EachDeclared Q fs → EachDeclared Q (es ++ fs)
+pub each_append : (Q : Declaration → Type 0) (es fs : List Event) → EachDeclared Q es → EachDeclared Q fs → EachDeclared Q (es ++ fs)
 each_append Q [] fs h g = g
 each_append Q (event.Declaration d ∷ es) fs h g = (h.0, each_append Q es fs h.1 g)
 each_append Q (e ∷ es) fs h g = each_append Q es fs h g
@@ -164,11 +164,11 @@ name_only o c i j (role.Parameter g None) lt h s = tt
 name_only o c i j (role.Parameter g (Some s)) lt h e = (record { same = e; follows = given_follows (block.Local s.from) entity.Parameter i j s o e tt lt h }, tt)
 name_only o c i j r lt h g = tt
 
-statement_each : (Q : Declaration → Type 0) (b : Bool) (i j : ℕ) → EachDeclared Q (statement_events b i j)
+pub statement_each : (Q : Declaration → Type 0) (b : Bool) (i j : ℕ) → EachDeclared Q (statement_events b i j)
 statement_each Q true i j = tt
 statement_each Q false i j = tt
 
-misplaced_each : (Q : Declaration → Type 0) (b : Bool) (i j : ℕ) → EachDeclared Q (misplaced b i j)
+pub misplaced_each : (Q : Declaration → Type 0) (b : Bool) (i j : ℕ) → EachDeclared Q (misplaced b i j)
 misplaced_each Q true i j = tt
 misplaced_each Q false i j = tt
 
@@ -177,7 +177,7 @@ default_each Q true true word = tt
 default_each Q true false word = tt
 default_each Q false b word = tt
 
-second_each : (Q : Declaration → Type 0) (b : Bool) (ps : Trees) → EachDeclared Q (second_defaults b ps)
+pub second_each : (Q : Declaration → Type 0) (b : Bool) (ps : Trees) → EachDeclared Q (second_defaults b ps)
 second_each Q b none = tt
 second_each Q b (skip ps) = second_each Q b ps
 second_each Q b (more p ps) = each_append Q (default_events (is_default (kind_of p)) b (first p)) (second_defaults (b || is_default (kind_of p)) ps) (default_each Q (is_default (kind_of p)) b (first p)) (second_each Q (b || is_default (kind_of p)) ps)

@@ -1,9 +1,11 @@
 -- How names and scopes lie in what a tree has to do with names.
-use Rattle.std.specs.Prelude.{◌≡◌, ℕ, suc, ◌<◌, ◌≤◌, ◌⊎◌, List, [], ◌∷◌}
+use Rattle.std.specs.Prelude.{◌≡◌, ℕ, suc, ◌<◌, ◌≤◌, ◌⊎◌, Bool, true, false, List, [], ◌∷◌}
 use Rattle.go_tree.specs.declared.context.Block.{Block}
 use Rattle.go_tree.specs.declared.context.Block.TheVariants as block
 use Rattle.go_tree.specs.declared.context.Entity.{Entity}
 use Rattle.go_tree.specs.declared.context.Entity.TheVariants as entity
+use Rattle.go_tree.specs.declared.context.Manner.{Manner}
+use Rattle.go_tree.specs.declared.context.Manner.TheVariants as manner
 use Rattle.go_tree.specs.declared.context.Scope.{Scope}
 use Rattle.go_tree.specs.declared.event.Declaration.{Declaration}
 use Rattle.go_tree.specs.declared.event.Event.{Event}
@@ -45,3 +47,19 @@ BeginsIn (block.Local i) e name from = BeginsAt e name from
 -- The scope of a declaration doesn't end before it begins, and begins at the name or behind it.
 abbrev pub IsFollowed : Declaration → Type 0
 IsFollowed d = BeginsIn d.block d.entity d.name d.scope.from × (d.scope.from ≤ d.scope.to)
+
+abbrev pub IsOuter : Block → Type 0
+IsOuter block.Package = Unit
+IsOuter (block.Local i) = ⊥
+
+-- whether a function of the package is declared so
+abbrev pub begins_function : Block → Entity → Manner → Bool
+begins_function block.Package entity.Function manner.Declared = true
+begins_function b e m = false
+
+-- No local declaration stands before the first function; the argument says whether there was one.
+abbrev pub LocalsFollow : Bool → List Event → Type 0
+LocalsFollow true es = Unit
+LocalsFollow false [] = Unit
+LocalsFollow false (event.Declaration d ∷ es) = IsOuter d.block × LocalsFollow (begins_function d.block d.entity d.manner) es
+LocalsFollow false (e ∷ es) = LocalsFollow false es

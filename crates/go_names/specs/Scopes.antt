@@ -7,7 +7,7 @@ use Rattle.go_tree.specs.declared.object.Extent.TheVariants as extent
 use Rattle.go_tree.specs.declared.event.Event.{Event}
 use Rattle.go_tree.specs.Meanings.{Found, Meaning, covers, lies_inside}
 use Rattle.go_tree.specs.Meanings as names
-use Rattle.go_names.specs.Orders.{AreInOrder, EachDeclared, Nests, ScopesNest, IsFollowed}
+use Rattle.go_names.specs.Orders.{AreInOrder, EachDeclared, Nests, ScopesNest, IsFollowed, LocalsFollow}
 
 abbrev pub is_local : ℕ → Extent → Bool
 is_local n (extent.Between m s) = nat_eq m n
@@ -82,6 +82,7 @@ pub record IsOrderly (es : List Event) : Type 0 where
   pub order : AreInOrder 0 end es
   pub nest : ScopesNest es
   pub follow : EachDeclared IsFollowed es
+  pub behind : LocalsFollow false es
 
 abbrev pub AreOrderly : List names.Unit → Type 0
 AreOrderly [] = Unit

@@ -8,8 +8,8 @@ ghost use Rattle.go_tree.specs.declared.context.Role.TheVariants as role;
 ghost use Rattle.go_tree.specs.Contexts.{is_there, file_context, opens, block_in, end_in, entity_of, specified, defined, ranged, is_called, called_in, if_name, if_first, entry_role, role_in, element_site, length_site, column_site, values_site, typed_site, function_site, sequence_site, site_in, specification_in, has_values, own_source, source_at, source_in, group_in, body_scope, function_parameters, parameters_in, constant_in, is_package, package_value, typed_initial, initial_in, is_behind_first, listed_in, breaks_in, continues_in, followed_in, falls_in, enter};
 ghost use Rattle.go_tree.specs.Events.{begin, pass};
 
-use go_tree::context::{Block, Context, Entity, Manner, Naming, Reach, Role, Scope, Site};
 use go_grammar::kind::{Kind, Sort};
+use go_tree::context::{Block, Context, Entity, Manner, Naming, Reach, Role, Scope, Site};
 use go_tree::node::Node;
 
 /// The context of a whole file of so many tokens.

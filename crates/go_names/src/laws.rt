@@ -1,6 +1,6 @@
 // Laws of what the tree of a file has to do with names.
 
-ghost use Rattle.std.specs.Prelude.{◌≡◌, ℕ, List, None};
+ghost use Rattle.std.specs.Prelude.{◌≡◌, ℕ, false, List, None};
 ghost use Rattle.go_tokens.specs.declared.token.TokenKind.{TokenKind};
 ghost use Rattle.go_grammar.specs.Grammar.{IsFile};
 ghost use Rattle.go_grammar.specs.Trees.{Tree, last};
@@ -8,7 +8,7 @@ ghost use Rattle.go_tree.specs.Contexts.{file_context};
 ghost use Rattle.go_tree.specs.Events.{events};
 ghost use Rattle.go_tree.specs.Meanings.{Meaning, meanings, meaning_at};
 ghost use Rattle.go_tree.specs.Meanings as names;
-ghost use Rattle.go_names.specs.Orders.{AreInOrder, EachDeclared, ScopesNest, IsFollowed};
+ghost use Rattle.go_names.specs.Orders.{AreInOrder, EachDeclared, ScopesNest, IsFollowed, LocalsFollow};
 ghost use Rattle.go_names.specs.Scopes.{AreNested, AreSwept, IsOrderly, AreOrderly, locals_of, reached, inmost, first_by, is_import, is_package};
 
 /// The names that are declared or looked up stand in the order of their tokens.
@@ -26,13 +26,18 @@ pub fn scopes_follow()
     ensures { (ts : List TokenKind) (t : Tree) → IsFile ts t → EachDeclared IsFollowed (events (file_context (last t)) t) }
 {}
 
+/// Locals are declared behind a function of the package.
+pub fn locals_stand_in_functions()
+    ensures { (ts : List TokenKind) (t : Tree) → IsFile ts t → LocalsFollow false (events (file_context (last t)) t) }
+{}
+
 /// Where scopes nest, a name means the innermost of the local meanings at its place, which is found one by one in their order;
 /// else what is imported; else what the package declares.
 pub fn meanings_are_reached()
     ensures { (n t : ℕ) (w : List ℕ) (ms : List Meaning) → AreNested (locals_of n ms) → meaning_at ms n t w ≡ reached (inmost n t w None (locals_of n ms)) (first_by (is_import n) w ms) (first_by is_package w ms) }
 {}
 
-/// What the tree of a file tells has names in order and scopes that nest.
+/// What the tree of a file tells has names in order, scopes that nest, and no locals in front of its functions.
 pub fn files_are_orderly()
     ensures { (ts : List TokenKind) (t : Tree) → IsFile ts t → IsOrderly (events (file_context (last t)) t) }
 {}

@@ -7,10 +7,10 @@ ghost use Rattle.go_tree.specs.declared.event.Event.TheVariants as event;
 ghost use Rattle.go_tree.specs.Contexts.{is_there};
 ghost use Rattle.go_tree.specs.Events.{declared, used, parameter_declared, parameter_events, name_events, function_declared, function_events, declaration_events, type_declared, misplaced, is_default, default_events, second_defaults, own_events, statement_events};
 
-use go_tree::context::{Block, Context, Entity, Manner, Naming, Role, Scope};
 use crate::enter::{has_part, scope_from};
-use go_tree::event::{Declaration, Event, Member, Use};
 use go_grammar::kind::{Kind, Sort};
+use go_tree::context::{Block, Context, Entity, Manner, Naming, Role, Scope};
+use go_tree::event::{Declaration, Event, Member, Use};
 use go_tree::node::Node;
 use std::alloc::AllocError;
 

@@ -1,11 +1,11 @@
 // What small files have to do with names, as one reads it from their tokens. Each begins with `package p` and a newline, the
 // tokens 0 to 2.
 
-use go_tree::context::{Block, Entity, Manner, Reach, Role, Scope, Site};
-use go_tree::event::{Declaration, Event, Member, Use};
 use crate::walk::events;
 use go_parse::parse;
 use go_tokens::lex::lex;
+use go_tree::context::{Block, Entity, Manner, Reach, Role, Scope, Site};
+use go_tree::event::{Declaration, Event, Member, Use};
 use std::alloc::Global;
 use std::test::Fail;
 

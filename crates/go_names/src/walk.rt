@@ -7,10 +7,10 @@ ghost use Rattle.go_tree.specs.Views.{view, views};
 ghost use Rattle.go_tree.specs.Contexts.{file_context};
 ghost use Rattle.go_tree.specs.Events.{is_more, events, events_of};
 
-use go_tree::context::Context;
 use crate::enter::{begin, ends_named, enter, file_context, pass};
-use go_tree::event::Event;
 use crate::own::{push_own, push_statement};
+use go_tree::context::Context;
+use go_tree::event::Event;
 use go_tree::node::Node;
 use std::alloc::{AllocError, Global};
 

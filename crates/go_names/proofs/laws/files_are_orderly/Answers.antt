@@ -7,6 +7,7 @@ use Rattle.go_names.specs.Orders.{AreInOrder}
 use Rattle.go_names.proofs.Rising.{derives_laid, events_order}
 use Rattle.go_names.proofs.Layers.{derives_layered}
 use Rattle.go_names.proofs.Nesting.{file_nested, file_follows}
+use Rattle.go_names.proofs.Outer.{file_behind}
 use Rattle.go_names.proofs.laws.files_are_orderly.Goals as goal
 
 pub returns : goal.returns
@@ -18,4 +19,5 @@ returns c ts t f =
       order = subst (λ i. AreInOrder i (last t) (events (file_context (last t)) t)) f.begins (events_order (file_context (last t)) t laid);
       nest = (file_nested t layered laid).nest;
       follow = file_follows t layered laid;
+      behind = file_behind ts t f;
     }
