@@ -1,5 +1,6 @@
 pub mod Gathering
 pub mod Least
+pub mod Orderly
 pub mod Seconds
 pub mod Statements
 pub mod UsedSpots

@@ -1,4 +1,6 @@
+pub mod Decided
 pub mod Gathered
 pub mod Noted
+pub mod Resolve
 pub mod Used
 pub mod Views

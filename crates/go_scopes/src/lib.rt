@@ -5,13 +5,17 @@
 // where the rule fails: it answers the least of that fault and those at these places.
 #![tactic(auto)]
 
+mod branches;
+mod clauses;
+mod cycles;
+mod duplicates;
 pub mod error;
-pub mod failure;
-pub mod file_rule;
-pub mod branches;
-pub mod clauses;
-pub mod duplicates;
-pub mod members;
-pub mod redeclared;
-pub mod unused;
-pub mod lookups;
+mod failure;
+mod file_rule;
+mod lookups;
+mod members;
+mod redeclared;
+pub mod resolve;
+#[cfg(test)]
+mod tests;
+mod unused;

@@ -1,0 +1,13 @@
+use Rattle.std.proofs.Common.{◌≡◌, ◌+◌, length, map, drop}
+use Rattle.std.specs.Option.{option_map}
+use Rattle.go_base.specs.declared.fault.FaultCode.TheVariants as code
+use Rattle.go_tree.specs.Needs.{cycles}
+use Rattle.go_lookup.specs.Views.{found_view, asked_view}
+use Rattle.go_scopes.specs.Noted.{noted}
+use Rattle.go_scopes.specs.Views.{failure_of}
+use Rattle.go_scopes.proofs.cycles.cycles.Given as goal
+
+abbrev pub invariant-loop-d : goal.invariant-loop-d
+invariant-loop-d l =
+    noted (option_map failure_of l.found) code.Cycle (cycles (map asked_view l.lookups) (length l.declared + length l.declared) (map found_view (drop l.d-index l.declared)))
+    ≡ noted (option_map failure_of l.fn.found) code.Cycle (cycles (map asked_view l.lookups) (length l.declared + length l.declared) (map found_view l.declared))

@@ -1,0 +1,12 @@
+use Rattle.std.proofs.Common.{arith, subst, sym}
+use Rattle.std.proofs.lemmas.Grind.{common_steps}
+use Rattle.go_names.specs.Scopes.{AreOrderly}
+use Rattle.go_lookup.specs.Views.{unit_view, units_view}
+use Rattle.go_scopes.proofs.Orderly.{orderly_more}
+use Rattle.go_scopes.proofs.resolve.units_of.Goals as goal
+
+pub loop-file-preserved : goal.loop-file-preserved
+loop-file-preserved c = record {
+  units = grind (arith, common_steps);
+  orderly = orderly_more c.loop-file.units.items c.push.new.self.items c.in_ok-unit_of.field-0 c.in_ok-push.ensures.items c.loop-file.invariant.orderly c.in_ok-unit_of.ensures.orderly;
+}

@@ -1,0 +1,70 @@
+// No declaration needs itself.
+
+ghost use Rattle.std.specs.Prelude.{◌≡◌, ◌+◌, [], IfOk, length, map};
+ghost use Rattle.std.specs.Option.{option_map};
+ghost use Rattle.go_base.specs.declared.fault.FaultCode.{FaultCode};
+ghost use Rattle.go_tree.specs.Failures.{place_if};
+ghost use Rattle.go_tree.specs.Needs.{needs_itself, cycles};
+ghost use Rattle.go_lookup.specs.Views.{place_of, found_view, asked_view};
+ghost use Rattle.go_cycles.specs.Order.{IsOrder};
+ghost use Rattle.go_scopes.specs.Decided.{is_decided};
+ghost use Rattle.go_scopes.specs.Noted.{noted};
+ghost use Rattle.go_scopes.specs.Views.{failure_of};
+
+use crate::failure::{is_earlier, note};
+use go_base::{Fault, FaultCode};
+use go_cycles::order::{Order, order_of};
+use go_lookup::found::Found;
+use go_lookup::lookup::Asked;
+use std::alloc::{AllocError, Global};
+
+/// Whether a fault that was found is reported before another one.
+fn is_decided(found: Option<Fault>, other: Fault) -> bool
+    ensures { result ≡ is_decided (option_map failure_of found) (failure_of other) }
+{
+    match found {
+        None => false,
+        Some(fault) => !is_earlier(other, fault),
+    }
+}
+
+/// The rule at one declaration, which is looked at where its fault would be reported.
+fn note_cycle<'a>(
+    alloc: Global,
+    found: Option<Fault>,
+    lookups: &[Asked<'a>],
+    rounds: usize,
+    order: &Order,
+    d: &Found<'a>,
+) -> Result<Option<Fault>, AllocError>
+    requires { IsOrder order.now (map asked_view lookups.now) }
+    ensures { IfOk result (λ f. option_map failure_of f ≡ noted (option_map failure_of found) FaultCode.Cycle (place_if (needs_itself (map asked_view lookups.now) rounds (found_view d.now)) (place_of d.now.place) [])) }
+{
+    let fault = Fault {
+        code: FaultCode::Cycle,
+        span: d.place,
+    };
+    if is_decided(found, fault) {
+        return Ok(found);
+    }
+    let fails = order.needs_itself(alloc, lookups, rounds, d)?;
+    Ok(note(found, fails, FaultCode::Cycle, d.place))
+}
+
+/// No declaration needs itself (Go specification: Type declarations, Package initialization).
+pub fn cycles<'a>(
+    alloc: Global,
+    found: Option<Fault>,
+    lookups: &[Asked<'a>],
+    declared: &[Found<'a>],
+) -> Result<Option<Fault>, AllocError>
+    ensures { IfOk result (λ f. option_map failure_of f ≡ noted (option_map failure_of found) FaultCode.Cycle (cycles (map asked_view lookups.now) (length declared.now + length declared.now) (map found_view declared.now))) }
+{
+    let order = order_of(alloc, lookups, declared)?;
+    let rounds = declared.len() + declared.len();
+    let mut found = found;
+    for d in declared {
+        found = note_cycle(alloc, found, lookups, rounds, &order, d)?;
+    }
+    Ok(found)
+}

@@ -1,0 +1,148 @@
+// The meaning of the names of a package.
+
+ghost use Rattle.std.specs.Prelude.{◌≡◌, ◌≤◌, None, Some, IfOk, length, map};
+ghost use Rattle.std.specs.Option.{option_map};
+ghost use Rattle.go_base.specs.Gives.{Meets};
+ghost use Rattle.go_names.specs.Scopes.{IsOrderly, AreOrderly};
+ghost use Rattle.go_tree.specs.Meanings.{found};
+ghost use Rattle.go_tree.specs.Failures.{least, least_from};
+ghost use Rattle.go_tree.specs.Faults.{lookup_faults, unused_faults, placed_faults, name_faults_by, reported};
+ghost use Rattle.go_tree.specs.Uses.{uses};
+ghost use Rattle.go_lookup.specs.Views.{unit_view, units_view, found_view, asked_view};
+ghost use Rattle.go_scopes.specs.Resolve.{unit_of, units_of, refusal_of};
+ghost use Rattle.go_scopes.specs.Views.{failure_of};
+
+use crate::branches::{branches, limit};
+use crate::clauses::clause_faults;
+use crate::cycles::cycles;
+use crate::duplicates::duplicates;
+use crate::error::ResolveError;
+use crate::lookups::{initialisers, not_called, outside_members, outside_names, undeclared};
+use crate::redeclared::redeclared;
+use crate::unused::{unused_imports, unused_variables};
+use go_base::{Fault, Memory};
+use go_lookup::declared::uses_of;
+use go_lookup::found::{Found, all_found, new_among};
+use go_lookup::look_up::look_up;
+use go_lookup::lookup::Asked;
+use go_lookup::unit::Unit;
+use go_names::laws::files_are_orderly;
+use go_names::walk::events;
+use go_tree::file::File;
+use go_tree::uses::Uses;
+use std::alloc::{AllocError, Global};
+
+/// What the names of a package mean. The files are numbered from 0 by their places.
+///
+/// # Errors
+///
+/// The fault that is reported, exactly where a rule on clauses or names fails; or want of memory.
+pub fn resolve(alloc: Global, files: &[File]) -> Result<Uses, ResolveError>
+    requires { length files.now ≤ 256 }
+    ensures { Meets refusal_of result (λ u. (reported (units_of files.now) ≡ None) × (u ≡ uses (units_of files.now))) (λ fault. reported (units_of files.now) ≡ Some (failure_of fault)) }
+{
+    let units = units_of(alloc, files)?;
+    resolve_units(alloc, &units)
+}
+
+/// A file as the rules see it.
+fn unit_of<'a>(alloc: Global, file: &'a File) -> Result<Unit<'a>, AllocError>
+    ensures unit { IfOk result (λ u. unit_view u ≡ unit_of file.now) }
+    ensures orderly { IfOk result (λ u. IsOrderly u.events.items) }
+{
+    files_are_orderly();
+    let root = file.root();
+    Ok(Unit {
+        tokens: file.tokens(),
+        events: events(alloc, root)?,
+    })
+}
+
+/// The files as the rules see them.
+fn units_of<'a>(alloc: Global, files: &'a [File]) -> Result<Vec<Unit<'a>>, AllocError>
+    ensures units { IfOk result (λ v. units_view v.items ≡ units_of files.now) }
+    ensures orderly { IfOk result (λ v. AreOrderly (units_view v.items)) }
+{
+    let mut units = Vec::new(alloc);
+    for file in files {
+        units.push(unit_of(alloc, file)?)?;
+    }
+    Ok(units)
+}
+
+/// What the names mean; or the fault that is reported.
+fn resolve_units(alloc: Global, units: &[Unit<'_>]) -> Result<Uses, ResolveError>
+    requires few { length units.now ≤ 256 }
+    requires orderly { AreOrderly (units_view units.now) }
+    ensures { Meets refusal_of result (λ u. (reported (units_view units.now) ≡ None) × (u ≡ uses (units_view units.now))) (λ fault. reported (units_view units.now) ≡ Some (failure_of fault)) }
+{
+    let all = all_found(alloc, units)?;
+    if let Some(fault) = clause_faults(alloc, &all, units)? {
+        return Err(ResolveError::Fault(fault));
+    }
+    let declared = new_among(alloc, &all)?;
+    let looked_up = look_up(alloc, units, &declared)?;
+    if let Some(fault) = name_faults(alloc, units, &all, &declared, &looked_up.asked)? {
+        return Err(ResolveError::Fault(fault));
+    }
+    Ok(uses_of(alloc, units, looked_up.objects, &declared)?)
+}
+
+/// The rules on names that are looked up.
+fn lookup_faults(found: Option<Fault>, asked: &[Asked<'_>]) -> Option<Fault>
+    ensures { option_map failure_of result ≡ least_from (option_map failure_of found) (lookup_faults (map asked_view asked.now)) }
+{
+    let undeclared = undeclared(found, asked);
+    let named = outside_names(undeclared, asked);
+    let selected = outside_members(named, asked);
+    let called = not_called(selected, asked);
+    initialisers(called, asked)
+}
+
+/// The rules on what is not used.
+fn unused_faults(
+    alloc: Global,
+    found: Option<Fault>,
+    units: &[Unit<'_>],
+    declared: &[Found<'_>],
+    asked: &[Asked<'_>],
+) -> Result<Option<Fault>, Memory>
+    requires { length units.now ≤ 256 }
+    ensures { IfOk result (λ f. option_map failure_of f ≡ least_from (option_map failure_of found) (unused_faults (units_view units.now) (map found_view declared.now) (map asked_view asked.now))) }
+{
+    let variables = unused_variables(alloc, found, asked, declared)?;
+    Ok(unused_imports(alloc, variables, asked, units)?)
+}
+
+/// The rules on what stands where it may not, twice, or too often.
+fn placed_faults(
+    alloc: Global,
+    found: Option<Fault>,
+    units: &[Unit<'_>],
+) -> Result<Option<Fault>, Memory>
+    requires { length units.now ≤ 256 }
+    ensures { IfOk result (λ f. option_map failure_of f ≡ least_from (option_map failure_of found) (placed_faults (units_view units.now))) }
+{
+    let placed = branches(alloc, found, units)?;
+    let twice = duplicates(alloc, placed, units)?;
+    Ok(limit(twice, units))
+}
+
+/// The least fault of the rules on names. The declarations are `declared`, and `all` has the names before each `:=` too.
+fn name_faults<'a>(
+    alloc: Global,
+    units: &[Unit<'_>],
+    all: &[Found<'_>],
+    declared: &[Found<'a>],
+    asked: &[Asked<'a>],
+) -> Result<Option<Fault>, Memory>
+    requires few { length units.now ≤ 256 }
+    requires all { map found_view all.now ≡ found (units_view units.now) }
+    ensures { IfOk result (λ f. option_map failure_of f ≡ least (name_faults_by (units_view units.now) (map found_view declared.now) (map asked_view asked.now))) }
+{
+    let repeated = redeclared(alloc, None, units, declared, all)?;
+    let looked_up = lookup_faults(repeated, asked);
+    let unused = unused_faults(alloc, looked_up, units, declared, asked)?;
+    let placed = placed_faults(alloc, unused, units)?;
+    Ok(cycles(alloc, placed, asked, declared)?)
+}
