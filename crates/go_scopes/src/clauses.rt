@@ -86,11 +86,7 @@ impl FileRule for OtherImports {
 }
 
 /// No path is imported but that of `fmt` (Go specification: Import declarations).
-fn imports(
-    alloc: Global,
-    found: Option<Fault>,
-    units: &[Unit<'_>],
-) -> Result<Option<Fault>, Memory>
+fn imports(alloc: Global, found: Option<Fault>, units: &[Unit<'_>]) -> Result<Option<Fault>, Memory>
     requires { length units.now ≤ 256 }
     ensures { IfOk result (λ f. option_map failure_of f ≡ noted (option_map failure_of found) FaultCode.Outside (imports (units_view units.now))) }
 {

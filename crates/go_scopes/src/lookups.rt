@@ -89,8 +89,7 @@ pub fn outside_members(found: Option<Fault>, all: &[Asked<'_>]) -> Option<Fault>
 {
     let mut found = found;
     for a in all {
-        let fails =
-            is_import(object_asked(a)) && is_other_member(a.lookup.role, a.selected);
+        let fails = is_import(object_asked(a)) && is_other_member(a.lookup.role, a.selected);
         found = note(found, fails, FaultCode::Outside, a.whole);
     }
     found
