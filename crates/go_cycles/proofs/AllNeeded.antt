@@ -1,5 +1,5 @@
 -- Rounds of what declarations need: a round that adds nothing is the last one that does.
-use Rattle.std.proofs.Common.{◌≡◌, ◌≤◌, ◌<◌, ◌+◌, ◌-◌, ◌∙◌, ℕ, zero, suc, Bool, true, false, List, [], ◌∷◌, ◌++◌, length, refl, ap, sym, arith, Option, Some, None, drop, get_or, add-one, ◌&&◌, ◌||◌, if◌then◌else◌, nat_eq, append-nil, append_assoc}
+use Rattle.std.proofs.Common.{◌≡◌, ◌≤◌, ◌<◌, ◌+◌, ◌-◌, ◌∙◌, ℕ, zero, suc, Bool, true, false, List, [], ◌∷◌, ◌++◌, length, refl, ap, sym, arith, Some, None, drop, get_or, add-one, ◌&&◌, ◌||◌, if◌then◌else◌, nat_eq, append-nil, append_assoc}
 use Rattle.std.proofs.Math.Seq.{drop-cons, drop-append_seam}
 use Rattle.std.proofs.lemmas.Grind.{common_steps}
 use Rattle.go_tree.specs.Lookups.{Asked}
@@ -36,7 +36,6 @@ needs_some a asks x y h = grind (arith, common_steps)
 
 pub needs_none : (a : Asked) (asks : List Asked) (x : Needed) → needed_by a x ≡ None → needs (a ∷ asks) x ≡ needs asks x
 needs_none a asks x h = grind (arith, common_steps)
-
 
 pub round_more : (asks : List Asked) (x : Needed) (xs zs : List Needed) → with_all (needs_of asks (x ∷ xs)) zs ≡ with_all (needs_of asks xs) (with_all (needs asks x) zs)
 round_more asks x xs zs = with_append (needs asks x) (needs_of asks xs) zs

@@ -2,7 +2,6 @@
 use Rattle.std.proofs.Common.{◌≡◌, ◌≤◌, ◌<◌, ◌∙◌, ℕ, zero, suc, Bool, true, false, ◌&&◌, ◌||◌, not, nat_eq, nat_le, List, [], ◌∷◌, ◌++◌, length, refl, ap, sym, subst, arith, Option, Some, None, drop, get_or}
 use Rattle.std.specs.Prelude.{slice_get}
 use Rattle.std.proofs.Math.Seq.{drop-cons}
-use Rattle.std.proofs.lemmas.Grind.{common_steps}
 use Rattle.std.specs.HashMap.{HashMap}
 use Rattle.std.specs.HashMap as hash
 use Rattle.go_tree.specs.declared.context.Site.{Site}
@@ -10,7 +9,7 @@ use Rattle.go_tree.specs.declared.context.Site.TheVariants as site
 use Rattle.go_tree.specs.declared.event.Declaration.{Declaration}
 use Rattle.go_tree.specs.Meanings.{Found}
 use Rattle.go_tree.specs.Lookups.{Asked}
-use Rattle.go_tree.specs.Needs.{Needed, has_source, if_so, way, right_way, is_same, same_way, is_among, is_known, with_one, with_all, needs, needs_of, all_needed, needs_itself}
+use Rattle.go_tree.specs.Needs.{Needed, has_source, if_so, way, right_way, is_same, same_way, is_among, is_known, with_all, needs, needs_of, all_needed, needs_itself}
 use Rattle.go_lookup.specs.Tables.{same_spot}
 use Rattle.go_cycles.specs.Needs.{source_of, way_of, needed_in, needed_by}
 use Rattle.go_cycles.specs.declared.columns.Column.{Column}
@@ -183,7 +182,7 @@ some_is x y e = cc
 -- what a walk goes on from, if it leads anywhere
 from_there : (asks : List Asked) (o : Option Needed) (ns : List ℕ) (y : Needed) → walked asks o ns ≡ Some y → (v : Needed) × (o ≡ Some v)
 from_there asks None ns y e = absurd (no_end (sym (lost asks ns) ∙ e))
-    where
+  where
     no_end : ◌≡◌ {A = Option Needed} None (Some y) → ⊥
     no_end h = cc
 from_there asks (Some v) ns y e = (v, refl)

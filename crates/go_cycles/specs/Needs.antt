@@ -1,5 +1,5 @@
 -- What a name that is looked up calls for.
-use Rattle.std.specs.Prelude.{Bool, false, ◌&&◌, not, nat_eq, Option, Some, None}
+use Rattle.std.specs.Prelude.{Bool, ◌&&◌, nat_eq, Option, Some, None}
 use Rattle.go_tree.specs.Meanings.{Found, Meaning}
 use Rattle.go_tree.specs.Lookups.{Asked}
 use Rattle.go_tree.specs.Needs.{Needed, has_source, if_so, way}

@@ -12,4 +12,6 @@ pub mod order;
 pub mod ranks;
 mod rounds;
 mod search;
+#[cfg(test)]
+mod tests;
 mod walk;

@@ -42,12 +42,7 @@ fn comes_back(d: &Found<'_>, end: Option<Needed<'_>>) -> bool
 }
 
 /// Whether the declaration needs itself along the names, by way of at most `rounds` others.
-pub fn is_circle<'a>(
-    lookups: &[Asked<'a>],
-    rounds: usize,
-    d: &Found<'a>,
-    names: &[usize],
-) -> bool
+pub fn is_circle<'a>(lookups: &[Asked<'a>], rounds: usize, d: &Found<'a>, names: &[usize]) -> bool
     ensures { result ≡ is_circle (map asked_view lookups.now) rounds (found_view d.now) names.now }
 {
     let [_, others @ ..] = names else {

@@ -1,4 +1,4 @@
-use Rattle.std.proofs.Common.{◌≡◌, ◌∙◌, Some, None, drop, map, get_or, sym, ap}
+use Rattle.std.proofs.Common.{◌≡◌, ◌∙◌, Some, None, map, get_or, sym, ap}
 use Rattle.std.specs.Option.{option_map}
 use Rattle.go_lookup.specs.Views.{asked_view}
 use Rattle.go_cycles.specs.Circles.{step, walked}
