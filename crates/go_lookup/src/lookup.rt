@@ -10,9 +10,9 @@ use crate::meaning::Meaning;
 use crate::meant::{Meant, meaning_at};
 use crate::unit::{Unit, bytes_at, bytes_of, is_blank, word};
 use go_base::Span;
-use go_tokens::tokens::Tokens;
 use go_tree::context::Role;
 use go_tree::event::{Event, Use};
+use go_tokens::tokens::Tokens;
 use std::alloc::{AllocError, Global};
 
 /// A name that is looked up.

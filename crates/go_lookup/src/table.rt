@@ -9,9 +9,9 @@ ghost use Rattle.go_lookup.specs.Groups.{IsGrouped, all_of};
 use crate::meaning::Meaning;
 use crate::meant::{Meant, object_at};
 use crate::unit::{Unit, word};
-use go_tokens::tokens::Tokens;
 use go_tree::event::Event;
 use go_tree::object::Object;
+use go_tokens::tokens::Tokens;
 use std::alloc::{AllocError, Global};
 use std::collections::HashMap;
 
