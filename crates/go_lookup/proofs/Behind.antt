@@ -1,5 +1,5 @@
 -- No local declaration of a package stands before its first function.
-use Rattle.std.proofs.Common.{◌≡◌, ℕ, suc, Bool, true, false, ◌&&◌, ◌||◌, not, if◌then◌else◌, List, [], ◌∷◌, ◌++◌, Option, Some, None, refl, sym, ap, subst}
+use Rattle.std.proofs.Common.{◌≡◌, ℕ, suc, Bool, true, false, ◌&&◌, ◌||◌, not, if◌then◌else◌, List, [], ◌∷◌, ◌++◌, Some, None, refl}
 use Rattle.go_base.specs.declared.fault.FaultCode.{FaultCode}
 use Rattle.go_base.specs.declared.fault.FaultCode.TheVariants as code
 use Rattle.go_tokens.specs.Tokens.{TokenList}
@@ -14,7 +14,7 @@ use Rattle.go_tree.specs.declared.event.Event.TheVariants as event
 use Rattle.go_tree.specs.Contexts.{is_package}
 use Rattle.go_tree.specs.Meanings.{Place, Found, found_in, found_from, found, is_function, is_blank, may_be_reused, is_reused, is_new, new_among, declarations}
 use Rattle.go_tree.specs.Meanings as names
-use Rattle.go_tree.specs.Failures.{Failure, failing, place_if, is_earlier, earlier, least_from, least}
+use Rattle.go_tree.specs.Failures.{Failure, failing, place_if, is_earlier, least_from, least}
 use Rattle.go_tree.specs.Clauses.{package_names, imports, is_outside, outside_declarations, missing_bodies}
 use Rattle.go_tree.specs.Faults.{clause_faults}
 use Rattle.go_tree.specs.Uses.{begins_function}

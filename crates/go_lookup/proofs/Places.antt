@@ -1,5 +1,5 @@
 -- Each object of the package or of a function that a token means has its declaration.
-use Rattle.std.proofs.Common.{◌≡◌, ℕ, zero, suc, ◌+◌, ◌-◌, Bool, true, false, ◌&&◌, if◌then◌else◌, List, [], ◌∷◌, ◌++◌, length, Option, Some, None, refl, sym, ap, ◌∙◌, subst, append_assoc, arith}
+use Rattle.std.proofs.Common.{◌≡◌, ℕ, zero, suc, ◌-◌, Bool, true, false, ◌&&◌, if◌then◌else◌, List, [], ◌∷◌, ◌++◌, length, Option, Some, None, refl, sym, ap, ◌∙◌, subst, append_assoc, arith}
 use Rattle.std.specs.Prelude.{is_some, slice_get, nat_eq}
 use Rattle.std.proofs.lemmas.List.{length-append}
 use Rattle.go_tokens.specs.Tokens.{TokenList}
@@ -9,7 +9,6 @@ use Rattle.go_tree.specs.declared.context.Block.TheVariants as block
 use Rattle.go_tree.specs.declared.context.Entity.{Entity}
 use Rattle.go_tree.specs.declared.event.Event.{Event}
 use Rattle.go_tree.specs.declared.event.Event.TheVariants as event
-use Rattle.go_tree.specs.declared.object.Extent.{Extent}
 use Rattle.go_tree.specs.declared.object.Declared.{Declared}
 use Rattle.go_tree.specs.declared.object.Object.{Object}
 use Rattle.go_tree.specs.declared.object.Object.TheVariants as object
@@ -20,7 +19,7 @@ use Rattle.go_tree.specs.Meanings.{Found, Meaning, Numbers, first_numbers, own_n
 use Rattle.go_tree.specs.Meanings as names
 use Rattle.go_tree.specs.Failures.{least}
 use Rattle.go_tree.specs.Faults.{clause_faults}
-use Rattle.go_tree.specs.Uses.{UsesView, declared_by, declared_in_package, begins_function, own_locals, function_locals, uses, object_there, object_in, object_of, local_in, declared_as, has_declaration, count_functions, IsComplete}
+use Rattle.go_tree.specs.Uses.{UsesView, declared_by, declared_in_package, own_locals, function_locals, uses, object_there, object_in, local_in, declared_as, has_declaration, count_functions, IsComplete}
 use Rattle.go_names.specs.Orders.{IsOuter}
 use Rattle.go_names.specs.Scopes.{Each, AreOrderly}
 use Rattle.go_lookup.proofs.Behind.{AreBehind, declarations_behind}
@@ -174,7 +173,6 @@ count_locals (d ∷ ds) = by (is_package d.it.block) (is_function d.it.entity) r
 
 uses_complete : (us : List names.Unit) → AreOrderly us → least (clause_faults us) ≡ None → IsComplete (uses us)
 uses_complete us h f =
-    let u : UsesView = uses us in
     let all : Each (λ m. IsDeclared (uses us) m.object) (meanings us) = imports_declared (uses us) 0 us (numbered first_numbers (declarations us)) (before_function (uses us) (declarations us) first_numbers [] (declarations_behind us h f) refl refl refl refl) in
     record {
       declared = λ n t o e. subst (IsObject (uses us)) e (rows_declared (uses us) (meanings us) 0 us n t all);

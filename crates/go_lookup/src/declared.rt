@@ -86,18 +86,23 @@ pub fn function_locals(
     Ok(out)
 }
 
-/// What the names mean, by the objects of the tokens and the declarations.
+/// What the names of these files mean, by the objects of their tokens and their declarations. Only the contract speaks of the
+/// files themselves.
+///
+/// # Errors
+///
+/// Want of memory.
 pub fn uses_of(
     alloc: Global,
-    units: &[Unit<'_>],
+    _units: &[Unit<'_>],
     objects: Vec<Vec<Option<Object>>>,
     declared: &[Found<'_>],
 ) -> Result<Uses, AllocError>
-    requires orderly { AreOrderly (units_view units.now) }
-    requires clauses { least (clause_faults (units_view units.now)) ≡ None }
-    requires declared { map found_view declared.now ≡ names.declarations (units_view units.now) }
-    requires objects { map (λ v. v.items) objects.items ≡ names.objects (units_view units.now) }
-    ensures { IfOk result (λ u. u ≡ uses (units_view units.now)) }
+    requires orderly { AreOrderly (units_view _units.now) }
+    requires clauses { least (clause_faults (units_view _units.now)) ≡ None }
+    requires declared { map found_view declared.now ≡ names.declarations (units_view _units.now) }
+    requires objects { map (λ v. v.items) objects.items ≡ names.objects (units_view _units.now) }
+    ensures { IfOk result (λ u. u ≡ uses (units_view _units.now)) }
 {
     let package_level = declared_in_package(alloc, declared)?;
     let locals = function_locals(alloc, declared)?;
