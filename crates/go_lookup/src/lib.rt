@@ -12,5 +12,8 @@ pub mod look_up;
 pub mod lookup;
 pub mod meaning;
 pub mod meant;
+pub mod scopes;
+pub mod sorted;
+pub mod sweep;
 pub mod table;
 pub mod unit;

@@ -38,7 +38,7 @@ fn covers(extent: Extent, file: u32, token: u32) -> bool
 }
 
 /// Whether the first extent lies inside the second.
-fn lies_inside(a: Extent, b: Extent) -> bool
+pub fn lies_inside(a: Extent, b: Extent) -> bool
     ensures { result ≡ lies_inside a b }
 {
     match (a, b) {
