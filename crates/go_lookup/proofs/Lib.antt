@@ -1,8 +1,7 @@
 pub mod Ascii
-pub mod Cells
-pub mod Groups
 pub mod Named
 pub mod Tables
 pub mod Stacks
 pub mod Sorting
 pub mod Walks
+pub mod Told

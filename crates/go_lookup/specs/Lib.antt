@@ -1,5 +1,4 @@
 pub mod Views
-pub mod Groups
 pub mod Tables
 pub mod Stacks
 pub mod Sorted

@@ -11,7 +11,6 @@ pub mod kinds;
 pub mod look_up;
 pub mod lookup;
 pub mod meaning;
-pub mod meant;
 pub mod scopes;
 pub mod sorted;
 pub mod sweep;

@@ -1,7 +1,8 @@
 // What names mean along the tokens of a file.
 
-ghost use Rattle.std.specs.Prelude.{◌≡◌, ◌≤◌, ℕ, List, ◌∷◌, IfOk, drop, map};
+ghost use Rattle.std.specs.Prelude.{◌≡◌, ◌≤◌, ℕ, List, ◌∷◌, IfOk, Some, drop, slice_get, map};
 ghost use Rattle.std.specs.Option.{option_map};
+ghost use Rattle.go_tokens.specs.Tokens.{TokenList};
 ghost use Rattle.go_tree.specs.declared.event.Event.{Event};
 ghost use Rattle.go_tree.specs.Meanings as meanings;
 ghost use Rattle.go_names.specs.Scopes.{locals_of, first_by, is_import, is_package, reached, AreSwept, AreNested, IsOrderly};
@@ -146,5 +147,15 @@ pub fn event_meanings<'a>(
     match sorted.locals(file) {
         None => meanings_along(alloc, sorted, &[], file, unit),
         Some(locals) => meanings_along(alloc, sorted, locals, file, unit),
+    }
+}
+
+/// What is told of the event of this number.
+pub fn told_at<'a>(told: &[Option<Meaning<'a>>], number: usize) -> Option<Meaning<'a>>
+    ensures { (ms : List meanings.Meaning) → (n : ℕ) → (ts : TokenList) → (es : List Event) → (e : Event) → map (option_map meaning_view) told.now ≡ event_meanings ms n ts es → slice_get es number ≡ Some e → option_map meaning_view result ≡ named_meaning ms n ts (name_of e) }
+{
+    match told.get(number) {
+        None => None,
+        Some(meaning) => *meaning,
     }
 }
