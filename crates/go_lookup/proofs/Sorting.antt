@@ -1,6 +1,5 @@
 -- One more meaning among those that are sorted by their blocks.
 use Rattle.std.proofs.Common.{◌≡◌, ℕ, Bool, true, false, ◌&&◌, if◌then◌else◌, nat_eq, cond, List, [], ◌∷◌, ◌++◌, Option, Some, None, refl, sym, ap, ◌∙◌, subst, arith}
-use Rattle.std.proofs.lemmas.Bool.Decides.{nat_tests}
 use Rattle.std.specs.Option.{option_map, option_eq}
 use Rattle.std.specs.Borrow.{Bor}
 use Rattle.go_tokens.specs.Spellings.{same_text}

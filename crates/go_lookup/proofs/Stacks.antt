@@ -1,5 +1,5 @@
 -- What a stack of blocks says, as blocks and names come and go.
-use Rattle.std.proofs.Common.{◌≡◌, ℕ, zero, suc, ◌+◌, ◌-◌, ◌<◌, ◌≤◌, ◌⊎◌, inl, inr, Bool, true, false, ◌&&◌, if◌then◌else◌, nat_eq, nat_lt, List, [], ◌∷◌, ◌++◌, Option, Some, None, refl, sym, ap, ◌∙◌, subst, arith, length, take, cond, slice_set, slice_index_or}
+use Rattle.std.proofs.Common.{◌≡◌, ℕ, zero, suc, ◌<◌, ◌≤◌, inl, inr, Bool, true, false, ◌&&◌, if◌then◌else◌, nat_eq, nat_lt, List, [], ◌∷◌, ◌++◌, Option, Some, None, refl, sym, ap, ◌∙◌, arith, length, take, cond, slice_set, slice_index_or}
 use Rattle.std.proofs.lemmas.Bool.Decides.{nat_tests}
 use Rattle.std.specs.Option.{option_map}
 use Rattle.std.specs.Borrow.{Bor}
@@ -11,15 +11,13 @@ use Rattle.indexmap.specs.IndexMap.{get}
 use Rattle.go_tokens.specs.Spellings.{same_text}
 use Rattle.go_tree.specs.declared.context.Scope.{Scope}
 use Rattle.go_tree.specs.Meanings.{Meaning, covers, lies_inside}
-use Rattle.go_names.specs.Orders.{Nests}
-use Rattle.go_names.specs.Scopes.{is_local, inner, over, inmost, otherwise, scope_of, Each}
-use Rattle.go_names.proofs.Sweeps.{over_ended, over_later}
+use Rattle.go_names.specs.Scopes.{is_local, inner, over, otherwise, scope_of}
 use Rattle.go_lookup.specs.declared.scopes.Block.{Block}
 use Rattle.go_lookup.specs.declared.meaning.Meaning as own
 use Rattle.go_tree.specs.declared.object.Extent.{Extent}
 use Rattle.go_tree.specs.declared.object.Extent.TheVariants as extent
 use Rattle.go_lookup.specs.Views.{meaning_view}
-use Rattle.go_lookup.specs.Stacks.{same_name, said_in, said_by, said, with_one, ended_by, EachEnd, Parts, ArePartedBy, AreParted, AreReady, BeginBehind, IsSweeping}
+use Rattle.go_lookup.specs.Stacks.{same_name, said_in, said_by, said, with_one, ended_by, EachEnd, Parts, ArePartedBy, AreParted}
 
 pub one_text : (a b : List ℕ) → pointwise nat_eq a b ≡ same_text a b
 one_text [] [] = refl

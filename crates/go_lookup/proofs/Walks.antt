@@ -1,7 +1,7 @@
 -- A walk along the tokens of a file, while blocks end and scopes begin.
-use Rattle.std.proofs.Common.{◌≡◌, ℕ, zero, suc, length, drop, ◌<◌, ◌≤◌, ◌⊎◌, inl, inr, Bool, true, List, [], ◌∷◌, ◌++◌, map, Option, Some, None, refl, sym, ap, ◌∙◌, subst, arith}
+use Rattle.std.proofs.Common.{◌≡◌, ℕ, zero, suc, length, drop, ◌<◌, ◌≤◌, inl, inr, true, List, [], ◌∷◌, ◌++◌, map, Option, Some, None, refl, sym, ap, ◌∙◌, subst, arith}
 use Rattle.std.specs.Borrow.{Bor}
-use Rattle.go_tree.specs.Meanings.{Meaning, meaning_at}
+use Rattle.go_tree.specs.Meanings.{Meaning}
 use Rattle.go_tree.specs.declared.context.Scope.{Scope}
 use Rattle.go_tree.specs.declared.event.Event.{Event}
 use Rattle.go_tree.specs.declared.event.Event.TheVariants as event
@@ -10,7 +10,7 @@ use Rattle.go_names.specs.Scopes.{is_local, locals_of, over, inmost, scope_of, E
 use Rattle.go_names.proofs.Sweeps.{over_later, locals_are}
 use Rattle.go_lookup.specs.declared.scopes.Block.{Block}
 use Rattle.go_lookup.specs.Stacks.{said, EachEnd, Parts, ArePartedBy, AreParted, AreReady, BeginBehind, IsSweeping}
-use Rattle.go_lookup.specs.Sorted.{name_of, IsReached, IsUnderway}
+use Rattle.go_lookup.specs.Sorted.{name_of}
 use Rattle.go_lookup.proofs.Stacks.{parted_head, parted_tail}
 
 each_more : (P Q : Meaning → Type 0) (ms : List Meaning) → ((m : Meaning) → P m → Q m) → Each P ms → Each Q ms
@@ -23,17 +23,17 @@ are_ready n i (m ∷ ms) l s h = (l.0, s.2, h.0, are_ready n (token_of m.source)
 
 pub sweep_start : (n : ℕ) (ms : List Meaning) → AreSwept 0 (locals_of n ms) → AreNested (locals_of n ms) → IsSweeping n 0 (locals_of n ms) [] (locals_of n ms)
 sweep_start n ms s h = record {
-    says = λ u w le. refl;
-    parted = tt;
-    ready = are_ready n 0 (locals_of n ms) (locals_are n ms) s h;
-  }
+  says = λ u w le. refl;
+  parted = tt;
+  ready = are_ready n 0 (locals_of n ms) (locals_are n ms) s h;
+}
 
 pub sweep_leave : (n i t : ℕ) (all : List Meaning) (bs cs : List Block) (left : List Meaning) → i ≤ t → ((u : ℕ) (w : Bor (List ℕ)) → t ≤ u → said cs u w ≡ said bs u w) → ((ms : List Meaning) → AreParted bs ms → AreParted cs ms) → IsSweeping n i all bs left → IsSweeping n t all cs left
 sweep_leave n i t all bs cs left le f g s = record {
-    says = λ u w h. ap (λ o. inmost n u w.now o left) (f u w h) ∙ s.says u w (omega (arith, le, h));
-    parted = g left s.parted;
-    ready = s.ready;
-  }
+  says = λ u w h. ap (λ o. inmost n u w.now o left) (f u w h) ∙ s.says u w (omega (arith, le, h));
+  parted = g left s.parted;
+  ready = s.ready;
+}
 
 parts_by : (r s : Scope) → Nests r s → Parts r.to s
 parts_by r s (inl a) = inl a
@@ -45,10 +45,10 @@ Enters t m bs cs = (n u : ℕ) (w : Bor (List ℕ)) → is_local n m.extent ≡ 
 
 pub sweep_enter : (n t : ℕ) (all : List Meaning) (bs cs : List Block) (m : Meaning) (left : List Meaning) → (scope_of m.extent).from ≤ t → Enters t m bs cs → ((ms : List Meaning) → AreParted bs ms → ArePartedBy ms (scope_of m.extent).to → AreParted cs ms) → IsSweeping n t all bs (m ∷ left) → IsSweeping n t all cs left
 sweep_enter n t all bs cs m left le f g s = record {
-    says = λ u w h. ap (λ o. inmost n u w.now o left) (f n u w s.ready.0 le h (parted_head bs m left s.parted)) ∙ s.says u w h;
-    parted = g left (parted_tail bs m left s.parted) (each_more (λ x. Nests (scope_of m.extent) (scope_of x.extent)) (λ x. Parts (scope_of m.extent).to (scope_of x.extent)) left (λ x. parts_by (scope_of m.extent) (scope_of x.extent)) s.ready.2);
-    ready = s.ready.3;
-  }
+  says = λ u w h. ap (λ o. inmost n u w.now o left) (f n u w s.ready.0 le h (parted_head bs m left s.parted)) ∙ s.says u w h;
+  parted = g left (parted_tail bs m left s.parted) (each_more (λ x. Nests (scope_of m.extent) (scope_of x.extent)) (λ x. Parts (scope_of m.extent).to (scope_of x.extent)) left (λ x. parts_by (scope_of m.extent) (scope_of x.extent)) s.ready.2);
+  ready = s.ready.3;
+}
 
 begins_later : (t : ℕ) (r s : Scope) → t < r.from → r.from ≤ r.to → Nests r s → t < s.from
 begins_later t r s lt le (inl a) = omega (arith, lt, le, a)

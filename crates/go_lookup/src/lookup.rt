@@ -13,9 +13,9 @@ use crate::meaning::Meaning;
 use crate::sweep::told_at;
 use crate::unit::{Unit, bytes_at, bytes_of, is_blank, word};
 use go_base::Span;
+use go_tokens::tokens::Tokens;
 use go_tree::context::Role;
 use go_tree::event::{Event, Use};
-use go_tokens::tokens::Tokens;
 use std::alloc::AllocError;
 
 /// A name that is looked up.
@@ -56,12 +56,7 @@ fn selected_of(tokens: &Tokens, role: Role) -> &[u8]
 }
 
 /// A name that is looked up, which means this.
-fn ask<'a>(
-    file: u32,
-    tokens: &'a Tokens,
-    lookup: &Use,
-    meaning: Option<Meaning<'a>>,
-) -> Asked<'a>
+fn ask<'a>(file: u32, tokens: &'a Tokens, lookup: &Use, meaning: Option<Meaning<'a>>) -> Asked<'a>
     ensures { (ms : List meanings.Meaning) → option_map meaning_view meaning.entry ≡ meaning_at ms file lookup.now.name (word tokens.entry.now lookup.now.name) → asked_view result ≡ asked ms file tokens.entry.now lookup.now }
 {
     Asked {

@@ -8,10 +8,10 @@ ghost use Rattle.go_lookup.specs.Views.{unit_view, units_view, found_view, meani
 use crate::found::Found;
 use crate::unit::{Unit, is_fmt_path};
 use go_base::Memory;
+use go_names::predeclared::predeclared_object;
 use go_tree::context::{Block, Entity};
 use go_tree::event::{Declaration, Event};
 use go_tree::object::{Extent, Object};
-use go_names::predeclared::predeclared_object;
 use std::alloc::{AllocError, Global};
 
 /// A name with a meaning.

@@ -11,9 +11,9 @@ ghost use Rattle.go_lookup.specs.Sorted.{name_of, named_meaning, event_meanings}
 use crate::meaning::{Meaning, object_by};
 use crate::sweep::told_at;
 use crate::unit::{Unit, is_blank, word};
+use go_tokens::tokens::Tokens;
 use go_tree::event::Event;
 use go_tree::object::Object;
-use go_tokens::tokens::Tokens;
 use std::alloc::{AllocError, Global};
 use std::collections::HashMap;
 

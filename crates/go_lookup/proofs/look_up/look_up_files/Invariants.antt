@@ -7,6 +7,6 @@ use Rattle.go_lookup.proofs.look_up.look_up_files.Given as goal
 
 abbrev pub invariant-loop-number : goal.invariant-loop-number
 invariant-loop-number l = record {
-    asked : map asked_view l.asked.items ++ asked_from (all_of l.sorted) l.number (units_view (drop l.number l.units)) ≡ asked_from (all_of l.sorted) 0 (units_view l.units);
-    objects : map (λ v. v.items) l.objects.items ++ objects_from (all_of l.sorted) l.number (units_view (drop l.number l.units)) ≡ objects_from (all_of l.sorted) 0 (units_view l.units)
-  }
+  asked : map asked_view l.asked.items ++ asked_from (all_of l.sorted) l.number (units_view (drop l.number l.units)) ≡ asked_from (all_of l.sorted) 0 (units_view l.units);
+  objects : map (λ v. v.items) l.objects.items ++ objects_from (all_of l.sorted) l.number (units_view (drop l.number l.units)) ≡ objects_from (all_of l.sorted) 0 (units_view l.units);
+}

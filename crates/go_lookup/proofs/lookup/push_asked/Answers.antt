@@ -1,4 +1,4 @@
-use Rattle.std.proofs.Common.{◌≡◌, ◌∙◌, ◌++◌, ◌∷◌, ℕ, ◌+◌, ◌<◌, length, drop, slice_index_or, Some, sym, ap, map, append_assoc, arith}
+use Rattle.std.proofs.Common.{◌≡◌, ◌∙◌, ◌++◌, ◌∷◌, ◌+◌, ◌<◌, length, drop, slice_index_or, Some, sym, ap, map, append_assoc, arith}
 use Rattle.std.specs.Prelude.{slice_get}
 use Rattle.std.specs.Option.{option_map, option_to_list}
 use Rattle.go_tree.specs.declared.event.Event.{Event}
@@ -25,7 +25,7 @@ loop-number-preserved c ms told =
     let asked = c.asked_by.ensures ms (asked_in ms n ts rest) (c.told_at.ensures ms n ts events e told some) in
     let out = c.loop-number.out.items in
     let more : map asked_view c.match-asked_by.out.items ≡ map asked_view out ++ option_to_list (option_map asked_view r) = elim c.match-asked_by.branch [
-      in-Some+in_ok-push w ↦ out_some asked_view out c.match-asked_by.out.items r _ (ap (λ v. v.items) w.out-is ∙ w.in_ok-push.ensures.items) w.in-Some.is
+      | in-Some+in_ok-push w ↦ out_some asked_view out c.match-asked_by.out.items r _ (ap (λ v. v.items) w.out-is ∙ w.in_ok-push.ensures.items) w.in-Some.is
       | in_default w ↦ ap (λ v. map asked_view v.items) w.out-is ∙ out_none asked_view out r w.in_default.is
     ] in
     ap (λ l. l ++ asked_in ms n ts rest) more

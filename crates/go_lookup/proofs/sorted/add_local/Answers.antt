@@ -1,9 +1,9 @@
-use Rattle.std.proofs.Common.{◌≡◌, ℕ, Bool, true, false, nat_eq, ◌∷◌, [], ◌++◌, List, Some, None, ◌∙◌, cond, ap, sym, refl, map, arith, subst}
+use Rattle.std.proofs.Common.{◌≡◌, ℕ, true, false, nat_eq, ◌∷◌, [], ◌++◌, List, Some, None, ◌∙◌, cond, ap, refl, map, arith}
 use Rattle.std.proofs.lemmas.List.{map-append}
 use Rattle.std.proofs.lemmas.Bool.Decides.{nat_tests}
 use Rattle.std.specs.HashMap.{get}
 use Rattle.go_tree.specs.Meanings.{Meaning}
-use Rattle.go_names.specs.Scopes.{is_local, locals_of}
+use Rattle.go_names.specs.Scopes.{is_local}
 use Rattle.go_lookup.specs.Views.{meaning_view}
 use Rattle.go_lookup.specs.Sorted.{items_of}
 use Rattle.go_lookup.proofs.Sorting.{local_step, not_local}

@@ -1,11 +1,11 @@
-use Rattle.std.proofs.Common.{◌≡◌, ◌&&◌, ◌∷◌, Bool, cond, Option, Some, ◌∙◌, ap, sym}
+use Rattle.std.proofs.Common.{◌≡◌, ◌&&◌, Bool, cond, Option, Some, ◌∙◌, ap, sym}
 use Rattle.std.specs.Option.{option_map}
 use Rattle.std.specs.HashMap.{get}
 use Rattle.go_tokens.specs.Spellings.{same_text}
 use Rattle.go_names.specs.Scopes.{first_by}
 use Rattle.go_lookup.specs.declared.meaning.Meaning as own
 use Rattle.go_lookup.specs.Views.{meaning_view}
-use Rattle.go_lookup.specs.Sorted.{in_block, outer_by, same_outer}
+use Rattle.go_lookup.specs.Sorted.{in_block, same_outer}
 use Rattle.go_lookup.proofs.Sorting.{outer_key, outer_put}
 use Rattle.go_lookup.proofs.sorted.add_outer.Goals as goal
 

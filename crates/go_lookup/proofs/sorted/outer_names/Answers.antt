@@ -1,4 +1,4 @@
-use Rattle.std.proofs.Common.{arith, ◌≡◌, ◌-◌, ◌∷◌, ◌∙◌, ap, sym, map, drop, subst}
+use Rattle.std.proofs.Common.{arith, ◌≡◌, ◌-◌, ◌∷◌, ◌∙◌, sym, map, drop, subst}
 use Rattle.go_names.specs.Scopes.{first_by}
 use Rattle.go_lookup.specs.Views.{meaning_view}
 use Rattle.go_lookup.specs.Sorted.{in_block, KnowsOuter}

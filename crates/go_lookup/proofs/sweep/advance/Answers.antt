@@ -1,4 +1,4 @@
-use Rattle.std.proofs.Common.{◌≡◌, ◌<◌, ◌≤◌, ◌+◌, ◌∷◌, [], ◌∙◌, ap, sym, map, drop, length, subst, refl, arith}
+use Rattle.std.proofs.Common.{◌≡◌, ◌<◌, ◌≤◌, ◌+◌, ◌∷◌, [], ◌∙◌, sym, map, drop, length, subst, refl, arith}
 use Rattle.go_names.specs.Scopes.{scope_of}
 use Rattle.go_lookup.specs.Views.{meaning_view}
 use Rattle.go_lookup.specs.Stacks.{IsSweeping, BeginBehind}

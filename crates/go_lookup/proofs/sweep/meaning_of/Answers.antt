@@ -1,4 +1,4 @@
-use Rattle.std.proofs.Common.{◌≡◌, ◌∙◌, Some, sym, ap, subst}
+use Rattle.std.proofs.Common.{◌∙◌, sym, ap, subst}
 use Rattle.go_tree.specs.Meanings.{meaning_at}
 use Rattle.go_names.specs.Scopes.{locals_of, reached, first_by, is_import, is_package}
 use Rattle.go_names.proofs.Innermost.{meaning_reached}

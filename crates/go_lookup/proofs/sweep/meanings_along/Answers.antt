@@ -1,4 +1,4 @@
-use Rattle.std.proofs.Common.{◌≡◌, ◌∙◌, ◌++◌, ◌∷◌, [], ℕ, suc, ◌+◌, ◌<◌, length, drop, slice_index_or, Some, sym, ap, subst, map, refl, arith}
+use Rattle.std.proofs.Common.{◌≡◌, ◌∙◌, ◌++◌, ◌∷◌, [], suc, ◌+◌, ◌<◌, length, drop, slice_index_or, sym, ap, subst, map, arith}
 use Rattle.std.proofs.Math.Seq.{drop-cons}
 use Rattle.go_tree.specs.declared.event.Event.{Event}
 use Rattle.go_tree.specs.declared.event.Event.TheVariants as event
@@ -45,9 +45,9 @@ loop-event-preserved c =
     let out = map (option_map meaning_view) c.loop-event.out.items in
     record {
       told = ap (λ l. map (option_map meaning_view) l ++ event_meanings ms n ts rest) c.in_ok-push.ensures.items
-      ∙ map_push (option_map meaning_view) c.loop-event.out.items c.meaning_of.result (event_meanings ms n ts rest)
-      ∙ ap (λ o. out ++ (o ∷ event_meanings ms n ts rest)) meaning
-      ∙ ap (λ l. out ++ event_meanings ms n ts l) (sym back)
-      ∙ c.loop-event.invariant.told;
+          ∙ map_push (option_map meaning_view) c.loop-event.out.items c.meaning_of.result (event_meanings ms n ts rest)
+          ∙ ap (λ o. out ++ (o ∷ event_meanings ms n ts rest)) meaning
+          ∙ ap (λ l. out ++ event_meanings ms n ts l) (sym back)
+          ∙ c.loop-event.invariant.told;
       underway = now.1;
     }

@@ -1,4 +1,4 @@
-use Rattle.std.proofs.Common.{rules, arith, ◌≡◌, ◌-◌, ◌<◌, ◌∷◌, ◌∙◌, ap, sym, length, drop, replicate, Some, None, []}
+use Rattle.std.proofs.Common.{rules, arith, ◌≡◌, ◌-◌, ◌<◌, ◌∙◌, ap, sym, length, drop, replicate, Some, None, []}
 use Rattle.std.specs.Prelude.{slice_get}
 use Rattle.std.proofs.Math.Seq.{drop-length}
 use Rattle.go_tree.specs.Meanings.{token_objects}

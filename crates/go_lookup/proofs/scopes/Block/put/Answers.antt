@@ -1,8 +1,6 @@
-use Rattle.std.proofs.Common.{◌≡◌, ◌&&◌, ap, ◌∙◌, nat_lt, cond, Some}
-use Rattle.std.specs.Option.{option_map}
+use Rattle.std.proofs.Common.{nat_lt}
 use Rattle.indexmap.specs.IndexMap.{get}
 use Rattle.go_tokens.specs.Spellings.{same_text}
-use Rattle.go_lookup.specs.Views.{meaning_view}
 use Rattle.go_lookup.specs.Stacks.{same_name}
 use Rattle.go_lookup.proofs.Stacks.{one_text, block_step}
 use Rattle.go_lookup.proofs.scopes.Block.put.Goals as goal

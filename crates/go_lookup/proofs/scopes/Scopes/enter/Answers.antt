@@ -1,12 +1,12 @@
-use Rattle.std.proofs.Common.{◌≡◌, ◌≤◌, ◌∙◌, ℕ, true, false, List, if◌then◌else◌, Option, Some, None, refl, sym, ap}
+use Rattle.std.proofs.Common.{◌≡◌, ◌∙◌, ℕ, true, List, if◌then◌else◌, Option, Some, None, sym, ap}
 use Rattle.std.specs.Borrow.{Bor}
 use Rattle.std.specs.Option.{option_map}
 use Rattle.indexmap.proofs.MapLemmas.{OnOk-map}
 use Rattle.go_tokens.specs.Spellings.{same_text}
-use Rattle.go_tree.specs.Meanings.{Meaning, lies_inside}
-use Rattle.go_names.specs.Scopes.{is_local, inner, over, scope_of}
+use Rattle.go_tree.specs.Meanings.{Meaning}
+use Rattle.go_names.specs.Scopes.{inner}
 use Rattle.go_lookup.specs.Views.{meaning_view}
-use Rattle.go_lookup.specs.Stacks.{said, with_one, same_name, EachEnd, Parts}
+use Rattle.go_lookup.specs.Stacks.{said, with_one}
 use Rattle.go_lookup.proofs.Stacks.{over_kept, over_put, said_alike, one_text}
 use Rattle.go_lookup.proofs.scopes.Scopes.enter.Goals as goal
 use Rattle.go_lookup.proofs.scopes.Scopes.enter.Goals.{in-Some+else-lies_inside, in_default}

@@ -1,7 +1,6 @@
-use Rattle.std.proofs.Common.{◌≡◌, ◌-◌, ◌+◌, ◌∙◌, ℕ, suc, List, ap, sym, take, length, Some, None, true, refl, arith, length-take}
-use Rattle.std.specs.Borrow.{Bor}
+use Rattle.std.proofs.Common.{◌≡◌, ◌-◌, ◌∙◌, suc, ap, sym, take, length, None, refl, arith, length-take}
 use Rattle.go_names.specs.Scopes.{otherwise}
-use Rattle.go_lookup.specs.Stacks.{said, said_in, same_name}
+use Rattle.go_lookup.specs.Stacks.{said, said_in}
 use Rattle.go_lookup.proofs.Stacks.{said_last, said_alike, alike}
 use Rattle.go_lookup.proofs.scopes.Scopes.find.Goals as goal
 
@@ -28,9 +27,9 @@ loop-left-preserved c =
     let here : said left t v ≡ said front t v = said_last t v left (length left - 1) c.block-item.result None last c.block-item.is ∙ ap (λ o. otherwise o (said front t v)) none in
     record {
       says = λ w e.
-        sym (said_alike front t v w None (alike v w (sym e)))
-        ∙ sym here
-        ∙ c.loop-left.invariant.says v refl
-        ∙ said_alike c.deref-left.result.now t v w None (alike v w (sym e));
+          sym (said_alike front t v w None (alike v w (sym e)))
+          ∙ sym here
+          ∙ c.loop-left.invariant.says v refl
+          ∙ said_alike c.deref-left.result.now t v w None (alike v w (sym e));
       fewer = omega (arith, length-take (length left - 1) left, c.loop-left.invariant.fewer);
     }

@@ -1,7 +1,7 @@
-use Rattle.std.proofs.Common.{◌≡◌, ◌<◌, ◌-◌, ◌∙◌, ℕ, suc, List, ap, sym, take, length, Some, None, true, subst, arith}
+use Rattle.std.proofs.Common.{◌≡◌, ◌<◌, ◌-◌, ◌∙◌, suc, ap, sym, length, None, true, subst, arith}
 use Rattle.std.specs.Prelude.{slice_get}
 use Rattle.std.specs.Vec.{vec_len}
-use Rattle.go_lookup.specs.Stacks.{said, ended_by, AreParted, ArePartedBy, EachEnd}
+use Rattle.go_lookup.specs.Stacks.{said, ended_by, AreParted, ArePartedBy}
 use Rattle.go_lookup.proofs.Stacks.{said_left, ends_take, ended_there}
 use Rattle.go_lookup.proofs.scopes.Scopes.leave.Goals as goal
 

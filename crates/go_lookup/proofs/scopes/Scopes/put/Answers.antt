@@ -1,10 +1,9 @@
-use Rattle.std.proofs.Common.{◌≡◌, ◌-◌, ◌∙◌, ◌++◌, ◌∷◌, [], ℕ, suc, List, ap, sym, take, length, slice_set, Some, None, true, refl, arith, subst}
+use Rattle.std.proofs.Common.{◌≡◌, ◌-◌, ◌∙◌, ◌++◌, ◌∷◌, [], suc, ap, sym, length, slice_set, None, arith, subst}
 use Rattle.std.specs.Vec.{vec_len}
 use Rattle.std.specs.Map.{lookup}
 use Rattle.std.specs.Prelude.{nat_lt, ◌&&◌}
 use Rattle.go_tokens.specs.Spellings.{same_text}
 use Rattle.std.proofs.lemmas.List.{set-get_or}
-use Rattle.std.specs.Borrow.{Bor}
 use Rattle.go_names.specs.Scopes.{otherwise}
 use Rattle.go_lookup.specs.Views.{meaning_view}
 use Rattle.go_lookup.specs.Stacks.{said, said_in, same_name, with_one, ArePartedBy, AreParted}
@@ -36,7 +35,7 @@ returns-clause-said c t w =
     ∙ said_append bs c.put-2.new.self t w None
     ∙ ap (λ o. otherwise o (said bs t w)) (c.in_ok-put-2.ensures.names t w ∙ ap (with_one c.args.end m t w) (said_empty (record { end = c.args.end; names = c.new.result }) t w (ap (λ es. lookup (same_name w) es) c.new.ensures.empty)))
     ∙ with_otherwise (nat_lt t c.args.end && same_text m.name w.now) m None (said bs t w)
-    
+
 pub returns-clause-parted : goal.returns-clause-parted
 returns-clause-parted c ms h e =
     let bs = c.args.self.now.blocks.items in
