@@ -1,20 +1,19 @@
 // The local names of the blocks around a place of a file.
 
-ghost use Rattle.std.specs.Prelude.{true, ◌≡◌, ◌≤◌, ◌<◌, ℕ, List, [], IfOk, OnOk, Some, None, ◌-◌, length, slice_get, map};
+ghost use Rattle.std.specs.Prelude.{true, ◌≡◌, ◌≤◌, ℕ, ◌-◌, List, [], OnOk, length, slice_get};
 ghost use Rattle.std.specs.Option.{option_map};
 ghost use Rattle.std.specs.Borrow.{Bor};
-ghost use Rattle.go_tree.specs.Meanings.{lies_inside};
 ghost use Rattle.go_tree.specs.Meanings as meanings;
 ghost use Rattle.go_names.specs.Scopes.{is_local, over, scope_of};
 ghost use Rattle.go_lookup.specs.Views.{meaning_view};
-ghost use Rattle.go_lookup.specs.Stacks.{said_in, said, with_one, ended_by, AreParted, ArePartedBy, EachEnd, Parts, IsSweeping, BeginBehind};
+ghost use Rattle.go_lookup.specs.Stacks.{said_in, said, with_one, ended_by, AreParted, ArePartedBy, EachEnd, Parts};
 
 use crate::meaning::{Meaning, lies_inside};
 use go_base::Memory;
 use go_tree::context::Scope;
 use go_tree::object::Extent;
 use indexmap::IndexMap;
-use std::alloc::{AllocError, Global};
+use std::alloc::Global;
 
 /// A block, with those of its names whose scopes have begun.
 #[derive(Drop)]
@@ -125,6 +124,7 @@ impl<'a> Scopes<'a> {
         self.blocks.push(block)?;
         Ok(())
     }
+
     /// Enters a local name whose scope has begun: of those with equal scopes the first counts.
     pub fn enter(&mut self, alloc: Global, token: u32, meaning: &Meaning<'a>) -> Result<(), Memory>
         ensures over { OnOk result ((n u : ℕ) → (w : Bor (List ℕ)) → is_local n meaning.now.extent ≡ true → (scope_of meaning.now.extent).from ≤ token → token ≤ u → EachEnd (λ e. Parts e (scope_of meaning.now.extent)) self.old.blocks.items → said self.new.blocks.items u w ≡ over n u w.now (said self.old.blocks.items u w) (meaning_view meaning.now)) }
