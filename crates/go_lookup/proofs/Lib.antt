@@ -1,7 +1,9 @@
 pub mod Ascii
-pub mod Cells
-pub mod Groups
-pub mod Named
-pub mod Tables
 pub mod Behind
+pub mod Named
 pub mod Places
+pub mod Sorting
+pub mod Stacks
+pub mod Tables
+pub mod Told
+pub mod Walks

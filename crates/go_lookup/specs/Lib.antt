@@ -1,4 +1,5 @@
-pub mod Views
-pub mod Groups
-pub mod Tables
 pub mod Keys
+pub mod Sorted
+pub mod Stacks
+pub mod Tables
+pub mod Views

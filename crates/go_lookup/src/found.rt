@@ -10,9 +10,9 @@ ghost use Rattle.go_lookup.specs.Keys.{KnowsVariables};
 use crate::keys::{Key, add_variable, key_of};
 use crate::unit::{Unit, bytes_at, is_blank, word};
 use go_base::{Memory, Span};
+use go_tokens::tokens::Tokens;
 use go_tree::context::{Entity, Manner};
 use go_tree::event::{Declaration, Event};
-use go_tokens::tokens::Tokens;
 use indexmap::IndexMap;
 use std::alloc::{AllocError, Global};
 

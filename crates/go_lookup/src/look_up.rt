@@ -1,16 +1,18 @@
 // The look-up of all names of a package.
 
-ghost use Rattle.std.specs.Prelude.{◌≡◌, ◌≤◌, IfOk, length, map};
-ghost use Rattle.go_names.specs.Scopes.{AreOrderly};
+ghost use Rattle.std.specs.Prelude.{◌≡◌, ◌≤◌, ℕ, IfOk, length, map};
+ghost use Rattle.go_names.specs.Scopes.{locals_of, AreSwept, AreNested, AreOrderly};
 ghost use Rattle.go_tree.specs.Lookups.{asked_from};
-ghost use Rattle.go_tree.specs.Meanings.{declarations, meanings, objects};
+ghost use Rattle.go_tree.specs.Meanings.{declarations, meanings, objects, objects_from};
 ghost use Rattle.go_lookup.specs.Views.{units_view, found_view, asked_view};
+ghost use Rattle.go_lookup.specs.Sorted.{all_of, IsSorted};
 
 use crate::found::Found;
-use crate::lookup::{Asked, asked_names};
+use crate::lookup::{Asked, push_asked};
 use crate::meaning::meanings;
-use crate::meant::by_name;
-use crate::table::objects;
+use crate::sorted::{Sorted, by_block};
+use crate::sweep::event_meanings;
+use crate::table::{owners_of, token_objects};
 use crate::unit::Unit;
 use go_base::Memory;
 use go_tree::object::Object;
@@ -23,6 +25,31 @@ pub struct LookedUp<'a> {
     pub asked: Vec<Asked<'a>>,
     /// The objects of the tokens of each file.
     pub objects: Vec<Vec<Option<Object>>>,
+}
+
+/// What the names of the files mean, where the package has these meanings.
+fn look_up_files<'a>(
+    alloc: Global,
+    sorted: &Sorted<'a>,
+    units: &[Unit<'a>],
+) -> Result<LookedUp<'a>, Memory>
+    requires few { length units.now ≤ 256 }
+    requires sorted { IsSorted sorted.now }
+    requires locals { (n : ℕ) → AreSwept 0 (locals_of n (all_of sorted.now)) × AreNested (locals_of n (all_of sorted.now)) }
+    requires orderly { AreOrderly (units_view units.now) }
+    ensures asked { IfOk result (λ r. map asked_view r.asked.items ≡ asked_from (all_of sorted.now) 0 (units_view units.now)) }
+    ensures objects { IfOk result (λ r. map (λ v. v.items) r.objects.items ≡ objects_from (all_of sorted.now) 0 (units_view units.now)) }
+{
+    let owners = owners_of(alloc, &sorted.all)?;
+    let mut asked = Vec::new(alloc);
+    let mut objects = Vec::new(alloc);
+    for (number, unit) in units.iter().enumerate() {
+        let file = number as u32;
+        let told = event_meanings(alloc, sorted, file, unit)?;
+        push_asked(&mut asked, file, unit, &told)?;
+        objects.push(token_objects(alloc, &owners, file, unit, &told)?)?;
+    }
+    Ok(LookedUp { asked, objects })
 }
 
 /// What the names of a package with these declarations mean.
@@ -41,9 +68,6 @@ pub fn look_up<'a>(
     ensures asked { IfOk result (λ r. map asked_view r.asked.items ≡ asked_from (meanings (units_view units.now)) 0 (units_view units.now)) }
     ensures objects { IfOk result (λ r. map (λ v. v.items) r.objects.items ≡ objects (units_view units.now)) }
 {
-    let meant = by_name(alloc, meanings(alloc, units, declared)?)?;
-    Ok(LookedUp {
-        asked: asked_names(alloc, &meant, units)?,
-        objects: objects(alloc, &meant, units)?,
-    })
+    let sorted = by_block(alloc, meanings(alloc, units, declared)?)?;
+    look_up_files(alloc, &sorted, units)
 }

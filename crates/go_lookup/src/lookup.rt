@@ -1,19 +1,22 @@
 // The names that are looked up in a package.
 
-ghost use Rattle.std.specs.Prelude.{◌≡◌, ◌&&◌, ◌≤◌, ◌++◌, IfOk, OnOk, length, map, []};
-ghost use Rattle.std.specs.Option.{option_map};
-ghost use Rattle.go_tree.specs.Lookups.{whole_of, selected_of, asked, asked_in, asked_from};
-ghost use Rattle.go_lookup.specs.Views.{place_of, unit_view, units_view, meaning_view, asked_view};
-ghost use Rattle.go_lookup.specs.Groups.{IsGrouped, all_of};
+ghost use Rattle.std.specs.Prelude.{◌≡◌, ◌++◌, List, OnOk, map, []};
+ghost use Rattle.std.specs.Option.{option_map, option_to_list};
+ghost use Rattle.go_tree.specs.Lookups.{whole_of, selected_of, asked, asked_event, asked_in};
+ghost use Rattle.go_tree.specs.Lookups as rules;
+ghost use Rattle.go_tree.specs.Meanings.{word, meaning_at};
+ghost use Rattle.go_tree.specs.Meanings as meanings;
+ghost use Rattle.go_lookup.specs.Views.{place_of, unit_view, meaning_view, asked_view};
+ghost use Rattle.go_lookup.specs.Sorted.{name_of, named_meaning, event_meanings};
 
 use crate::meaning::Meaning;
-use crate::meant::{Meant, meaning_at};
+use crate::sweep::told_at;
 use crate::unit::{Unit, bytes_at, bytes_of, is_blank, word};
 use go_base::Span;
+use go_tokens::tokens::Tokens;
 use go_tree::context::Role;
 use go_tree::event::{Event, Use};
-use go_tokens::tokens::Tokens;
-use std::alloc::{AllocError, Global};
+use std::alloc::AllocError;
 
 /// A name that is looked up.
 #[derive(Clone, Copy, Debug)]
@@ -52,63 +55,52 @@ fn selected_of(tokens: &Tokens, role: Role) -> &[u8]
     }
 }
 
-/// A name that is looked up, with what it means.
-fn ask<'a>(
-    alloc: Global,
-    all: &Meant<'a>,
-    file: u32,
-    tokens: &'a Tokens,
-    lookup: &Use,
-) -> Result<Asked<'a>, AllocError>
-    requires { IsGrouped all.now }
-    ensures { IfOk result (λ a. asked_view a ≡ asked (all_of all.now) file tokens.now lookup.now) }
+/// A name that is looked up, which means this.
+fn ask<'a>(file: u32, tokens: &'a Tokens, lookup: &Use, meaning: Option<Meaning<'a>>) -> Asked<'a>
+    ensures { (ms : List meanings.Meaning) → option_map meaning_view meaning.entry ≡ meaning_at ms file lookup.now.name (word tokens.entry.now lookup.now.name) → asked_view result ≡ asked ms file tokens.entry.now lookup.now }
 {
-    let name = word(tokens, lookup.name);
-    Ok(Asked {
+    Asked {
         file,
-        name,
+        name: word(tokens, lookup.name),
         place: bytes_at(file, tokens, lookup.name),
         whole: whole_of(file, tokens, lookup.name, lookup.role),
         selected: selected_of(tokens, lookup.role),
-        meaning: meaning_at(alloc, all, file, lookup.name, name)?,
+        meaning,
         lookup: *lookup,
-    })
+    }
 }
 
-/// The names that are looked up in a file, behind those that were found.
-fn push_asked<'a>(
-    alloc: Global,
+/// The name that is looked up by the event, if one is: the blank identifier isn't.
+fn asked_by<'a>(
+    file: u32,
+    tokens: &'a Tokens,
+    event: &Event,
+    meaning: Option<Meaning<'a>>,
+) -> Option<Asked<'a>>
+    ensures { (ms : List meanings.Meaning) → (asks : List rules.Asked) → option_map meaning_view meaning.entry ≡ named_meaning ms file tokens.entry.now (name_of event.now) → asked_event ms file tokens.entry.now event.now asks ≡ option_to_list (option_map asked_view result) ++ asks }
+{
+    let Event::Use(lookup) = event else {
+        return None;
+    };
+    if is_blank(word(tokens, lookup.name)) {
+        return None;
+    }
+    Some(ask(file, tokens, lookup, meaning))
+}
+
+/// The names that are looked up in a file, behind those that were found. Its events' names mean what is told.
+pub fn push_asked<'a>(
     out: &mut Vec<Asked<'a>>,
-    all: &Meant<'a>,
     file: u32,
     unit: &Unit<'a>,
+    told: &[Option<Meaning<'a>>],
 ) -> Result<(), AllocError>
-    requires { IsGrouped all.now }
-    ensures { OnOk result (map asked_view out.new.items ≡ map asked_view out.old.items ++ asked_in (all_of all.now) file (unit_view unit.now).tokens (unit_view unit.now).events) }
+    ensures { OnOk result ((ms : List meanings.Meaning) → map (option_map meaning_view) told.now ≡ event_meanings ms file (unit_view unit.now).tokens (unit_view unit.now).events → map asked_view out.new.items ≡ map asked_view out.old.items ++ asked_in ms file (unit_view unit.now).tokens (unit_view unit.now).events) }
 {
-    for event in &unit.events {
-        if let Event::Use(lookup) = event {
-            if !is_blank(word(unit.tokens, lookup.name)) {
-                out.push(ask(alloc, all, file, unit.tokens, lookup)?)?;
-            }
+    for (number, event) in unit.events.iter().enumerate() {
+        if let Some(asked) = asked_by(file, unit.tokens, event, told_at(told, number)) {
+            out.push(asked)?;
         }
     }
     Ok(())
-}
-
-/// The names that are looked up in the files.
-pub fn asked_names<'a>(
-    alloc: Global,
-    all: &Meant<'a>,
-    units: &[Unit<'a>],
-) -> Result<Vec<Asked<'a>>, AllocError>
-    requires few { length units.now ≤ 256 }
-    requires grouped { IsGrouped all.now }
-    ensures { IfOk result (λ v. map asked_view v.items ≡ asked_from (all_of all.now) 0 (units_view units.now)) }
-{
-    let mut out = Vec::new(alloc);
-    for (file, unit) in units.iter().enumerate() {
-        push_asked(alloc, &mut out, all, file as u32, unit)?;
-    }
-    Ok(out)
 }

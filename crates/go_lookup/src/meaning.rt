@@ -2,16 +2,16 @@
 
 ghost use Rattle.std.specs.Prelude.{◌≡◌, ◌≤◌, ◌<◌, ◌-◌, ◌^◌, ◌++◌, IfOk, OnOk, length, map};
 ghost use Rattle.std.specs.Option.{option_map};
-ghost use Rattle.go_tree.specs.Meanings.{covers, lies_inside, extent_of, first_numbers, own_number, is_function, behind_shared, numbers_behind, numbered, imports_fmt, imported_from, meanings, covering, is_innermost, innermost, predeclared_object, object_by, is_declared_at};
+ghost use Rattle.go_tree.specs.Meanings.{lies_inside, extent_of, first_numbers, own_number, is_function, behind_shared, numbers_behind, numbered, imports_fmt, imported_from, meanings, predeclared_object, object_by, is_declared_at};
 ghost use Rattle.go_lookup.specs.Views.{unit_view, units_view, found_view, meaning_view, numbers_view};
 
 use crate::found::Found;
-use crate::unit::{Unit, is_fmt_path, same};
+use crate::unit::{Unit, is_fmt_path};
 use go_base::Memory;
+use go_names::predeclared::predeclared_object;
 use go_tree::context::{Block, Entity};
 use go_tree::event::{Declaration, Event};
 use go_tree::object::{Extent, Object};
-use go_names::predeclared::predeclared_object;
 use std::alloc::{AllocError, Global};
 
 /// A name with a meaning.
@@ -24,21 +24,8 @@ pub struct Meaning<'a> {
     pub source: Option<Found<'a>>,
 }
 
-/// Whether the extent has the token of the file.
-fn covers(extent: Extent, file: u32, token: u32) -> bool
-    ensures { result ≡ covers extent file token }
-{
-    match extent {
-        Extent::Everywhere => true,
-        Extent::Throughout(own) => own == file,
-        Extent::Between { file: own, scope } => {
-            own == file && scope.from <= token && token < scope.to
-        }
-    }
-}
-
 /// Whether the first extent lies inside the second.
-fn lies_inside(a: Extent, b: Extent) -> bool
+pub fn lies_inside(a: Extent, b: Extent) -> bool
     ensures { result ≡ lies_inside a b }
 {
     match (a, b) {
@@ -189,48 +176,6 @@ pub fn meanings<'a>(
     let mut out = imported(alloc, units)?;
     push_numbered(&mut out, declarations)?;
     Ok(out)
-}
-
-/// The meanings of the name that cover the token of the file, behind others.
-pub fn push_covering<'a>(
-    out: &mut Vec<Meaning<'a>>,
-    all: &[Meaning<'a>],
-    file: u32,
-    token: u32,
-    name: &[u8],
-) -> Result<(), AllocError>
-    ensures { OnOk result (map meaning_view out.new.items ≡ map meaning_view out.old.items ++ covering file token name.now (map meaning_view all.now)) }
-{
-    for meaning in all {
-        if same(meaning.name, name) && covers(meaning.extent, file, token) {
-            out.push(*meaning)?;
-        }
-    }
-    Ok(())
-}
-
-/// Whether the extent lies inside those of all meanings.
-fn is_innermost(extent: Extent, among: &[Meaning<'_>]) -> bool
-    ensures { result ≡ is_innermost extent (map meaning_view among.now) }
-{
-    for other in among {
-        if !lies_inside(extent, other.extent) {
-            return false;
-        }
-    }
-    true
-}
-
-/// The first meaning whose extent lies inside all others.
-pub fn innermost<'a>(among: &[Meaning<'a>]) -> Option<Meaning<'a>>
-    ensures { option_map meaning_view result ≡ innermost (map meaning_view among.now) }
-{
-    for meaning in among {
-        if is_innermost(meaning.extent, among) {
-            return Some(*meaning);
-        }
-    }
-    None
 }
 
 /// What the name means with this declared meaning, or without one.

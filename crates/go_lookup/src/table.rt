@@ -1,25 +1,27 @@
 // The objects of the tokens of each file.
 
-ghost use Rattle.std.specs.Prelude.{◌≡◌, ◌≤◌, IfOk, OnOk, None, length, map, replicate, set};
-ghost use Rattle.go_tree.specs.Meanings.{own_object, token_objects, objects_from};
+ghost use Rattle.std.specs.Prelude.{◌≡◌, ℕ, List, IfOk, None, length, map, replicate, set};
+ghost use Rattle.std.specs.Option.{option_map};
+ghost use Rattle.go_tree.specs.Meanings.{meaning_at, object_at, own_object, token_objects};
+ghost use Rattle.go_tree.specs.Meanings as meanings;
 ghost use Rattle.go_lookup.specs.Tables.{Owns, over_event};
-ghost use Rattle.go_lookup.specs.Views.{unit_view, units_view, meaning_view};
-ghost use Rattle.go_lookup.specs.Groups.{IsGrouped, all_of};
+ghost use Rattle.go_lookup.specs.Views.{unit_view, meaning_view};
+ghost use Rattle.go_lookup.specs.Sorted.{name_of, named_meaning, event_meanings};
 
-use crate::meaning::Meaning;
-use crate::meant::{Meant, object_at};
-use crate::unit::{Unit, word};
+use crate::meaning::{Meaning, object_by};
+use crate::sweep::told_at;
+use crate::unit::{Unit, is_blank, word};
+use go_tokens::tokens::Tokens;
 use go_tree::event::Event;
 use go_tree::object::Object;
-use go_tokens::tokens::Tokens;
 use std::alloc::{AllocError, Global};
 use std::collections::HashMap;
 
 /// The objects that declarations declare, by the number of the file and that of the token.
-type Owners = HashMap<(u32, u32), Object>;
+pub type Owners = HashMap<(u32, u32), Object>;
 
 /// The objects of the declarations; of several at one place the first.
-fn owners_of(alloc: Global, all: &[Meaning<'_>]) -> Result<Owners, AllocError>
+pub fn owners_of(alloc: Global, all: &[Meaning<'_>]) -> Result<Owners, AllocError>
     ensures { IfOk result (λ m. Owns m (map meaning_view all.now)) }
 {
     let mut owners = HashMap::new(alloc);
@@ -32,22 +34,29 @@ fn owners_of(alloc: Global, all: &[Meaning<'_>]) -> Result<Owners, AllocError>
     Ok(owners)
 }
 
+/// What a name means, by its declared or imported meaning.
+fn named_object(name: &[u8], meaning: Option<Meaning<'_>>) -> Option<Object>
+    ensures { (ms : List meanings.Meaning) → (n t : ℕ) → option_map meaning_view meaning.entry ≡ meaning_at ms n t name.now → result ≡ object_at ms n t name.now }
+{
+    if is_blank(name) {
+        return None;
+    }
+    object_by(name, meaning)
+}
+
 /// The object that a declaration at the token declares, if it does; else the one that its name means there.
 fn own_object(
-    alloc: Global,
-    all: &Meant<'_>,
     owners: &Owners,
     file: u32,
     token: u32,
     name: &[u8],
-) -> Result<Option<Object>, AllocError>
-    requires owners { Owns owners.now (all_of all.now) }
-    requires grouped { IsGrouped all.now }
-    ensures { IfOk result (λ o. o ≡ own_object file token name.now (all_of all.now) (all_of all.now)) }
+    meaning: Option<Meaning<'_>>,
+) -> Option<Object>
+    ensures { (ms : List meanings.Meaning) → Owns owners.now ms → option_map meaning_view meaning.entry ≡ meaning_at ms file token name.now → result ≡ own_object file token name.now ms ms }
 {
     match owners.get(&(file, token)) {
-        Some(object) => Ok(Some(*object)),
-        None => object_at(alloc, all, file, token, name),
+        Some(object) => Some(*object),
+        None => named_object(name, meaning),
     }
 }
 
@@ -67,84 +76,54 @@ fn put(objects: &mut Vec<Option<Object>>, token: u32, object: Option<Object>)
     }
 }
 
-/// Writes the object of the token that the event is about.
+/// Writes the object of the token that the event is about, whose name means this.
 fn put_event(
-    alloc: Global,
     objects: &mut Vec<Option<Object>>,
-    all: &Meant<'_>,
     owners: &Owners,
     file: u32,
     tokens: &Tokens,
     event: &Event,
-) -> Result<(), AllocError>
-    requires owners { Owns owners.now (all_of all.now) }
-    requires grouped { IsGrouped all.now }
-    ensures { OnOk result (objects.new.items ≡ over_event (all_of all.now) file tokens.now event.now objects.old.items) }
+    meaning: Option<Meaning<'_>>,
+)
+    ensures { (ms : List meanings.Meaning) → Owns owners.now ms → option_map meaning_view meaning.entry ≡ named_meaning ms file tokens.now (name_of event.now) → objects.new.items ≡ over_event ms file tokens.now event.now objects.old.items }
 {
     match event {
-        Event::Use(looked) => {
-            let name = word(tokens, looked.name);
-            put(
-                objects,
-                looked.name,
-                object_at(alloc, all, file, looked.name, name)?,
-            );
-            Ok(())
+        Event::Use(lookup) => {
+            let name = word(tokens, lookup.name);
+            put(objects, lookup.name, named_object(name, meaning));
         }
         Event::Declaration(d) => {
             let name = word(tokens, d.name);
             put(
                 objects,
                 d.name,
-                own_object(alloc, all, owners, file, d.name, name)?,
+                own_object(owners, file, d.name, name, meaning),
             );
-            Ok(())
         }
-        _ => Ok(()),
+        _ => {}
     }
 }
 
-/// The objects of the tokens of a file; of several events at one token the first counts.
-fn token_objects(
+/// The objects of the tokens of a file, whose events' names mean what is told; of several events at one token the first counts.
+pub fn token_objects(
     alloc: Global,
-    all: &Meant<'_>,
     owners: &Owners,
     file: u32,
     unit: &Unit<'_>,
+    told: &[Option<Meaning<'_>>],
 ) -> Result<Vec<Option<Object>>, AllocError>
-    requires owners { Owns owners.now (all_of all.now) }
-    requires grouped { IsGrouped all.now }
-    ensures { IfOk result (λ v. v.items ≡ token_objects (all_of all.now) file (unit_view unit.now).tokens (unit_view unit.now).events 0 (length (unit_view unit.now).tokens.tokens)) }
+    ensures { IfOk result (λ v. (ms : List meanings.Meaning) → Owns owners.now ms → map (option_map meaning_view) told.now ≡ event_meanings ms file (unit_view unit.now).tokens (unit_view unit.now).events → v.items ≡ token_objects ms file (unit_view unit.now).tokens (unit_view unit.now).events 0 (length (unit_view unit.now).tokens.tokens)) }
 {
     let mut out = no_objects(alloc, unit.tokens.count())?;
     for number in (0..unit.events.len()).rev() {
         put_event(
-            alloc,
             &mut out,
-            all,
             owners,
             file,
             unit.tokens,
             &unit.events[number],
-        )?;
-    }
-    Ok(out)
-}
-
-/// The objects of the tokens of each file.
-pub fn objects(
-    alloc: Global,
-    all: &Meant<'_>,
-    units: &[Unit<'_>],
-) -> Result<Vec<Vec<Option<Object>>>, AllocError>
-    requires few { length units.now ≤ 256 }
-    requires grouped { IsGrouped all.now }
-    ensures { IfOk result (λ v. map (λ v. v.items) v.items ≡ objects_from (all_of all.now) 0 (units_view units.now)) }
-{
-    let owners = owners_of(alloc, &all.all)?;
-    let mut out = Vec::new(alloc);
-    for (file, unit) in units.iter().enumerate() {
-        out.push(token_objects(alloc, all, &owners, file as u32, unit)?)?;
+            told_at(told, number),
+        );
     }
     Ok(out)
 }

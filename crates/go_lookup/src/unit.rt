@@ -6,9 +6,9 @@ ghost use Rattle.go_tree.specs.Meanings.{word, bytes_of, bytes_at, is_blank, is_
 ghost use Rattle.go_lookup.specs.Views.{place_of};
 
 use go_base::{Memory, Span};
-use go_tree::event::Event;
 use go_tokens::tokens::Tokens;
 use go_tokens::value::string_value;
+use go_tree::event::Event;
 use std::alloc::Global;
 
 /// A file: its tokens, and what its tree has to do with names.
