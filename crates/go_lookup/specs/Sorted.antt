@@ -1,6 +1,8 @@
 -- The meanings of a package by their blocks, and what names mean along the tokens of a file.
 use Rattle.std.specs.Prelude.{◌≡◌, ℕ, Bool, nat_eq, List, [], Option, Some, None, map}
 use Rattle.std.specs.HashMap.{HashMap, get}
+use Rattle.indexmap.specs.IndexMap.{IndexMap}
+use Rattle.indexmap.specs.IndexMap as index
 use Rattle.std.specs.Option.{option_map}
 use Rattle.std.specs.Borrow.{Bor}
 use Rattle.std.specs.declared.vec.Vec.{Vec}
@@ -36,8 +38,8 @@ abbrev pub same_outer : Outer → Outer → Bool
 same_outer = (outer_eq.ghosts).eq
 
 -- The map has the first meaning of each name in the block of the package and in those of the files.
-abbrev pub KnowsOuter : {S : Type 0} → HashMap Outer Meaning S → List names.Meaning → Type 0
-KnowsOuter m ms = (k : Outer) → option_map meaning_view (get same_outer m k) ≡ first_by (in_block k.file) k.name.now ms
+abbrev pub KnowsOuter : {S : Type 0} → IndexMap Outer Meaning S → List names.Meaning → Type 0
+KnowsOuter m ms = (k : Outer) → option_map meaning_view (index.get same_outer m k) ≡ first_by (in_block k.file) k.name.now ms
 
 abbrev pub items_of : {A : Type 0} → Option (Vec Meaning A) → List names.Meaning
 items_of None = []

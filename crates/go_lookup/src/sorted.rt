@@ -8,7 +8,9 @@ ghost use Rattle.go_lookup.specs.Views.{meaning_view};
 ghost use Rattle.go_lookup.specs.Sorted.{outer_by, in_block, items_of, all_of, KnowsOuter, KnowsLocals, IsSorted};
 
 use crate::meaning::Meaning;
+use go_base::Memory;
 use go_tree::object::Extent;
+use indexmap::IndexMap;
 use std::alloc::{AllocError, Global};
 use std::collections::HashMap;
 
@@ -21,7 +23,7 @@ struct Outer<'a> {
 }
 
 /// The first meaning of each name in the block of the package and in those of the files.
-type OuterNames<'a> = HashMap<Outer<'a>, Meaning<'a>>;
+type OuterNames<'a> = IndexMap<Outer<'a>, Meaning<'a>>;
 
 /// The local meanings of each file, in order.
 type Locals<'a> = HashMap<u32, Vec<Meaning<'a>>>;
@@ -52,7 +54,7 @@ fn outer_of<'a>(meaning: &Meaning<'a>) -> Option<Outer<'a>>
 }
 
 /// Notes a meaning that stands in front of those that were noted.
-fn add_outer<'a>(outer: &mut OuterNames<'a>, meaning: &Meaning<'a>) -> Result<(), AllocError>
+fn add_outer<'a>(outer: &mut OuterNames<'a>, meaning: &Meaning<'a>) -> Result<(), Memory>
     ensures { OnOk result ((ms : List meanings.Meaning) → KnowsOuter outer.old ms → KnowsOuter outer.new (meaning_view meaning.now ∷ ms)) }
 {
     if let Some(key) = outer_of(meaning) {
@@ -62,10 +64,10 @@ fn add_outer<'a>(outer: &mut OuterNames<'a>, meaning: &Meaning<'a>) -> Result<()
 }
 
 /// The meanings in the block of the package and in those of the files.
-fn outer_names<'a>(alloc: Global, all: &[Meaning<'a>]) -> Result<OuterNames<'a>, AllocError>
+fn outer_names<'a>(alloc: Global, all: &[Meaning<'a>]) -> Result<OuterNames<'a>, Memory>
     ensures { IfOk result (λ m. KnowsOuter m (map meaning_view all.now)) }
 {
-    let mut outer = HashMap::new(alloc);
+    let mut outer = IndexMap::new(alloc);
     for number in (0..all.len()).rev() {
         add_outer(&mut outer, &all[number])?;
     }
@@ -110,7 +112,7 @@ fn locals<'a>(alloc: Global, all: &[Meaning<'a>]) -> Result<Locals<'a>, AllocErr
 }
 
 /// The meanings, by their blocks too.
-pub fn by_block<'a>(alloc: Global, all: Vec<Meaning<'a>>) -> Result<Sorted<'a>, AllocError>
+pub fn by_block<'a>(alloc: Global, all: Vec<Meaning<'a>>) -> Result<Sorted<'a>, Memory>
     ensures sorted { IfOk result (λ s. IsSorted s) }
     ensures all { IfOk result (λ s. all_of s ≡ map meaning_view all.entry.items) }
 {

@@ -1,6 +1,6 @@
 use Rattle.std.proofs.Common.{◌≡◌, ◌&&◌, Bool, cond, Option, Some, ◌∙◌, ap, sym}
 use Rattle.std.specs.Option.{option_map}
-use Rattle.std.specs.HashMap.{get}
+use Rattle.indexmap.specs.IndexMap.{get}
 use Rattle.go_tokens.specs.Spellings.{same_text}
 use Rattle.go_names.specs.Scopes.{first_by}
 use Rattle.go_lookup.specs.declared.meaning.Meaning as own
