@@ -1,5 +1,5 @@
 -- Statements that may not stand where they do, and those that are too many.
-use Rattle.std.specs.Prelude.{ℕ, suc, List, [], ◌∷◌, drop}
+use Rattle.std.specs.Prelude.{ℕ, List, [], ◌∷◌, drop}
 use Rattle.go_tokens.specs.Tokens.{TokenList}
 use Rattle.go_tree.specs.declared.event.Event.{Event}
 use Rattle.go_tree.specs.declared.event.Event.TheVariants as event

@@ -1,6 +1,6 @@
-use Rattle.std.proofs.Common.{◌≡◌, Some, is_some, sym, subst, ap, ◌∙◌, map, slice_get, rules, arith}
+use Rattle.std.proofs.Common.{◌≡◌, subst, ◌∙◌, arith}
 use Rattle.std.proofs.lemmas.Grind.{common_steps}
-use Rattle.go_tree.specs.Uses.{UsesView, object_of, object_in, declared_as, has_declaration, IsComplete}
+use Rattle.go_tree.specs.Uses.{UsesView, object_of, IsComplete}
 use Rattle.go_tree.proofs.uses.Uses.object.Goals as goal
 
 pub returns-clause-declared : goal.returns-clause-declared
