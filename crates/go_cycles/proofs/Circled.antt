@@ -1,21 +1,18 @@
 -- A declaration that a circle of names leads back to needs itself.
-use Rattle.std.proofs.Common.{◌≡◌, ◌≤◌, ◌<◌, ◌∙◌, ℕ, zero, suc, Bool, true, false, ◌&&◌, ◌||◌, not, nat_eq, nat_le, List, [], ◌∷◌, ◌++◌, length, refl, ap, sym, subst, arith, Option, Some, None, drop, get_or}
+use Rattle.std.proofs.Common.{◌≡◌, ◌≤◌, ◌<◌, ◌∙◌, ℕ, zero, suc, Bool, true, false, ◌&&◌, ◌||◌, not, nat_eq, nat_le, List, [], ◌∷◌, ◌++◌, length, refl, ap, sym, subst, arith, Option, Some, None, drop, get_or, inl, inr}
 use Rattle.std.specs.Prelude.{slice_get}
 use Rattle.std.proofs.Math.Seq.{drop-cons}
-use Rattle.std.specs.HashMap.{HashMap}
-use Rattle.std.specs.HashMap as hash
 use Rattle.go_tree.specs.declared.context.Site.{Site}
 use Rattle.go_tree.specs.declared.context.Site.TheVariants as site
 use Rattle.go_tree.specs.declared.event.Declaration.{Declaration}
 use Rattle.go_tree.specs.Meanings.{Found}
 use Rattle.go_tree.specs.Lookups.{Asked}
 use Rattle.go_tree.specs.Needs.{Needed, has_source, if_so, way, right_way, is_same, same_way, is_among, is_known, with_all, needs, needs_of, all_needed, needs_itself}
-use Rattle.go_lookup.specs.Tables.{same_spot}
 use Rattle.go_cycles.specs.Needs.{source_of, way_of, needed_in, needed_by}
-use Rattle.go_cycles.specs.declared.columns.Column.{Column}
-use Rattle.go_cycles.specs.Circles.{needed_at, step, walked, comes_back, is_circle, is_column, is_listed, is_source_listed, are_listed}
+use Rattle.go_cycles.specs.Circles.{needed_at, step, walked, comes_back, is_circle}
+use Rattle.go_cycles.specs.Columns.{IsSource, AreAlike}
 use Rattle.go_cycles.proofs.AllNeeded.{needs_some, needs_none, or_last, known_append, known_all, itself, AllKnown, each_known}
-use Rattle.go_cycles.proofs.Ranked.{Each, each_append, each_all, needs_by, needed_source_of, both_left, both_right, same_number}
+use Rattle.go_cycles.proofs.Ranked.{Each, each_append, each_all, each_more, needs_by, needed_source_of, both_left, both_right, same_number}
 
 -- ---- a walk that leads nowhere
 
@@ -33,7 +30,7 @@ lost_at asks x y ns i h e none =
     ∙ ap (λ o. walked asks o (drop (suc i) ns)) none
     ∙ lost asks (drop (suc i) ns)
 
--- ---- declarations of one name have one column
+-- ---- declarations of one name need the same
 
 same_way_is : (f g : Bool) → same_way f g ≡ true → f ≡ g
 same_way_is true true e = refl
@@ -41,20 +38,9 @@ same_way_is true false e = sym e
 same_way_is false true e = e
 same_way_is false false e = refl
 
-column_source : (c : Option Column) (d e : Found) → is_column c d ≡ true → is_column c e ≡ true → d.it.source ≡ e.it.source
-column_source None d e h k = absurd (grind (arith, h))
-column_source (Some c) d e h k =
-    sym (same_number c.specification d.it.source (both_left (nat_eq c.specification d.it.source) (nat_eq c.number d.it.column) h))
-    ∙ same_number c.specification e.it.source (both_left (nat_eq c.specification e.it.source) (nat_eq c.number e.it.column) k)
-
-column_number : (c : Option Column) (d e : Found) → is_column c d ≡ true → is_column c e ≡ true → d.it.column ≡ e.it.column
-column_number None d e h k = absurd (grind (arith, h))
-column_number (Some c) d e h k =
-    sym (same_number c.number d.it.column (both_right (nat_eq c.specification d.it.source) (nat_eq c.number d.it.column) h))
-    ∙ same_number c.number e.it.column (both_right (nat_eq c.specification e.it.source) (nat_eq c.number e.it.column) k)
-
 -- They are needed in one way, and need the same.
 record IsAlike (x z : Needed) : Type 0 where
+  same : is_same x.it z.it ≡ true
   file : x.it.file ≡ z.it.file
   name : x.it.it.name ≡ z.it.it.name
   full : x.full ≡ z.full
@@ -63,13 +49,11 @@ alike : (x z : Needed) → (is_same x.it z.it && same_way x.full z.full) ≡ tru
 alike x z e =
     let same : is_same x.it z.it ≡ true = both_left (is_same x.it z.it) (same_way x.full z.full) e in
     record {
+      same = same;
       file = same_number x.it.file z.it.file (both_left (nat_eq x.it.file z.it.file) (nat_eq x.it.it.name z.it.it.name) same);
       name = same_number x.it.it.name z.it.it.name (both_right (nat_eq x.it.file z.it.file) (nat_eq x.it.it.name z.it.it.name) same);
       full = same_way_is x.full z.full (both_right (is_same x.it z.it) (same_way x.full z.full) e);
     }
-
-one_key : {S : Type 0} (m : HashMap (ℕ × ℕ) Column S) (d e : Found) → d.file ≡ e.file → d.it.name ≡ e.it.name → is_listed m e ≡ true → is_column (hash.get same_spot m (d.file, d.it.name)) e ≡ true
-one_key m d e file name h = ap (λ n. is_column (hash.get same_spot m (n, d.it.name)) e) file ∙ ap (λ t. is_column (hash.get same_spot m (e.file, t)) e) name ∙ h
 
 way_alike : (d e : Declaration) (f : Bool) (s : Site) → d.source ≡ e.source → d.column ≡ e.column → way d f s ≡ way e f s
 way_alike d e f site.Elsewhere h k = refl
@@ -90,15 +74,13 @@ needed_at_alike : (a : Option Asked) (x z : Needed) → IsAlike x z → x.it.it.
 needed_at_alike None x z same h k = refl
 needed_at_alike (Some a) x z same h k = ap (λ w. needed_in w (source_of a.meaning)) (way_of_alike a x z same h k)
 
--- Its column is that of its name.
-record IsListed {S : Type 0} (m : HashMap (ℕ × ℕ) Column S) (x : Needed) : Type 0 where
-  listed : is_listed m x.it ≡ true
+-- A name calls for it.
+record IsCalled (asks : List Asked) (x : Needed) : Type 0 where
+  called : IsSource x.it asks
 
-step_alike : {S : Type 0} (m : HashMap (ℕ × ℕ) Column S) (asks : List Asked) (x z : Needed) (n : ℕ) → IsAlike x z → IsListed m x → IsListed m z → step asks (Some x) n ≡ step asks (Some z) n
-step_alike m asks x z n same h k =
-    let own = hash.get same_spot m (x.it.file, x.it.it.name) in
-    let there : is_column own z.it ≡ true = one_key m x.it z.it same.file same.name k.listed in
-    needed_at_alike (slice_get asks n) x z same (column_source own x.it z.it h.listed there) (column_number own x.it z.it h.listed there)
+step_alike : (asks : List Asked) (x z : Needed) (n : ℕ) → AreAlike asks → IsAlike x z → IsCalled asks x → IsCalled asks z → step asks (Some x) n ≡ step asks (Some z) n
+step_alike asks x z n h same own there =
+    needed_at_alike (slice_get asks n) x z same (h.specification x.it z.it own.called there.called same.same) (h.column x.it z.it own.called there.called same.same)
 
 -- ---- one step
 
@@ -121,24 +103,21 @@ step_known [] x y n e = absurd (grind (arith, e))
 step_known (a ∷ asks) x y zero e = needs_here a asks x y e
 step_known (a ∷ asks) x y (suc n) e = needs_there a asks x y (needed_by a x) refl (step_known asks x y n e)
 
-source_listed : {S : Type 0} (m : HashMap (ℕ × ℕ) Column S) (a : Asked) (x y : Needed) → is_source_listed m (source_of a.meaning) ≡ true → needed_by a x ≡ Some y → IsListed m y
-source_listed m a x y h e = record { listed = subst (λ s. is_source_listed m s ≡ true) (needed_source_of (way_of a x) (source_of a.meaning) y e) h }
+step_called : (asks : List Asked) (x y : Needed) (n : ℕ) → step asks (Some x) n ≡ Some y → IsSource y.it asks
+step_called [] x y n e = absurd (grind (arith, e))
+step_called (a ∷ asks) x y zero e = inl (needed_source_of (way_of a x) (source_of a.meaning) y e)
+step_called (a ∷ asks) x y (suc n) e = inr (step_called asks x y n e)
 
-step_listed : {S : Type 0} (m : HashMap (ℕ × ℕ) Column S) (asks : List Asked) (x y : Needed) (n : ℕ) → are_listed m asks ≡ true → step asks (Some x) n ≡ Some y → IsListed m y
-step_listed m [] x y n h e = absurd (grind (arith, e))
-step_listed m (a ∷ asks) x y zero h e = source_listed m a x y (both_left (is_source_listed m (source_of a.meaning)) (are_listed m asks) h) e
-step_listed m (a ∷ asks) x y (suc n) h e = step_listed m asks x y n (both_right (is_source_listed m (source_of a.meaning)) (are_listed m asks) h) e
+needs_called : (asks : List Asked) (x : Needed) → Each (IsCalled asks) (needs asks x)
+needs_called [] x = tt
+needs_called (a ∷ asks) x =
+    needs_by (IsCalled (a ∷ asks)) a asks x (needed_by a x) refl
+    (λ y e. record { called = inl (needed_source_of (way_of a x) (source_of a.meaning) y e) })
+    (each_more (IsCalled asks) (IsCalled (a ∷ asks)) (needs asks x) (λ y h. record { called = inr h.called }) (needs_called asks x))
 
-needs_listed : {S : Type 0} (m : HashMap (ℕ × ℕ) Column S) (asks : List Asked) (x : Needed) → are_listed m asks ≡ true → Each (IsListed m) (needs asks x)
-needs_listed m [] x h = tt
-needs_listed m (a ∷ asks) x h =
-    let own : is_source_listed m (source_of a.meaning) ≡ true = both_left (is_source_listed m (source_of a.meaning)) (are_listed m asks) h in
-    needs_by (IsListed m) a asks x (needed_by a x) refl (λ y e. source_listed m a x y own e)
-    (needs_listed m asks x (both_right (is_source_listed m (source_of a.meaning)) (are_listed m asks) h))
-
-round_listed : {S : Type 0} (m : HashMap (ℕ × ℕ) Column S) (asks : List Asked) (xs : List Needed) → are_listed m asks ≡ true → Each (IsListed m) (needs_of asks xs)
-round_listed m asks [] h = tt
-round_listed m asks (x ∷ xs) h = each_append (IsListed m) (needs asks x) (needs_of asks xs) (needs_listed m asks x h) (round_listed m asks xs h)
+round_called : (asks : List Asked) (xs : List Needed) → Each (IsCalled asks) (needs_of asks xs)
+round_called asks [] = tt
+round_called asks (x ∷ xs) = each_append (IsCalled asks) (needs asks x) (needs_of asks xs) (needs_called asks x) (round_called asks xs)
 
 -- ---- one round
 
@@ -161,14 +140,14 @@ through x (y ∷ ys) zs h k = through_by x y zs (is_same x.it y.it && same_way x
 known_added : (x : Needed) (ys xs : List Needed) → is_known x ys ≡ true → is_known x (with_all ys xs) ≡ true
 known_added x ys xs h = through x ys (with_all ys xs) h (each_known ys xs)
 
-round_by : {S : Type 0} (m : HashMap (ℕ × ℕ) Column S) (asks : List Asked) (x y z : Needed) (zs : List Needed) (n : ℕ) (b : Bool) (rest : Bool) → (is_same x.it z.it && same_way x.full z.full) ≡ b → (b || rest) ≡ true → IsListed m x → IsListed m z → step asks (Some x) n ≡ Some y → (rest ≡ true → is_known y (needs_of asks zs) ≡ true) → is_known y (needs asks z ++ needs_of asks zs) ≡ true
-round_by m asks x y z zs n true rest e h own there goes f = known_append y (needs asks z) (needs_of asks zs) (step_known asks z y n (sym (step_alike m asks x z n (alike x z e) own there) ∙ goes))
-round_by m asks x y z zs n false rest e h own there goes f = known_behind y (needs asks z) (needs_of asks zs) (f h)
+round_by : (asks : List Asked) (x y z : Needed) (zs : List Needed) (n : ℕ) (b : Bool) (rest : Bool) → (is_same x.it z.it && same_way x.full z.full) ≡ b → (b || rest) ≡ true → AreAlike asks → IsCalled asks x → IsCalled asks z → step asks (Some x) n ≡ Some y → (rest ≡ true → is_known y (needs_of asks zs) ≡ true) → is_known y (needs asks z ++ needs_of asks zs) ≡ true
+round_by asks x y z zs n true rest e h one own there goes f = known_append y (needs asks z) (needs_of asks zs) (step_known asks z y n (sym (step_alike asks x z n one (alike x z e) own there) ∙ goes))
+round_by asks x y z zs n false rest e h one own there goes f = known_behind y (needs asks z) (needs_of asks zs) (f h)
 
-round_known : {S : Type 0} (m : HashMap (ℕ × ℕ) Column S) (asks : List Asked) (x y : Needed) (zs : List Needed) (n : ℕ) → is_known x zs ≡ true → IsListed m x → Each (IsListed m) zs → step asks (Some x) n ≡ Some y → is_known y (needs_of asks zs) ≡ true
-round_known m asks x y [] n h own there goes = absurd (grind (arith, h))
-round_known m asks x y (z ∷ zs) n h own there goes =
-    round_by m asks x y z zs n (is_same x.it z.it && same_way x.full z.full) (is_known x zs) refl h own there.0 goes (λ r. round_known m asks x y zs n r own there.1 goes)
+round_known : (asks : List Asked) (x y : Needed) (zs : List Needed) (n : ℕ) → AreAlike asks → is_known x zs ≡ true → IsCalled asks x → Each (IsCalled asks) zs → step asks (Some x) n ≡ Some y → is_known y (needs_of asks zs) ≡ true
+round_known asks x y [] n one h own there goes = absurd (grind (arith, h))
+round_known asks x y (z ∷ zs) n one h own there goes =
+    round_by asks x y z zs n (is_same x.it z.it && same_way x.full z.full) (is_known x zs) refl h one own there.0 goes (λ r. round_known asks x y zs n one r own there.1 goes)
 
 -- ---- all rounds
 
@@ -188,16 +167,16 @@ from_there asks None ns y e = absurd (no_end (sym (lost asks ns) ∙ e))
 from_there asks (Some v) ns y e = (v, refl)
 
 -- what a walk of at most k steps leads to is needed after k rounds
-walk_known : {S : Type 0} (m : HashMap (ℕ × ℕ) Column S) (asks : List Asked) (k : ℕ) (ns : List ℕ) (x y : Needed) (xs : List Needed) → are_listed m asks ≡ true → length ns ≤ k → walked asks (Some x) ns ≡ Some y → is_known x xs ≡ true → IsListed m x → Each (IsListed m) xs → is_known y (all_needed asks k xs) ≡ true
-walk_known m asks k [] x y xs h short goes known own there = subst (λ z. is_known z (all_needed asks k xs) ≡ true) (some_is x y goes) (known_rounds asks k x xs known)
-walk_known m asks zero (n ∷ ns) x y xs h short goes known own there = absurd (omega (arith, short))
-walk_known m asks (suc k) (n ∷ ns) x y xs h short goes known own there =
+walk_known : (asks : List Asked) (k : ℕ) (ns : List ℕ) (x y : Needed) (xs : List Needed) → AreAlike asks → length ns ≤ k → walked asks (Some x) ns ≡ Some y → is_known x xs ≡ true → IsCalled asks x → Each (IsCalled asks) xs → is_known y (all_needed asks k xs) ≡ true
+walk_known asks k [] x y xs h short goes known own there = subst (λ z. is_known z (all_needed asks k xs) ≡ true) (some_is x y goes) (known_rounds asks k x xs known)
+walk_known asks zero (n ∷ ns) x y xs h short goes known own there = absurd (omega (arith, short))
+walk_known asks (suc k) (n ∷ ns) x y xs h short goes known own there =
     let next = from_there asks (step asks (Some x) n) ns y goes in
     let more : walked asks (Some next.0) ns ≡ Some y = ap (λ o. walked asks o ns) (sym next.1) ∙ goes in
-    let added : is_known next.0 (with_all (needs_of asks xs) xs) ≡ true = known_added next.0 (needs_of asks xs) xs (round_known m asks x next.0 xs n known own there next.1) in
+    let added : is_known next.0 (with_all (needs_of asks xs) xs) ≡ true = known_added next.0 (needs_of asks xs) xs (round_known asks x next.0 xs n h known own there next.1) in
     let low : length ns ≤ k = omega (arith, short) in
-    walk_known m asks k ns next.0 y (with_all (needs_of asks xs) xs) h low more added (step_listed m asks x next.0 n h next.1)
-    (each_all (IsListed m) (needs_of asks xs) xs (round_listed m asks xs h) there)
+    walk_known asks k ns next.0 y (with_all (needs_of asks xs) xs) h low more added record { called = step_called asks x next.0 n next.1 }
+    (each_all (IsCalled asks) (needs_of asks xs) xs (round_called asks xs) there)
 
 -- ---- the declaration itself
 
@@ -219,9 +198,9 @@ back d (Some y) e = (y, refl, e)
 short_by : (m k : ℕ) (b : Bool) → (nat_le m k && b) ≡ true → m ≤ k
 short_by m k b e = grind (arith, e)
 
-pub circle_needs : {S : Type 0} (m : HashMap (ℕ × ℕ) Column S) (asks : List Asked) (k : ℕ) (d : Found) (ns : List ℕ) → are_listed m asks ≡ true → is_circle asks k d ns ≡ true → needs_itself asks k d ≡ true
-circle_needs m asks k d [] h e = absurd (grind (arith, e))
-circle_needs m asks k d (n ∷ ns) h e =
+pub circle_needs : (asks : List Asked) (k : ℕ) (d : Found) (ns : List ℕ) → AreAlike asks → is_circle asks k d ns ≡ true → needs_itself asks k d ≡ true
+circle_needs asks k d [] h e = absurd (grind (arith, e))
+circle_needs asks k d (n ∷ ns) h e =
     let first : Needed = record { it = d; full = false } in
     let start = with_all (needs asks first) [] in
     let end = walked asks (step asks (Some first) n) ns in
@@ -230,5 +209,5 @@ circle_needs m asks k d (n ∷ ns) h e =
     let more : walked asks (Some next.0) ns ≡ Some back_at.0 = ap (λ o. walked asks o ns) (sym next.1) ∙ back_at.1 in
     let known : is_known next.0 start ≡ true = known_added next.0 (needs asks first) [] (step_known asks first next.0 n next.1) in
     among d back_at.0 (all_needed asks k start) back_at.2
-    (walk_known m asks k ns next.0 back_at.0 start h (short_by (length ns) k (comes_back d end) e) more known (step_listed m asks first next.0 n h next.1)
-    (each_all (IsListed m) (needs asks first) [] (needs_listed m asks first h) tt))
+    (walk_known asks k ns next.0 back_at.0 start h (short_by (length ns) k (comes_back d end) e) more known record { called = step_called asks first next.0 n next.1 }
+    (each_all (IsCalled asks) (needs asks first) [] (needs_called asks first) tt))

@@ -1,3 +1,4 @@
 pub mod AllNeeded
 pub mod Circled
+pub mod Listed
 pub mod Ranked

@@ -1,13 +1,9 @@
 -- Circles of names, by which a declaration needs itself.
-use Rattle.std.specs.Prelude.{ℕ, Bool, true, false, ◌&&◌, nat_eq, nat_le, List, [], ◌∷◌, length, slice_get, Option, Some, None}
-use Rattle.std.specs.HashMap.{HashMap}
-use Rattle.std.specs.HashMap as hash
+use Rattle.std.specs.Prelude.{ℕ, Bool, false, ◌&&◌, nat_le, List, [], ◌∷◌, length, slice_get, Option, Some, None}
 use Rattle.go_tree.specs.Meanings.{Found}
 use Rattle.go_tree.specs.Lookups.{Asked}
 use Rattle.go_tree.specs.Needs.{Needed, is_same}
-use Rattle.go_lookup.specs.Tables.{same_spot}
-use Rattle.go_cycles.specs.Needs.{source_of, needed_by}
-use Rattle.go_cycles.specs.declared.columns.Column.{Column}
+use Rattle.go_cycles.specs.Needs.{needed_by}
 
 -- the declaration that a name calls for, where the other one needs it
 abbrev pub needed_at : Option Asked → Option Needed → Option Needed
@@ -32,20 +28,3 @@ comes_back d (Some x) = is_same d x.it
 abbrev pub is_circle : List Asked → ℕ → Found → List ℕ → Bool
 is_circle asks k d [] = false
 is_circle asks k d (n ∷ ns) = nat_le (length ns) k && comes_back d (walked asks (Some (record { it = d; full = false })) (n ∷ ns))
-
--- whether this is the column of the declaration
-abbrev pub is_column : Option Column → Found → Bool
-is_column None d = false
-is_column (Some c) d = nat_eq c.specification d.it.source && nat_eq c.number d.it.column
-
-abbrev pub is_listed : {S : Type 0} → HashMap (ℕ × ℕ) Column S → Found → Bool
-is_listed m d = is_column (hash.get same_spot m (d.file, d.it.name)) d
-
-abbrev pub is_source_listed : {S : Type 0} → HashMap (ℕ × ℕ) Column S → Option Found → Bool
-is_source_listed m None = true
-is_source_listed m (Some d) = is_listed m d
-
--- whether all declarations that the names call for have their columns, so that no two of one name differ in them
-abbrev pub are_listed : {S : Type 0} → HashMap (ℕ × ℕ) Column S → List Asked → Bool
-are_listed m [] = true
-are_listed m (a ∷ asks) = is_source_listed m (source_of a.meaning) && are_listed m asks

@@ -1,4 +1,5 @@
 pub mod Circles
+pub mod Columns
 pub mod Needs
 pub mod Order
 pub mod Ranks

@@ -1,8 +1,8 @@
 // The columns of specifications whose types and values declarations have.
 
-ghost use Rattle.std.specs.Prelude.{◌≡◌, map};
+ghost use Rattle.std.specs.Prelude.{◌≡◌, true, IfOk, map};
 ghost use Rattle.go_lookup.specs.Views.{found_view, asked_view};
-ghost use Rattle.go_cycles.specs.Circles.{is_listed, are_listed};
+ghost use Rattle.go_cycles.specs.Columns.{AreAlike, is_listed, are_listed};
 
 use crate::needs::source_of;
 use go_lookup::found::Found;
@@ -12,16 +12,16 @@ use std::collections::HashMap;
 
 /// The specification and the column whose type and value a declaration has.
 #[derive(Clone, Copy, Debug)]
-pub struct Column {
-    pub specification: u32,
-    pub number: usize,
+struct Column {
+    specification: u32,
+    number: usize,
 }
 
 /// The columns of declarations, by the numbers of their files and their names' tokens.
-pub type Columns = HashMap<(u32, u32), Column>;
+type Columns = HashMap<(u32, u32), Column>;
 
 /// The columns of the declarations.
-pub fn columns_of(alloc: Global, declared: &[Found<'_>]) -> Result<Columns, AllocError> {
+fn columns_of(alloc: Global, declared: &[Found<'_>]) -> Result<Columns, AllocError> {
     let mut columns = HashMap::new(alloc);
     for d in declared {
         let column = Column {
@@ -45,8 +45,8 @@ fn is_listed(columns: &Columns, d: &Found<'_>) -> bool
     }
 }
 
-/// Whether all declarations that the names call for have their columns, so that no two of one name differ in them.
-pub fn are_listed(columns: &Columns, lookups: &[Asked<'_>]) -> bool
+/// Whether all declarations that the names call for have these columns.
+fn are_listed(columns: &Columns, lookups: &[Asked<'_>]) -> bool
     ensures { result ≡ are_listed columns.now (map asked_view lookups.now) }
 {
     for a in lookups {
@@ -57,4 +57,16 @@ pub fn are_listed(columns: &Columns, lookups: &[Asked<'_>]) -> bool
         }
     }
     true
+}
+
+/// Whether the declarations of one name that the names call for have one specification and one column.
+pub fn are_alike(
+    alloc: Global,
+    lookups: &[Asked<'_>],
+    declared: &[Found<'_>],
+) -> Result<bool, AllocError>
+    ensures { IfOk result (λ b. b ≡ true → AreAlike (map asked_view lookups.now)) }
+{
+    let columns = columns_of(alloc, declared)?;
+    Ok(are_listed(&columns, lookups))
 }

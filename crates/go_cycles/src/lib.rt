@@ -7,9 +7,9 @@
 mod circle;
 mod columns;
 mod graph;
-pub mod needs;
+mod needs;
 pub mod order;
-pub mod ranks;
+mod ranks;
 mod rounds;
 mod search;
 #[cfg(test)]

@@ -6,7 +6,7 @@ ghost use Rattle.go_lookup.specs.Views.{found_view, asked_view};
 ghost use Rattle.go_cycles.specs.Order.{IsOrder};
 
 use crate::circle::circle;
-use crate::columns::{Columns, are_listed, columns_of};
+use crate::columns::are_alike;
 use crate::graph::{Graph, graph_of};
 use crate::ranks::{Bounds, Ranks, are_ranked, bounds, is_above};
 use crate::rounds::needs_itself;
@@ -23,9 +23,8 @@ pub struct Order {
     bounds: Bounds,
     /// Whether no name calls for a declaration that needs one of a higher rank.
     holds: bool,
-    columns: Columns,
-    /// Whether all declarations that the names call for have their columns.
-    listed: bool,
+    /// Whether the declarations of one name that the names call for are alike.
+    alike: bool,
     graph: Graph,
 }
 
@@ -41,14 +40,12 @@ pub fn order_of(
     let ranks = ranks(alloc, &graph, declared)?;
     let bounds = bounds(alloc, lookups, &ranks)?;
     let holds = are_ranked(&bounds, &ranks, lookups);
-    let columns = columns_of(alloc, declared)?;
-    let listed = are_listed(&columns, lookups);
+    let alike = are_alike(alloc, lookups, declared)?;
     Ok(Order {
         ranks,
         bounds,
         holds,
-        columns,
-        listed,
+        alike,
         graph,
     })
 }
@@ -73,7 +70,7 @@ impl Order {
             return Ok(false);
         }
         let names = circle(alloc, &self.graph, d)?;
-        if self.listed && is_circle(lookups, rounds, d, &names) {
+        if self.alike && is_circle(lookups, rounds, d, &names) {
             return Ok(true);
         }
         needs_itself(alloc, lookups, rounds, d)

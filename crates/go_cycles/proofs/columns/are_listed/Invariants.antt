@@ -1,6 +1,6 @@
 use Rattle.std.proofs.Common.{◌≡◌, drop, map}
 use Rattle.go_lookup.specs.Views.{asked_view}
-use Rattle.go_cycles.specs.Circles.{are_listed}
+use Rattle.go_cycles.specs.Columns.{are_listed}
 use Rattle.go_cycles.proofs.columns.are_listed.Given as goal
 
 abbrev pub invariant-loop-a : goal.invariant-loop-a

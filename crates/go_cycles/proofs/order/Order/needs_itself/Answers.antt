@@ -1,5 +1,4 @@
 use Rattle.std.proofs.Common.{◌≡◌, ◌∙◌, true, map, sym}
-use Rattle.go_cycles.specs.Circles.{are_listed}
 use Rattle.go_cycles.specs.Ranks.{are_ranked}
 use Rattle.go_lookup.specs.Views.{found_view, asked_view}
 use Rattle.go_cycles.proofs.Circled.{circle_needs}
@@ -15,7 +14,5 @@ returns-then-is_above c =
 
 pub returns-then-is_circle : goal.returns-then-is_circle
 returns-then-is_circle c =
-    let o = c.args.self.now in
     let asks = map asked_view c.args.lookups.now in
-    let listed : are_listed o.columns asks ≡ true = sym c.requires.2 ∙ c.if-self-2.true in
-    sym (circle_needs o.columns asks c.args.rounds (found_view c.args.d.now) c.deref.result.now listed (sym c.is_circle.ensures ∙ c.if-is_circle.true))
+    sym (circle_needs asks c.args.rounds (found_view c.args.d.now) c.deref.result.now (c.requires.2 c.if-self-2.true) (sym c.is_circle.ensures ∙ c.if-is_circle.true))
