@@ -4,7 +4,7 @@ use Rattle.go_base.specs.declared.fault.FaultCode.{FaultCode}
 use Rattle.go_tokens.specs.Tokens.{TokenList}
 use Rattle.go_tree.specs.declared.event.Event.{Event}
 use Rattle.go_tree.specs.Meanings.{Unit, Place}
-use Rattle.go_tree.specs.Failures.{Failure, fault, failing, place_if, of_files, earlier, least_from}
+use Rattle.go_tree.specs.Failures.{Failure, fault, place_if, of_files, earlier, least_from}
 use Rattle.go_scopes.specs.Noted.{noted}
 
 pub least_from_append : (f : Option Failure) (a b : List Failure) → least_from f (a ++ b) ≡ least_from (least_from f a) b

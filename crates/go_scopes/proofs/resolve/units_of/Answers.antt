@@ -1,7 +1,5 @@
-use Rattle.std.proofs.Common.{arith, subst, sym}
+use Rattle.std.proofs.Common.{arith}
 use Rattle.std.proofs.lemmas.Grind.{common_steps}
-use Rattle.go_names.specs.Scopes.{AreOrderly}
-use Rattle.go_lookup.specs.Views.{unit_view, units_view}
 use Rattle.go_scopes.proofs.Orderly.{orderly_more}
 use Rattle.go_scopes.proofs.resolve.units_of.Goals as goal
 
