@@ -1,6 +1,6 @@
 // The local names of the blocks around a place of a file.
 
-ghost use Rattle.std.specs.Prelude.{true, ◌≡◌, ◌≤◌, ℕ, ◌-◌, List, [], OnOk, length, slice_get};
+ghost use Rattle.std.specs.Prelude.{true, false, ◌≡◌, ◌≤◌, ℕ, ◌-◌, List, [], OnOk, length, slice_get};
 ghost use Rattle.std.specs.Option.{option_map};
 ghost use Rattle.std.specs.Borrow.{Bor};
 ghost use Rattle.go_tree.specs.Meanings as meanings;
@@ -97,6 +97,7 @@ impl<'a> Scopes<'a> {
 
     /// Leaves the innermost blocks that have ended in front of the token.
     pub fn leave(&mut self, token: u32)
+        ensures left { ended_by token (slice_get self.new.blocks.items (length self.new.blocks.items - 1)) ≡ false }
         ensures said { (t : ℕ) → (w : Bor (List ℕ)) → token ≤ t → said self.new.blocks.items t w ≡ said self.old.blocks.items t w }
         ensures parted { (ms : List meanings.Meaning) → AreParted self.old.blocks.items ms → AreParted self.new.blocks.items ms }
     {
