@@ -19,7 +19,7 @@ use Rattle.go_tree.specs.Meanings.{Found, Meaning, Numbers, first_numbers, own_n
 use Rattle.go_tree.specs.Meanings as names
 use Rattle.go_tree.specs.Failures.{least}
 use Rattle.go_tree.specs.Faults.{clause_faults}
-use Rattle.go_tree.specs.Uses.{UsesView, declared_by, declared_in_package, own_locals, function_locals, uses, object_there, object_in, local_in, declared_as, has_declaration, count_functions, IsComplete}
+use Rattle.go_tree.specs.Uses.{UsesView, declared_by, declared_in_package, own_locals, function_locals, uses_by, uses, object_there, object_in, local_in, declared_as, has_declaration, count_functions, IsComplete}
 use Rattle.go_names.specs.Orders.{IsOuter}
 use Rattle.go_names.specs.Scopes.{Each, AreOrderly}
 use Rattle.go_lookup.proofs.Behind.{AreBehind, declarations_behind}
@@ -179,8 +179,8 @@ uses_complete us h f =
       functions = count_locals (declarations us);
     }
 
-pub known_complete : (us : List names.Unit) (os : List (List (Option Object))) (ps : List Declared) (ls : List (List Declared)) → AreOrderly us → least (clause_faults us) ≡ None → os ≡ objects us → ps ≡ declared_in_package (declarations us) → ls ≡ function_locals (declarations us) → IsComplete (record { objects = os; package_level = ps; locals = ls })
-known_complete us os ps ls h f o p l =
-    let v : UsesView = record { objects = os; package_level = ps; locals = ls } in
-    let same : v ≡ uses us = cc in
+-- what the objects of the tokens and the declarations give
+pub known_complete : (us : List names.Unit) (os : List (List (Option Object))) (ds : List Found) → AreOrderly us → least (clause_faults us) ≡ None → os ≡ objects us → ds ≡ declarations us → IsComplete (uses_by os ds)
+known_complete us os ds h f o d =
+    let same : uses_by os ds ≡ uses us = ap (λ x. uses_by x ds) o ∙ ap (uses_by (objects us)) d in
     subst IsComplete (sym same) (uses_complete us h f)

@@ -1,15 +1,10 @@
 // The objects of a package, and the locals of its functions.
 
-ghost use Rattle.std.specs.Prelude.{◌≡◌, None, IfOk, map};
-ghost use Rattle.go_tree.specs.Failures.{least};
-ghost use Rattle.go_tree.specs.Faults.{clause_faults};
-ghost use Rattle.go_tree.specs.Meanings as names;
-ghost use Rattle.go_tree.specs.Uses.{declared_by, declared_in_package, begins_function, own_locals, function_locals, uses};
-ghost use Rattle.go_names.specs.Scopes.{AreOrderly};
-ghost use Rattle.go_lookup.specs.Views.{units_view, found_view};
+ghost use Rattle.std.specs.Prelude.{◌≡◌, IfOk, map};
+ghost use Rattle.go_tree.specs.Uses.{declared_by, declared_in_package, begins_function, own_locals, function_locals, uses_by, IsComplete};
+ghost use Rattle.go_lookup.specs.Views.{found_view};
 
 use crate::found::Found;
-use crate::unit::Unit;
 use go_tree::context::{Block, Entity};
 use go_tree::object::{Declared, Object};
 use go_tree::uses::Uses;
@@ -86,23 +81,18 @@ pub fn function_locals(
     Ok(out)
 }
 
-/// What the names of these files mean, by the objects of their tokens and their declarations. Only the contract speaks of the
-/// files themselves.
+/// What the names of a package mean, by the objects of its tokens and its declarations.
 ///
 /// # Errors
 ///
 /// Want of memory.
 pub fn uses_of(
     alloc: Global,
-    _units: &[Unit<'_>],
     objects: Vec<Vec<Option<Object>>>,
     declared: &[Found<'_>],
 ) -> Result<Uses, AllocError>
-    requires orderly { AreOrderly (units_view _units.now) }
-    requires clauses { least (clause_faults (units_view _units.now)) ≡ None }
-    requires declared { map found_view declared.now ≡ names.declarations (units_view _units.now) }
-    requires objects { map (λ v. v.items) objects.items ≡ names.objects (units_view _units.now) }
-    ensures { IfOk result (λ u. u ≡ uses (units_view _units.now)) }
+    requires { IsComplete (uses_by (map (λ v. v.items) objects.items) (map found_view declared.now)) }
+    ensures { IfOk result (λ u. u ≡ uses_by (map (λ v. v.items) objects.items) (map found_view declared.now)) }
 {
     let package_level = declared_in_package(alloc, declared)?;
     let locals = function_locals(alloc, declared)?;

@@ -85,7 +85,7 @@ fn resolve_units(alloc: Global, units: &[Unit<'_>]) -> Result<Uses, ResolveError
     if let Some(fault) = name_faults(alloc, units, &all, &declared, &looked_up.asked)? {
         return Err(ResolveError::Fault(fault));
     }
-    Ok(uses_of(alloc, units, looked_up.objects, &declared)?)
+    Ok(uses_of(alloc, looked_up.objects, &declared)?)
 }
 
 /// The rules on names that are looked up.
