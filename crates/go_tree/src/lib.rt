@@ -8,6 +8,9 @@
 // contract of each `of` is the exact value: what the definitions in specs/Declarations.antt, Statements.antt, Headers.antt and
 // Expressions.antt make of the node's tree, or none where the node is of another sort. The laws in `laws` say that the parts
 // of a derivation lie one after the other inside its range, and that a node begins before it ends.
+//
+// What the names of a package mean, and what is wrong with them, is defined here too: specs/Contexts.antt to Faults.antt, over
+// the types of `context`, `event` and `object`. `Uses` is the answer, a table by token whose objects have their declarations.
 #![tactic(auto)]
 
 mod agree;
