@@ -1,4 +1,7 @@
-//! Compares the crates with tables of cases whose answers come from real Go.
+//! Compares the crates with tables of cases whose answers come from outside.
+//!
+//! The answers of `arith`, `lexing`, `grammar` and `types` are those of Go's own compiler and packages. Those of `names` come
+//! from another reading of the language, made apart from these crates, since Go has other codes for its faults.
 //!
 //! The tables lie in the folder that the program is run in, each as a file `NAME.tsv`. A table that
 //! is not there is passed over. Each difference is printed, and for each table a line, as

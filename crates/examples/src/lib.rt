@@ -1,0 +1,11 @@
+//! Worked examples, run through the public calls of the crates below.
+//!
+//! Each crate's contract says what its calls answer; the tests here compare a few answers with values from outside, and call
+//! what takes memory where there is enough of it. They stand in a crate of their own, since the check of a crate with tests
+//! proves it twice.
+#![tactic(auto)]
+
+#[cfg(test)]
+mod files;
+#[cfg(test)]
+mod trees;
