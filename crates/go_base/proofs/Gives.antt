@@ -1,8 +1,8 @@
--- Laws of `Gives`: what a call answers that goes on with the value of another call.
+-- Laws of `Gives`, `Meets` and `Unless`: what a call answers that goes on with the value of another call.
 use Rattle.std.proofs.Common.{◌≡◌, sym, subst, ap, ◌∙◌}
 use Rattle.std.specs.Prelude.{Result, Ok, Err, Option, Some, None}
 use Rattle.std.specs.Option.{option_map}
-use Rattle.go_base.specs.Gives.{Unless, Gives, ◌>>=◌}
+use Rattle.go_base.specs.Gives.{Unless, Gives, Meets, ◌>>=◌}
 
 -- ---- `Unless`
 
@@ -46,3 +46,10 @@ gives_stop refusal_of e inner f = unless_map (refusal_of e) (λ r. inner ≡ Err
 -- The inner call's value goes on.
 pub gives_go : {X Y A E F : Type 0} (view : X → Y) (refusal_of : E → Option F) (r : Result X E) (inner : Result A F) (f : A → Result Y F) (a : A) → inner ≡ Ok a → Gives view refusal_of r (f a) → Gives view refusal_of r (inner >>= f)
 gives_go view refusal_of r inner f a is g = subst (Gives view refusal_of r) (sym (ap (λ x. x >>= f) is)) g
+
+-- ---- `Meets`
+
+-- what was answered is also such a value, and an error also names such a refusal
+pub meets_map : {X E F G : Type 0} (f : E → Option F) (g : E → Option G) (r : Result X E) (P Q : X → Type 0) (R : F → Type 0) (S : G → Type 0) → ((x : X) → P x → Q x) → ((e : E) → Unless (f e) R → Unless (g e) S) → Meets f r P R → Meets g r Q S
+meets_map f g (Ok x) P Q R S h k m = h x m
+meets_map f g (Err e) P Q R S h k m = k e m
