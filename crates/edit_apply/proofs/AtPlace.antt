@@ -7,10 +7,9 @@ use Rattle.std.proofs.lemmas.List.Sums.{sum_by-set, sum_by-insert, sum_by-remove
 use Rattle.std.proofs.Math.ListN.{length-set}
 use Rattle.std.proofs.lemmas.List.Edits.{length-insert, length-remove}
 use Rattle.go_base.specs.declared.bytes.FileText.{FileText}
-use Rattle.go_base.specs.declared.package.TheConstants.{MAX_FILES, MAX_BYTES}
 use Rattle.go_base.specs.Gives.{◌>>=◌}
 use Rattle.go_base.specs.Name.{is_go_file_name}
-use Rattle.go_base.specs.Package.{Ascends, IsPackage, total_bytes}
+use Rattle.go_base.specs.Package.{Ascends, IsPackage, most_files, most_bytes, total_bytes}
 use Rattle.edit_apply.specs.declared.texts.EditError.{EditError}
 use Rattle.edit_apply.specs.declared.texts.EditError.TheVariants as errors
 use Rattle.edit_apply.specs.Edited.{bytes_under, spliced, file_of, edited, added, dropped, with_bytes}
@@ -53,20 +52,20 @@ edit_at files name s e new i d p lt is =
     let f : FileText = get_or files i d in
     let after : List ℕ = spliced f.bytes s e new in
     let whole : List FileText = slice_set files i (file_of f.name after) in
-    let few : nat_le (length whole) MAX_FILES ≡ true = le-leb _ _ (omega (arith, p.few, length-set files i (file_of f.name after))) in
-    let small : nat_le (total_bytes whole) MAX_BYTES ≡ nat_le (total_bytes files - length f.bytes + length after) MAX_BYTES = ap (λ n. nat_le n MAX_BYTES) (total_set files i d f.name after lt) in
-    let limits : within_limits whole ≡ cond (nat_le (total_bytes files - length f.bytes + length after) MAX_BYTES) (Ok whole) (Err errors.Limit) = ap (λ b. cond b (Ok whole) (Err errors.Limit)) (same_tests _ _ _ few small) in
+    let few : nat_le (length whole) most_files ≡ true = le-leb _ _ (omega (arith, p.few, length-set files i (file_of f.name after))) in
+    let small : nat_le (total_bytes whole) most_bytes ≡ nat_le (total_bytes files - length f.bytes + length after) most_bytes = ap (λ n. nat_le n most_bytes) (total_set files i d f.name after lt) in
+    let limits : within_limits whole ≡ cond (nat_le (total_bytes files - length f.bytes + length after) most_bytes) (Ok whole) (Err errors.Limit) = ap (λ b. cond b (Ok whole) (Err errors.Limit)) (same_tests _ _ _ few small) in
     let range : Bool = nat_le s e && nat_le e (length f.bytes) in
     (λ j. ranged (under_at files name i d p.ascends lt is j) s e (edited_at files name s e new i d p.ascends lt is j))
     ∙ ap (λ r. cond range r (Err errors.Range)) limits
-    ∙ sym (bind_choice range (nat_le (total_bytes files - length f.bytes + length after) MAX_BYTES) after errors.Limit errors.Range (λ b. Ok (slice_set files i (file_of f.name b))))
+    ∙ sym (bind_choice range (nat_le (total_bytes files - length f.bytes + length after) most_bytes) after errors.Limit errors.Range (λ b. Ok (slice_set files i (file_of f.name b))))
 
 pub package_set : (files : List FileText) (name : List ℕ) (s e : ℕ) (new bytes : List ℕ) (i : ℕ) (d : FileText) → IsPackage files → i < length files → bytes_answer (get_or files i d).bytes (total_bytes files) s e new ≡ Ok bytes → IsPackage (slice_set files i (file_of (get_or files i d).name bytes))
 unfolding bytes_answer
 package_set files name s e new bytes i d p lt h =
     let f : FileText = get_or files i d in
-    let found = chosen (nat_le s e && nat_le e (length f.bytes)) (nat_le (total_bytes files - length f.bytes + length (spliced f.bytes s e new)) MAX_BYTES) (spliced f.bytes s e new) bytes errors.Limit errors.Range h in
-    let fits : total_bytes files - length f.bytes + length (spliced f.bytes s e new) ≤ MAX_BYTES = leb-true _ _ found.0 in
+    let found = chosen (nat_le s e && nat_le e (length f.bytes)) (nat_le (total_bytes files - length f.bytes + length (spliced f.bytes s e new)) most_bytes) (spliced f.bytes s e new) bytes errors.Limit errors.Range h in
+    let fits : total_bytes files - length f.bytes + length (spliced f.bytes s e new) ≤ most_bytes = leb-true _ _ found.0 in
     let same : length (spliced f.bytes s e new) ≡ length bytes = ap length found.1 in
     let sums = total_set files i d f.name bytes lt in
     record {
@@ -102,17 +101,17 @@ add_gap files name bytes i g =
     let whole : List FileText = insert files i (file_of name bytes) in
     let count : length whole ≡ length files + 1 = length-insert files i (file_of name bytes) g.within in
     let total : total_bytes whole ≡ total_bytes files + length bytes = sum_by-insert (λ f. length f.bytes) files i (file_of name bytes) in
-    bind_test (nat_le (length files + 1) MAX_FILES && nat_le (total_bytes files + length bytes) MAX_BYTES) (file_of name bytes) errors.Limit (λ f. Ok (insert files i f))
-    ∙ (λ j. cond (nat_le (sym count j) MAX_FILES && nat_le (sym total j) MAX_BYTES) (Ok whole) (Err errors.Limit))
+    bind_test (nat_le (length files + 1) most_files && nat_le (total_bytes files + length bytes) most_bytes) (file_of name bytes) errors.Limit (λ f. Ok (insert files i f))
+    ∙ (λ j. cond (nat_le (sym count j) most_files && nat_le (sym total j) most_bytes) (Ok whole) (Err errors.Limit))
     ∙ ap within_limits (sym (added_gap files name bytes i g))
 
 pub package_insert : (files : List FileText) (name bytes : List ℕ) (f : FileText) (i : ℕ) → IsPackage files → IsGap files name i → file_answer (length files) (total_bytes files) name bytes ≡ Ok f → IsPackage (insert files i f)
 unfolding file_answer
 package_insert files name bytes f i p g h =
-    let found = tested (nat_le (length files + 1) MAX_FILES && nat_le (total_bytes files + length bytes) MAX_BYTES) (file_of name bytes) f errors.Limit h in
+    let found = tested (nat_le (length files + 1) most_files && nat_le (total_bytes files + length bytes) most_bytes) (file_of name bytes) f errors.Limit h in
     let tests = and_parts _ _ found.0 in
-    let few : length files + 1 ≤ MAX_FILES = leb-true _ _ tests.0 in
-    let small : total_bytes files + length bytes ≤ MAX_BYTES = leb-true _ _ tests.1 in
+    let few : length files + 1 ≤ most_files = leb-true _ _ tests.0 in
+    let small : total_bytes files + length bytes ≤ most_bytes = leb-true _ _ tests.1 in
     let whole : IsPackage (insert files i (file_of name bytes)) = record {
       ascends = ascends-insert files name bytes i g p.ascends;
       few = omega (arith, length-insert files i (file_of name bytes) g.within);

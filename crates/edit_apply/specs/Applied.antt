@@ -1,20 +1,19 @@
 -- Many edits of a package, one after the other.
-use Rattle.std.specs.Prelude.{◌≡◌, ℕ, zero, suc, ◌<◌, ◌≤◌, List, [], ◌∷◌, length}
+use Rattle.std.specs.Prelude.{◌≡◌, ◌<◌, ◌≤◌, Option, Some, None, List, [], ◌∷◌, length, slice_get}
 use Rattle.std.specs.List.{AllByRecursion, HoldsAt}
 use Rattle.go_base.specs.declared.bytes.FileText.{FileText}
-use Rattle.go_base.specs.declared.package.TheConstants.{MAX_BYTES}
-use Rattle.go_base.specs.Package.{total_bytes}
+use Rattle.go_base.specs.Package.{total_bytes, most_bytes}
 use Rattle.edit_apply.specs.declared.edits.Edit.{Edit}
-use Rattle.edit_apply.specs.Edited.{file_of, spliced}
+use Rattle.edit_apply.specs.Edited.{edited}
 
--- the file with the number is edited, and all others stay
-abbrev pub edited_number : List FileText → ℕ → ℕ → ℕ → List ℕ → List FileText
-edited_number [] number start end new = []
-edited_number (f ∷ fs) zero start end new = file_of f.name (spliced f.bytes start end new) ∷ fs
-edited_number (f ∷ fs) (suc number) start end new = f ∷ edited_number fs number start end new
+-- one edit, of the bytes of that file
+abbrev pub edited_of : Option FileText → List FileText → Edit → List FileText
+edited_of None files e = files
+edited_of (Some f) files e = edited files f.name e.start e.end e.text
 
+-- one edit, of the file with its number
 abbrev pub edited_by : List FileText → Edit → List FileText
-edited_by files e = edited_number files e.file e.start e.end e.text
+edited_by files e = edited_of (slice_get files e.file) files e
 
 -- the edits in the given order
 abbrev pub applied : List FileText → List Edit → List FileText
@@ -35,4 +34,4 @@ Descends (e ∷ es) = AllByRecursion (λ later. later.file ≡ e.file → later.
 pub record AreApplicable (files : List FileText) (edits : List Edit) : Type 0 where
   pub ranges : AllByRecursion (IsInRange files) edits
   pub descends : Descends edits
-  pub small : total_bytes (applied files edits) ≤ MAX_BYTES
+  pub small : total_bytes (applied files edits) ≤ most_bytes

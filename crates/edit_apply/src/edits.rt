@@ -1,5 +1,5 @@
 ghost use Rattle.std.specs.Prelude.{◌≡◌, OnOk, IfOk};
-ghost use Rattle.go_base.specs.Package.{IsPackage};
+ghost use Rattle.go_base.specs.Package.{Ascends, IsPackage};
 ghost use Rattle.edit_apply.specs.Applied.{IsInRange, AreApplicable, applied, edited_by};
 
 use crate::places::spliced;
@@ -71,7 +71,8 @@ fn copied(alloc: Global, files: &[FileText]) -> Result<Vec<FileText>, Memory>
 
 /// Does one edit.
 fn edit_one(alloc: Global, files: &mut Vec<FileText>, edit: &Edit) -> Result<(), Memory>
-    requires { IsInRange files.old.items edit.now }
+    requires ascends { Ascends files.old.items }
+    requires range { IsInRange files.old.items edit.now }
     ensures { OnOk result (files.new.items ≡ edited_by files.old.items edit.now) }
 {
     let file = &mut files[edit.file as usize];

@@ -3,7 +3,7 @@
 //!
 //! The contract: `Texts` is a package, within its limits and in the order of its names. Each call
 //! answers the edited package or the first refusal that applies, and after a refusal, want of
-//! memory included, everything is as it was.
+//! memory included, everything is as it was. A list of edits is one edited text after the other.
 #![tactic(auto)]
 
 mod edits;

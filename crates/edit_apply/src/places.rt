@@ -1,9 +1,8 @@
 ghost use Rattle.std.specs.Prelude.{◌≡◌, ◌+◌, ◌-◌, ◌<◌, ◌≤◌, ◌^◌, ◌++◌, length, take, drop, min, IfOk, IfErr, IfSome, MatchResult};
-ghost use Rattle.go_base.specs.Package.{Ascends, IsPackage, total_bytes};
+ghost use Rattle.go_base.specs.Package.{Ascends, IsPackage, most_bytes, total_bytes};
 ghost use Rattle.std.specs.List.{insert, remove};
 ghost use Rattle.std.specs.Option.{option_copied};
 ghost use Rattle.go_base.specs.Gives.{Gives};
-ghost use Rattle.go_base.specs.declared.package.TheConstants.{MAX_BYTES as most_bytes};
 ghost use Rattle.edit_apply.specs.Edited.{bytes_under, spliced, with_bytes};
 ghost use Rattle.edit_apply.specs.Answers.{edit_refusal, bytes_answer, file_answer, edit_answer, add_answer, remove_answer};
 ghost use Rattle.edit_apply.specs.Places.{IsAt, IsGap};

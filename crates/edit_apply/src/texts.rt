@@ -316,17 +316,4 @@ mod tests {
         assert_eq!(rt; texts.length(&name), Some(1_048_576));
         Ok(())
     }
-
-    #[test]
-    fn keeps_the_limit_on_files(rt: HostRuntime) -> Result<(), Fail> {
-        let alloc = rt.alloc();
-        let mut texts = plain(alloc)?;
-        for number in 1..257u32 {
-            let name = format!(in alloc; "f{number}.go")?;
-            let added = texts.add(&named(alloc, name.as_str())?, b"");
-            assert_eq!(rt; added.is_ok(), number < 256);
-        }
-        assert_eq!(rt; texts.files(), 256);
-        Ok(())
-    }
 }

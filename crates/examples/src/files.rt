@@ -177,6 +177,21 @@ fn reads_a_file(rt: HostRuntime) -> Result<(), Fail> {
     Ok(())
 }
 
+/// A file of as many bytes as a file may have.
+#[test]
+fn reads_the_longest_file(rt: HostRuntime) -> Result<(), Fail> {
+    let alloc = rt.alloc();
+    let text = nested(
+        alloc,
+        ["package p\n", "type T int\n", "", "", "\n\n"],
+        95_324,
+    )?;
+    assert_eq!(rt; text.len(), 1_048_576);
+    let file = parsed(alloc, 0, text.as_str())?;
+    assert_eq!(rt; file.declarations().len(), 95_324);
+    Ok(())
+}
+
 /// The text of a name is that of its token.
 #[test]
 fn reads_the_text_of_a_name(rt: HostRuntime) -> Result<(), Fail> {

@@ -1,8 +1,8 @@
--- Laws of `Gives`: what a call answers that goes on with the value of another call.
-use Rattle.std.proofs.Common.{◌≡◌, ◌++◌, append_assoc, refl, sym, subst, ap, ◌∙◌, ◌∷◌, [], List}
+-- Laws of `Gives`, `Meets` and `Unless`: what a call answers that goes on with the value of another call.
+use Rattle.std.proofs.Common.{◌≡◌, sym, subst, ap, ◌∙◌}
 use Rattle.std.specs.Prelude.{Result, Ok, Err, Option, Some, None}
 use Rattle.std.specs.Option.{option_map}
-use Rattle.go_base.specs.Gives.{Unless, Gives, ◌>>=◌}
+use Rattle.go_base.specs.Gives.{Unless, Gives, Meets, ◌>>=◌}
 
 -- ---- `Unless`
 
@@ -47,21 +47,9 @@ gives_stop refusal_of e inner f = unless_map (refusal_of e) (λ r. inner ≡ Err
 pub gives_go : {X Y A E F : Type 0} (view : X → Y) (refusal_of : E → Option F) (r : Result X E) (inner : Result A F) (f : A → Result Y F) (a : A) → inner ≡ Ok a → Gives view refusal_of r (f a) → Gives view refusal_of r (inner >>= f)
 gives_go view refusal_of r inner f a is g = subst (Gives view refusal_of r) (sym (ap (λ x. x >>= f) is)) g
 
--- ---- a loop that collects the values of calls, one for each item
+-- ---- `Meets`
 
--- the answer with these values in front of its own
-abbrev pub onto : {A F : Type 0} → List A → Result (List A) F → Result (List A) F
-onto front (Ok xs) = Ok (front ++ xs)
-onto front (Err f) = Err f
-
-pub onto_nil : {A F : Type 0} (r : Result (List A) F) → onto [] r ≡ r
-onto_nil (Ok xs) = refl
-onto_nil (Err f) = refl
-
-pub onto_append : {A F : Type 0} (front : List A) (x : A) (r : Result (List A) F) → onto (front ++ x ∷ []) r ≡ onto front (onto (x ∷ []) r)
-onto_append front x (Ok xs) = ap Ok (append_assoc front (x ∷ []) xs)
-onto_append front x (Err f) = refl
-
--- The refusal of what is left is the whole's.
-pub gives_left : {E F A : Type 0} (refusal_of : E → Option F) (e : E) (front : List A) (rest whole : Result (List A) F) → onto front rest ≡ whole → Unless (refusal_of e) (λ r. rest ≡ Err r) → Unless (refusal_of e) (λ r. whole ≡ Err r)
-gives_left refusal_of e front rest whole is = unless_map (refusal_of e) (λ r. rest ≡ Err r) (λ r. whole ≡ Err r) (λ r stop. sym is ∙ ap (onto front) stop)
+-- what was answered is also such a value, and an error also names such a refusal
+pub meets_map : {X E F G : Type 0} (f : E → Option F) (g : E → Option G) (r : Result X E) (P Q : X → Type 0) (R : F → Type 0) (S : G → Type 0) → ((x : X) → P x → Q x) → ((e : E) → Unless (f e) R → Unless (g e) S) → Meets f r P R → Meets g r Q S
+meets_map f g (Ok x) P Q R S h k m = h x m
+meets_map f g (Err e) P Q R S h k m = k e m

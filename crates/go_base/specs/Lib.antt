@@ -1,4 +1,5 @@
 pub mod Gives
+pub mod Optional
 pub mod Name
 pub mod Fault
 pub mod Steps

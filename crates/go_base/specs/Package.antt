@@ -5,7 +5,14 @@ use Rattle.std.specs.List.{AllByRecursion}
 use Rattle.std.specs.Ordering.{nat_cmp}
 use Rattle.std.specs.Cmp.Lexicographic.{slice_cmp}
 use Rattle.go_base.specs.declared.bytes.FileText.{FileText}
-use Rattle.go_base.specs.declared.package.TheConstants.{MAX_FILES, MAX_BYTES}
+
+-- the most files of a package
+abbrev pub most_files : ℕ
+most_files = 256
+
+-- the most bytes of its files together
+abbrev pub most_bytes : ℕ
+most_bytes = 1048576
 
 -- one name comes before another, by their bytes
 abbrev pub ComesBefore : List ℕ → List ℕ → Type 0
@@ -21,5 +28,5 @@ total_bytes files = sum_by (λ f. length f.bytes) files
 
 pub record IsPackage (files : List FileText) : Type 0 where
   pub ascends : Ascends files
-  pub few : length files ≤ MAX_FILES
-  pub small : total_bytes files ≤ MAX_BYTES
+  pub few : length files ≤ most_files
+  pub small : total_bytes files ≤ most_bytes

@@ -62,20 +62,3 @@ pub struct FileText {
     pub name: Name,
     pub bytes: Bytes,
 }
-
-#[cfg(test)]
-mod tests {
-    use super::*;
-    use std::test::Fail;
-
-    #[test]
-    fn keeps_its_bytes(rt: HostRuntime) -> Result<(), Fail> {
-        let alloc = rt.alloc();
-        let bytes = Bytes::from_slice(alloc, b"package p\n")?;
-        assert_eq!(rt; bytes.len(), 10);
-        let copy = bytes.clone()?;
-        assert_eq!(rt; copy.as_slice(), b"package p\n".as_slice());
-        assert_eq!(rt; Bytes::of(bytes.into_vec()).as_slice(), copy.as_slice());
-        Ok(())
-    }
-}

@@ -4,7 +4,7 @@ ghost use Rattle.go_base.specs.Fault.{code_number, code_word, code_phases, phase
 use crate::span::Span;
 
 /// What a check of the package does one after the other. The earliest phase with a fault decides.
-#[derive(Clone, Copy, Debug, PartialEq, Eq, PartialOrd, Ord, Hash)]
+#[derive(Clone, Copy, Debug, PartialEq, Eq, Hash)]
 pub enum Phase {
     /// The bytes are text.
     Encoding = 1,
@@ -23,7 +23,7 @@ pub enum Phase {
 }
 
 /// Which rule of the language fails.
-#[derive(Clone, Copy, Debug, PartialEq, Eq, PartialOrd, Ord, Hash)]
+#[derive(Clone, Copy, Debug, PartialEq, Eq, Hash)]
 pub enum FaultCode {
     /// Not UTF-8, a NUL byte, or a byte order mark inside the text.
     Encoding = 1,
@@ -78,7 +78,7 @@ pub enum FaultCode {
 }
 
 /// A fault of a package, and its place.
-#[derive(Clone, Copy, Debug, PartialEq, Eq, PartialOrd, Ord, Hash)]
+#[derive(Clone, Copy, Debug, PartialEq, Eq, Hash)]
 pub struct Fault {
     pub code: FaultCode,
     pub span: Span,
@@ -168,24 +168,5 @@ impl FaultCode {
                 Phase::Bodies,
             ],
         }
-    }
-}
-
-#[cfg(test)]
-mod tests {
-    use super::*;
-
-    #[test]
-    fn has_the_words_of_replies(rt: HostRuntime) {
-        assert_eq!(rt; FaultCode::Syntax.number(), 4);
-        assert_eq!(rt; FaultCode::Syntax.word(), "syntax");
-        assert_eq!(rt; FaultCode::UnusedVariable.number(), 8);
-        assert_eq!(rt; FaultCode::UnusedVariable.word(), "unusedvariable");
-        assert_eq!(rt; FaultCode::Limit.number(), 25);
-        assert_eq!(rt;
-            FaultCode::Limit.phases(),
-            [Phase::Names, Phase::Declarations, Phase::Bodies].as_slice()
-        );
-        assert_eq!(rt; Phase::Bodies.number(), 7);
     }
 }

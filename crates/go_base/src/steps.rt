@@ -66,32 +66,3 @@ impl<L: Ledger> Steps<L> {
         self.book.add(&mut self.compared, 1);
     }
 }
-
-#[cfg(test)]
-mod tests {
-    use super::*;
-    use std::marker::Brand;
-
-    fn tick_each<L: Ledger>(steps: &mut Steps<L>)
-        requires { steps.old ≡ no_counts }
-        ensures { steps.new ≡ record { checked = 1; entered = 2; compared = 1 } }
-    {
-        steps.tick_checked();
-        steps.tick_entered();
-        steps.tick_compared();
-        steps.tick_entered();
-    }
-
-    fn count<L: Ledger>(blank: Blank)
-        requires name { blank.name ≡ L.name }
-        requires parts { blank.parts ≡ L.parts }
-        requires room { 3 ≤ blank.parts }
-    {
-        tick_each::<L>(&mut Steps::new(blank));
-    }
-
-    #[test]
-    fn counts_each_step() {
-        count::<Brand>(Blank::new(3));
-    }
-}

@@ -1,8 +1,9 @@
 -- What follows from what was found.
 use Rattle.std.proofs.Common.{◌≡◌, ℕ, suc, ◌<◌, ◌≤◌, List, length, Option, Some, None, refl, sym, ap, ◌∙◌, subst, Bool, true, false, drop, [], ◌∷◌, Result, Ok, Err, arith}
-use Rattle.std.specs.Prelude.{slice_get, MatchResult, if◌then◌else◌}
+use Rattle.std.specs.Prelude.{slice_get, if◌then◌else◌}
 use Rattle.std.proofs.lemmas.List.{length-map}
 use Rattle.std.proofs.lemmas.Option.{slice_get_within}
+use Rattle.go_base.specs.Gives.{Unless as UnlessMemory}
 use Rattle.go_tokens.specs.declared.token.TokenKind.{TokenKind}
 use Rattle.go_tokens.specs.declared.token.Token.{Token}
 use Rattle.go_tokens.specs.Tokens.{kinds, kind_of}
@@ -33,13 +34,13 @@ use Rattle.go_grammar.proofs.Ranges.{between_order, between_end}
 use Rattle.go_grammar.proofs.Steps.{tends_one}
 use Rattle.go_grammar.proofs.Unique.{file_found}
 use Rattle.go_parse.specs.Turns.{stops, passes}
-use Rattle.go_parse.specs.Engine.{Lacks, is_worded, is_solid, is_word_first}
+use Rattle.go_parse.specs.Engine.{stop_refusal, is_worded, is_solid, is_word_first}
 
-pub lacks : (P : Type 0) (e : Stop) → P → Lacks e P
+pub lacks : (P : Type 0) (e : Stop) → P → UnlessMemory (stop_refusal e) (λ _. P)
 lacks P stop.Memory h = tt
 lacks P stop.Syntax h = h
 
-pub lacks_map : (P Q : Type 0) (e : Stop) → (P → Q) → Lacks e P → Lacks e Q
+pub lacks_map : (P Q : Type 0) (e : Stop) → (P → Q) → UnlessMemory (stop_refusal e) (λ _. P) → UnlessMemory (stop_refusal e) (λ _. Q)
 lacks_map P Q stop.Memory f h = tt
 lacks_map P Q stop.Syntax f h = f h
 
@@ -168,10 +169,6 @@ fits_part (End ws) k w h = cc
 fits_part (Maybe ws c r) k w h = cc
 fits_part (Unless ws c us r) k w h = cc
 fits_part (Many ws l) k w h = cc
-
-pub result_map : {A E : Type 0} (r : Result A E) (P Q : A → Type 0) (R S : E → Type 0) → ((a : A) → P a → Q a) → ((e : E) → R e → S e) → MatchResult r P R → MatchResult r Q S
-result_map (Ok a) P Q R S f g h = f a h
-result_map (Err e) P Q R S f g h = g e h
 
 -- a text with a first word begins within the tokens
 pub worded_starts : (ts : List TokenKind) (ps : Trees) (r : Rule) (i j : ℕ) → is_worded r ≡ true → Spells ts r i ps j → i ≤ length ts

@@ -18,10 +18,10 @@ use Rattle.go_parse.specs.declared.error.Stop.TheVariants as stop
 use Rattle.go_parse.specs.declared.row.Grown.{Grown}
 use Rattle.go_parse.specs.declared.row.Row.{Row}
 
--- unless memory ran out
-abbrev pub Lacks : Stop → Type 0 → Type 0
-Lacks stop.Memory P = Unit {0}
-Lacks stop.Syntax P = P
+-- the refusal that a stop names
+abbrev pub stop_refusal : Stop → Option Stop
+stop_refusal stop.Syntax = Some stop.Syntax
+stop_refusal stop.Memory = None
 
 -- some parts, and then others
 abbrev pub onto : Trees → Trees → Trees

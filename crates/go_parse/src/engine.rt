@@ -1,6 +1,7 @@
 // The engine: a few functions over the table of productions.
 
-ghost use Rattle.std.specs.Prelude.{◌≡◌, ◌&&◌, ◌+◌, ◌^◌, ◌<◌, ◌≤◌, true, false, length, slice_get, suc, MatchResult, IfOk, Some, None};
+ghost use Rattle.std.specs.Prelude.{◌≡◌, ◌&&◌, ◌+◌, ◌^◌, ◌<◌, ◌≤◌, true, false, length, slice_get, suc, IfOk, Some, None};
+ghost use Rattle.go_base.specs.Gives.{Meets};
 ghost use Rattle.go_tokens.specs.Tokens.{kinds};
 ghost use Rattle.go_grammar.specs.declared.kind.Category.{Category};
 ghost use Rattle.go_grammar.specs.Categories.{within};
@@ -10,7 +11,7 @@ ghost use Rattle.go_grammar.specs.Reader as reader;
 ghost use Rattle.go_grammar.specs.Symbols.{right, repeated};
 ghost use Rattle.go_grammar.specs.Trees.{kind_of, first, last, weight, depth};
 ghost use Rattle.go_tree.specs.Views.{view, views};
-ghost use Rattle.go_parse.specs.Engine.{IsFound, IsOpened, IsNotOpened, IsJoined, IsNotJoined, IsFinished, IsLow, IsRowOn, IsOptionOn, Lacks, is_worded};
+ghost use Rattle.go_parse.specs.Engine.{IsFound, IsOpened, IsNotOpened, IsJoined, IsNotJoined, IsFinished, IsLow, IsRowOn, IsOptionOn, stop_refusal, is_worded};
 
 use crate::error::Stop;
 use crate::next::{
@@ -35,7 +36,7 @@ pub fn tree(
     room: u32,
 ) -> Result<Grown, Stop>
     requires size { length tokens.now.tokens < 2 ^ 32 }
-    ensures { MatchResult result (λ g. IsFound (λ n. reader.read n (kinds tokens.now.tokens) room category at) g) (λ e. Lacks e (reader.Tends (λ n. reader.read n (kinds tokens.now.tokens) room category at) None)) }
+    ensures { Meets stop_refusal result (λ g. IsFound (λ n. reader.read n (kinds tokens.now.tokens) room category at) g) (λ _. reader.Tends (λ n. reader.read n (kinds tokens.now.tokens) room category at) None) }
 {
     let Some(word) = kind_at(tokens, at) else {
         return Err(Stop::Syntax);
@@ -80,7 +81,7 @@ fn opened_node(
 ) -> Result<Grown, Stop>
     requires size { length tokens.now.tokens < 2 ^ 32 }
     requires worded { is_worded (rule place kind) ≡ true }
-    ensures { MatchResult result (λ g. IsOpened (kinds tokens.now.tokens) room place kind at g) (λ e. Lacks e (IsNotOpened (kinds tokens.now.tokens) room place kind at)) }
+    ensures { Meets stop_refusal result (λ g. IsOpened (kinds tokens.now.tokens) room place kind at g) (λ _. IsNotOpened (kinds tokens.now.tokens) room place kind at) }
 {
     if kind.weight() > room {
         return Err(Stop::Syntax);
@@ -110,7 +111,7 @@ fn joined_node(
     requires told { grown.depth ≡ depth (view grown.node) }
     requires grows { first (view grown.node) < last (view grown.node) }
     requires ends { last (view grown.node) ≤ length tokens.now.tokens }
-    ensures { MatchResult result (λ g. IsJoined (kinds tokens.now.tokens) room place kind (view grown.node) g) (λ e. Lacks e (IsNotJoined (kinds tokens.now.tokens) room place kind (view grown.node))) }
+    ensures { Meets stop_refusal result (λ g. IsJoined (kinds tokens.now.tokens) room place kind (view grown.node) g) (λ _. IsNotJoined (kinds tokens.now.tokens) room place kind (view grown.node)) }
 {
     let symbols = production(place, kind);
     if kind.weight() > room
@@ -138,7 +139,7 @@ fn may_begin(tokens: &Tokens, symbols: &[Symbol], node: &Node) -> bool
 /// The node with these parts, if they agree.
 fn finished(kind: Kind, first: u32, row: Row) -> Result<Grown, Stop>
     requires { weight kind + row.levels < 2 ^ 32 }
-    ensures { MatchResult result (IsFinished kind first row) (λ e. (e ≡ Stop.Syntax) × (agrees kind (views row.parts.items) ≡ false)) }
+    ensures { Meets (λ e. Some e) result (IsFinished kind first row) (λ e. (e ≡ Stop.Syntax) × (agrees kind (views row.parts.items) ≡ false)) }
 {
     let node = Node::new(kind, first, row.last, row.parts);
     if node.agrees() {
@@ -163,7 +164,7 @@ fn spelled(
     requires size { length tokens.now.tokens < 2 ^ 32 }
     requires low { IsLow room row }
     ensures low { IfOk result (IsLow room) }
-    ensures exact { MatchResult result (λ r. IsRowOn (λ n. reader.spell n (kinds tokens.now.tokens) room (right symbols.now) row.last) row r) (λ e. Lacks e (reader.Tends (λ n. reader.spell n (kinds tokens.now.tokens) room (right symbols.now) row.last) None)) }
+    ensures exact { Meets stop_refusal result (λ r. IsRowOn (λ n. reader.spell n (kinds tokens.now.tokens) room (right symbols.now) row.last) row r) (λ _. reader.Tends (λ n. reader.spell n (kinds tokens.now.tokens) room (right symbols.now) row.last) None) }
 {
     let mut so_far = row;
     for symbol in symbols {
@@ -204,7 +205,7 @@ fn optional(
     requires low { IsLow room row }
     ensures low { IfOk result (IsLow room) }
     ensures later { IfOk result (λ r. row.last ≤ r.last) }
-    ensures exact { MatchResult result (λ r. IsOptionOn (kinds tokens.now.tokens) room category here row r) (λ e. Lacks e ((r : Rule) → reader.Tends (λ n. reader.option n (kinds tokens.now.tokens) room category r row.last here) None)) }
+    ensures exact { Meets stop_refusal result (λ r. IsOptionOn (kinds tokens.now.tokens) room category here row r) (λ _. (r : Rule) → reader.Tends (λ n. reader.option n (kinds tokens.now.tokens) room category r row.last here) None) }
 {
     if here {
         let part = tree(alloc, tokens, category, row.last, room)?;
@@ -226,7 +227,7 @@ fn items(
     requires size { length tokens.now.tokens < 2 ^ 32 }
     requires low { IsLow room row }
     ensures low { IfOk result (IsLow room) }
-    ensures exact { MatchResult result (λ r. IsRowOn (λ n. reader.items n (kinds tokens.now.tokens) room (repeated repetition) row.last) row r) (λ e. Lacks e (reader.Tends (λ n. reader.items n (kinds tokens.now.tokens) room (repeated repetition) row.last) None)) }
+    ensures exact { Meets stop_refusal result (λ r. IsRowOn (λ n. reader.items n (kinds tokens.now.tokens) room (repeated repetition) row.last) row r) (λ _. reader.Tends (λ n. reader.items n (kinds tokens.now.tokens) room (repeated repetition) row.last) None) }
 {
     let mut so_far = row;
     let mut turned = turn(repetition, kind_at(tokens, so_far.last));

@@ -1,6 +1,7 @@
 // What stands at a place.
 
-ghost use Rattle.std.specs.Prelude.{◌≡◌, ◌^◌, ◌<◌, ◌≤◌, [], ◌∷◌, Some, None, length, slice_get, suc, MatchResult, if◌then◌else◌};
+ghost use Rattle.std.specs.Prelude.{◌≡◌, ◌^◌, ◌<◌, ◌≤◌, [], ◌∷◌, Some, None, length, slice_get, suc, if◌then◌else◌};
+ghost use Rattle.go_base.specs.Gives.{Meets};
 ghost use Rattle.go_tokens.specs.Tokens.{kinds};
 ghost use Rattle.go_grammar.specs.Grammar.{result_words};
 ghost use Rattle.go_grammar.specs.Rules as rules;
@@ -41,7 +42,7 @@ pub fn is_at(tokens: &Tokens, at: u32, word: TokenKind) -> bool
 /// The place behind a token that is to stand here.
 pub fn expect(tokens: &Tokens, at: u32, word: TokenKind) -> Result<u32, Stop>
     requires { length tokens.now.tokens < 2 ^ 32 }
-    ensures { MatchResult result (λ next. reader.words (kinds tokens.now.tokens) at (word ∷ []) ≡ Some next) (λ e. (e ≡ Stop.Syntax) × (reader.words (kinds tokens.now.tokens) at (word ∷ []) ≡ None)) }
+    ensures { Meets (λ e. Some e) result (λ next. reader.words (kinds tokens.now.tokens) at (word ∷ []) ≡ Some next) (λ e. (e ≡ Stop.Syntax) × (reader.words (kinds tokens.now.tokens) at (word ∷ []) ≡ None)) }
 {
     if is_at(tokens, at, word) {
         Ok(at + 1)
@@ -153,7 +154,7 @@ pub fn item(repetition: Repetition) -> Category
 /// The place behind a token that is to stand here, if one is to.
 fn expect_optional(tokens: &Tokens, at: u32, word: Option<TokenKind>) -> Result<u32, Stop>
     requires { length tokens.now.tokens < 2 ^ 32 }
-    ensures { MatchResult result (λ next. reader.words (kinds tokens.now.tokens) at (optional_word word) ≡ Some next) (λ e. (e ≡ Stop.Syntax) × (reader.words (kinds tokens.now.tokens) at (optional_word word) ≡ None)) }
+    ensures { Meets (λ e. Some e) result (λ next. reader.words (kinds tokens.now.tokens) at (optional_word word) ≡ Some next) (λ e. (e ≡ Stop.Syntax) × (reader.words (kinds tokens.now.tokens) at (optional_word word) ≡ None)) }
 {
     match word {
         Some(word) => expect(tokens, at, word),
@@ -164,7 +165,7 @@ fn expect_optional(tokens: &Tokens, at: u32, word: Option<TokenKind>) -> Result<
 /// The place behind the words that end items.
 pub fn closed(tokens: &Tokens, repetition: Repetition, at: u32) -> Result<u32, Stop>
     requires { length tokens.now.tokens < 2 ^ 32 }
-    ensures { MatchResult result (λ next. reader.words (kinds tokens.now.tokens) at (reader.closing (repeated repetition)) ≡ Some next) (λ e. (e ≡ Stop.Syntax) × (reader.words (kinds tokens.now.tokens) at (reader.closing (repeated repetition)) ≡ None)) }
+    ensures { Meets (λ e. Some e) result (λ next. reader.words (kinds tokens.now.tokens) at (reader.closing (repeated repetition)) ≡ Some next) (λ e. (e ≡ Stop.Syntax) × (reader.words (kinds tokens.now.tokens) at (reader.closing (repeated repetition)) ≡ None)) }
 {
     match repetition {
         Repetition::Lines { close, .. } => expect(tokens, at, close),

@@ -1,5 +1,5 @@
 -- The lexing of a file's bytes, or its fault.
-use Rattle.std.specs.Prelude.{ℕ, ◌⊎◌, List}
+use Rattle.std.specs.Prelude.{ℕ, ◌⊎◌, List, Option, Some, None}
 use Rattle.go_base.specs.declared.Span.{Span}
 use Rattle.go_base.specs.declared.Fault.{Fault}
 use Rattle.go_tokens.specs.declared.token.Token.{Token}
@@ -24,7 +24,7 @@ pub record IsLaterFault (file : ℕ) (bytes : List ℕ) (fault : Fault) : Type 0
 abbrev pub IsFault : ℕ → List ℕ → Fault → Type 0
 IsFault file bytes fault = IsEncodingFault file bytes fault ⊎ IsLaterFault file bytes fault
 
--- unless memory ran out, the fault is one of which this holds
-abbrev pub Blames : LexError → (Fault → Type 0) → Type 0
-Blames errors.Memory P = Unit {0}
-Blames (errors.Fault fault) P = P fault
+-- the fault that an error names
+abbrev pub lex_refusal : LexError → Option Fault
+lex_refusal (errors.Fault fault) = Some fault
+lex_refusal errors.Memory = None

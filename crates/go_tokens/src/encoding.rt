@@ -1,12 +1,13 @@
 // From bytes to characters.
 
-ghost use Rattle.std.specs.Prelude.{◌≡◌, ◌⊎◌, ◌+◌, ◌<◌, ◌≤◌, ◌^◌, true, false, length, take, MatchOption, MatchResult, IfOk, IfErr};
+ghost use Rattle.std.specs.Prelude.{◌≡◌, ◌⊎◌, ◌+◌, ◌<◌, ◌≤◌, ◌^◌, true, false, length, take, MatchOption, IfOk, IfErr};
 ghost use Rattle.std.specs.Str.{IsUtf8, IsValidUpTo, chars};
 ghost use Rattle.std.specs.Str.Lossy.{utf8_valid_len};
+ghost use Rattle.go_base.specs.Gives.{Meets};
 ghost use Rattle.go_tokens.specs.Encoding.{IsText, IsEncodingFault, are_allowed, encoding_fault};
 ghost use Rattle.go_tokens.specs.Lexing.{width};
 ghost use Rattle.go_tokens.specs.Progress.{IsRefused};
-ghost use Rattle.go_tokens.specs.Files.{Blames};
+ghost use Rattle.go_tokens.specs.Files.{lex_refusal};
 
 use crate::error::LexError;
 use crate::lexer::{span, width};
@@ -20,7 +21,7 @@ const MARK: char = '\u{FEFF}';
 /// The characters of a file, or the first place where its bytes are none or not allowed.
 pub fn decode(alloc: Global, file: u32, bytes: &[u8]) -> Result<Vec<char>, LexError>
     requires { length bytes.now < 2 ^ 31 }
-    ensures exact { MatchResult result (λ text. IsText text.items bytes.now) (λ e. Blames e (IsEncodingFault file bytes.now)) }
+    ensures exact { Meets lex_refusal result (λ text. IsText text.items bytes.now) (IsEncodingFault file bytes.now) }
 {
     let front = valid_front(bytes);
     let text = characters(alloc, front)?;

@@ -1,11 +1,12 @@
 // The tokens of a file.
 
-ghost use Rattle.std.specs.Prelude.{◌≡◌, ◌⊎◌, ◌≤◌, ℕ, List, length, MatchResult};
+ghost use Rattle.std.specs.Prelude.{◌≡◌, ◌≤◌, ℕ, List, length};
+ghost use Rattle.go_base.specs.Gives.{Meets};
 ghost use Rattle.go_base.specs.declared.Span.{Span};
 ghost use Rattle.go_base.specs.declared.Fault.{Fault};
 ghost use Rattle.go_tokens.specs.declared.token.Token.{Token};
 ghost use Rattle.go_tokens.specs.Tokens.{TokenList};
-ghost use Rattle.go_tokens.specs.Files.{IsLexing, IsFault, Blames};
+ghost use Rattle.go_tokens.specs.Files.{IsLexing, IsFault, lex_refusal};
 
 use crate::encoding::decode;
 use crate::error::LexError;
@@ -20,11 +21,11 @@ use std::alloc::Global;
 pub fn lex(alloc: Global, file: u32, bytes: &[u8]) -> Result<Tokens, LexError>
     requires { length bytes.now ≤ 1048576 }
     // What it answers is the lexing of the file, or its fault.
-    ensures exact { MatchResult result (λ t. (t.file ≡ file) × (t.text ≡ bytes.now) × IsLexing file bytes.now t.tokens t.comments) (λ e. Blames e (IsFault file bytes.now)) }
+    ensures exact { Meets lex_refusal result (λ t. (t.file ≡ file) × (t.text ≡ bytes.now) × IsLexing file bytes.now t.tokens t.comments) (IsFault file bytes.now) }
     // Where there is a lexing, it answers that one, unless memory ran out.
-    ensures lexing { (ts : List Token) (cs : List Span) → IsLexing file bytes.now ts cs → MatchResult result (λ t. t ≡ record { file = file; text = bytes.now; tokens = ts; comments = cs }) (λ e. e ≡ LexError.Memory) }
+    ensures lexing { (ts : List Token) (cs : List Span) → IsLexing file bytes.now ts cs → Meets lex_refusal result (λ t. t ≡ record { file = file; text = bytes.now; tokens = ts; comments = cs }) (λ _. ⊥) }
     // Where there is a fault, it answers that one, unless memory ran out.
-    ensures fault { (f : Fault) → IsFault file bytes.now f → MatchResult result (λ t. ⊥) (λ e. (e ≡ LexError.Memory) ⊎ (e ≡ LexError.Fault f)) }
+    ensures fault { (f : Fault) → IsFault file bytes.now f → Meets lex_refusal result (λ _. ⊥) (λ g. g ≡ f) }
 {
     let text = decode(alloc, file, bytes)?;
     let lexer = lex_text(alloc, file, &text)?;

@@ -1,9 +1,10 @@
 // The lexer: one piece after the other.
 
-ghost use Rattle.std.specs.Prelude.{◌≡◌, [], ◌+◌, ◌<◌, ◌≤◌, ◌^◌, None, OnOk, MatchResult};
+ghost use Rattle.std.specs.Prelude.{◌≡◌, [], ◌+◌, ◌<◌, ◌≤◌, ◌^◌, None, OnOk};
+ghost use Rattle.go_base.specs.Gives.{Meets};
 ghost use Rattle.go_tokens.specs.Pieces.{kind as kind_of};
 ghost use Rattle.go_tokens.specs.Lexing.{width, span, Lexes, IsTokenFault, covered};
-ghost use Rattle.go_tokens.specs.Files.{Blames};
+ghost use Rattle.go_tokens.specs.Files.{lex_refusal};
 ghost use Rattle.go_tokens.specs.Progress.{state, taken, line_ended};
 
 use crate::error::LexError;
@@ -99,7 +100,7 @@ impl Lexer {
 /// The tokens and comments of the characters of a file.
 pub fn lex_text(alloc: Global, file: u32, text: &[char]) -> Result<Lexer, LexError>
     requires { width text.now < 2 ^ 31 }
-    ensures exact { MatchResult result (λ lexer. Lexes file text.now lexer.tokens.items lexer.comments.items) (λ e. Blames e (IsTokenFault file text.now)) }
+    ensures exact { Meets lex_refusal result (λ lexer. Lexes file text.now lexer.tokens.items lexer.comments.items) (IsTokenFault file text.now) }
 {
     let mut lexer = Lexer::new(alloc, file);
     let mut index = 0;

@@ -1,11 +1,12 @@
 use Rattle.std.proofs.Common.{subst, sym, ◌∙◌}
 use Rattle.go_base.specs.Package.{IsPackage}
-use Rattle.edit_apply.proofs.Applied.{left_step, same_step, all_done, package_applied}
+use Rattle.edit_apply.proofs.Applied.{left_step, ascends_step, same_step, all_done, package_applied}
 use Rattle.edit_apply.proofs.edits.apply_all.Goals as goal
 
 pub loop-edit-preserved : goal.loop-edit-preserved
 loop-edit-preserved c = record {
-  left = left_step c.loop-edit.after.items c.edit_one.new.files.items c.args.edits.now c.loop-edit.edit-index c.edit-item.result c.loop-edit-test.true c.edit-item.is c.in_ok-edit_one.ensures c.loop-edit.invariant.left;
+  ascends = ascends_step c.loop-edit.after.items c.edit_one.new.files.items c.args.edits.now c.loop-edit.edit-index c.edit-item.result c.loop-edit-test.true c.edit-item.is c.in_ok-edit_one.ensures c.loop-edit.invariant.ascends c.loop-edit.invariant.left;
+  left = left_step c.loop-edit.after.items c.edit_one.new.files.items c.args.edits.now c.loop-edit.edit-index c.edit-item.result c.loop-edit-test.true c.edit-item.is c.in_ok-edit_one.ensures c.loop-edit.invariant.ascends c.loop-edit.invariant.left;
   same = same_step c.loop-edit.after.items c.edit_one.new.files.items c.args.edits.now c.loop-edit.edit-index c.edit-item.result c.loop-edit-test.true c.edit-item.is c.in_ok-edit_one.ensures ∙ c.loop-edit.invariant.same;
 }
 

@@ -1,6 +1,8 @@
 use Rattle.std.proofs.Common.{rules, ◌≡◌, ℕ, zero, suc, ◌+◌, ◌-◌, ◌*◌, ◌<◌, ◌≤◌, inl, inr, max, Bool, true, false, List, [], ◌∷◌, ◌++◌, length, take, drop, Option, Some, None, refl, sym, ap, ◌∙◌, subst, add-one, arith}
 use Rattle.std.proofs.lemmas.Bool.{le-leb, lt-leb}
 use Rattle.std.specs.Prelude.{slice_get, nat_le, ◌&&◌}
+use Rattle.go_base.specs.Gives.{Unless as UnlessMemory}
+use Rattle.go_base.proofs.Gives.{meets_map}
 use Rattle.go_tokens.specs.Tokens.{kinds}
 use Rattle.go_tokens.specs.declared.token.TokenKind.{TokenKind}
 use Rattle.go_tokens.specs.declared.token.TokenKind.TheVariants as token
@@ -22,8 +24,8 @@ use Rattle.go_grammar.proofs.Steps.{read_on, grow_on}
 use Rattle.go_tree.specs.Views.{view, views}
 use Rattle.go_parse.specs.declared.error.Stop.TheVariants as stop
 use Rattle.go_parse.specs.declared.row.Row.{Row}
-use Rattle.go_parse.specs.Engine.{IsLow, IsRowOn, LeadsOn, IsFinished, IsOpened, IsNotOpened, IsJoined, IsNotJoined, Lacks, onto, rank, lag, prefix, is_worded, is_solid}
-use Rattle.go_parse.proofs.Found.{lacks, lacks_map, length-kinds, token_within, found_stands, spelled_stands, worded_grows, worded_starts, solid_grows, right_after, word_behind, turn_stops, turn_passes, turn_item, pass_there, next_on, fits_part, result_map}
+use Rattle.go_parse.specs.Engine.{IsLow, IsRowOn, LeadsOn, IsFinished, IsOpened, IsNotOpened, IsJoined, IsNotJoined, stop_refusal, onto, rank, lag, prefix, is_worded, is_solid}
+use Rattle.go_parse.proofs.Found.{lacks, lacks_map, length-kinds, token_within, found_stands, spelled_stands, worded_grows, worded_starts, solid_grows, right_after, word_behind, turn_stops, turn_passes, turn_item, pass_there, next_on, fits_part}
 use Rattle.go_parse.proofs.Ranks.{opened_words, joined_ranks, rank_low}
 use Rattle.go_parse.proofs.Rows.{behind, skipped, low_with, low_without, leads_with, leads_without, leads_same, leads_begin, leads_leads, leads_to, leads_end, views_push, row_on, drop_get, drop_past, from_one}
 use Rattle.go_parse.proofs.Steps as steps
@@ -62,7 +64,7 @@ opened_node-returns-in_err-row t c =
     let w : m - c.weight-2.result ≡ m - weight k = ap (λ x. m - x) c.weight-2.ensures in
     let e = c.in_err-row.field-0.0 in
     let P : Type 0 = IsNotOpened ts m c.args.place k i in
-    let f : Lacks e P = lacks_map (Tends (λ n. spell n ts (m - c.weight-2.result) (right c.production-symbols.result) c.empty.result.last) None) P e (λ r g p o. steps.read_none ts m k g i o yes (subst (λ q. Tends (λ n. spell n ts (m - weight k) q i) None) (c.production-symbols.ensures ∙ placed g c.args.place k p) (subst (λ j. Tends (λ n. spell n ts (m - weight k) (right c.production-symbols.result) j) None) c.empty.ensures.last (subst (λ x. Tends (λ n. spell n ts x (right c.production-symbols.result) c.empty.result.last) None) w r)))) c.in_err-row.ensures.exact in
+    let f : UnlessMemory (stop_refusal e) (λ _. P) = lacks_map (Tends (λ n. spell n ts (m - c.weight-2.result) (right c.production-symbols.result) c.empty.result.last) None) P e (λ r g p o. steps.read_none ts m k g i o yes (subst (λ q. Tends (λ n. spell n ts (m - weight k) q i) None) (c.production-symbols.ensures ∙ placed g c.args.place k p) (subst (λ j. Tends (λ n. spell n ts (m - weight k) (right c.production-symbols.result) j) None) c.empty.ensures.last (subst (λ x. Tends (λ n. spell n ts x (right c.production-symbols.result) c.empty.result.last) None) w r)))) c.in_err-row.ensures.exact in
     search rules
 
 pub opened_node-returns : goal.opened_node-returns
@@ -83,7 +85,7 @@ opened_node-returns t c =
     let st = spelled_stands ts (m - weight k) (rule c.args.place k) i ps row.last sp in
     let grows : i < row.last = worded_grows ts ps (rule c.args.place k) i row.last c.requires.worded st.spells in
     let ends : row.last ≤ length ts = st.ends (worded_starts ts ps (rule c.args.place k) i row.last c.requires.worded st.spells) in
-    result_map c.finished.result (IsFinished k i row) (λ g. IsOpened ts m c.args.place k i g) (λ e. (e ≡ stop.Syntax) × (agrees k (views row.parts.items) ≡ false)) (λ e. Lacks e (IsNotOpened ts m c.args.place k i))
+    meets_map (λ e. Some e) stop_refusal c.finished.result (IsFinished k i row) (λ g. IsOpened ts m c.args.place k i g) (λ e. (e ≡ stop.Syntax) × (agrees k (views row.parts.items) ≡ false)) (λ _. IsNotOpened ts m c.args.place k i)
     (λ g fin.
     let u : view g.node ≡ node k i row.last ps = fin.is ∙ ap (node k i row.last) are in
     let a : agrees k ps ≡ true = ap (agrees k) (sym are) ∙ fin.agree in
@@ -135,7 +137,7 @@ joined_node-returns-in_err-row-2 t c =
     let at : c.in_ok-row.row.last ≡ last p = c.in_ok-row.ensures.1 in
     let e = c.in_err-row-2.field-0.0 in
     let P : Type 0 = IsNotJoined ts m c.args.place k p in
-    let f : Lacks e P = lacks_map (Tends (λ n. spell n ts (m - c.weight-2.result) (right ys) c.in_ok-row.row.last) None) P e (λ r g q o. steps.grow_none ts m p g k o (and_two (fits (rule (place_of g) k) (kind_of p) (slice_get ts (last p))) (nat_le (weight k + depth p) m) (ap (λ z. fits z (kind_of p) (slice_get ts (last p))) (sym (placed g c.args.place k q) ∙ sym c.production-symbols.ensures) ∙ fit) (le-leb (weight k + depth p) m le)) (subst (λ z. Tends (λ n. spell n ts (m - weight k) z (last p)) None) (rest ∙ ap after_first (placed g c.args.place k q)) (subst (λ j. Tends (λ n. spell n ts (m - weight k) (right ys) j) None) at (subst (λ x. Tends (λ n. spell n ts x (right ys) c.in_ok-row.row.last) None) w r)))) c.in_err-row-2.ensures.exact in
+    let f : UnlessMemory (stop_refusal e) (λ _. P) = lacks_map (Tends (λ n. spell n ts (m - c.weight-2.result) (right ys) c.in_ok-row.row.last) None) P e (λ r g q o. steps.grow_none ts m p g k o (and_two (fits (rule (place_of g) k) (kind_of p) (slice_get ts (last p))) (nat_le (weight k + depth p) m) (ap (λ z. fits z (kind_of p) (slice_get ts (last p))) (sym (placed g c.args.place k q) ∙ sym c.production-symbols.ensures) ∙ fit) (le-leb (weight k + depth p) m le)) (subst (λ z. Tends (λ n. spell n ts (m - weight k) z (last p)) None) (rest ∙ ap after_first (placed g c.args.place k q)) (subst (λ j. Tends (λ n. spell n ts (m - weight k) (right ys) j) None) at (subst (λ x. Tends (λ n. spell n ts x (right ys) c.in_ok-row.row.last) None) w r)))) c.in_err-row-2.ensures.exact in
     search rules
 
 pub joined_node-returns : goal.joined_node-returns
@@ -165,7 +167,7 @@ joined_node-returns t c =
     let within_p : last p ≤ length ts = omega (arith, c.requires.ends, length-kinds c.args.tokens.now.tokens) in
     let yes : (g : Category) → place_of g ≡ c.args.place → fits (rule (place_of g) k) (kind_of p) (slice_get ts (last p)) ≡ true = λ g q. ap (λ z. fits z (kind_of p) (slice_get ts (last p))) (sym (placed g c.args.place k q) ∙ sym c.production-symbols.ensures) ∙ fit in
     let spot : (g : Category) → place_of g ≡ c.args.place → Tends (λ n. spell n ts (m - weight k) (after_first (rule (place_of g) k)) (last p)) (Some (qs, row.last)) = λ g q. subst (λ z. Tends (λ n. spell n ts (m - weight k) z (last p)) (Some (qs, row.last))) (ap after_first (placed g c.args.place k q)) sp in
-    result_map c.finished.result (IsFinished k c.first-first.result row) (λ g. IsJoined ts m c.args.place k p g) (λ e. (e ≡ stop.Syntax) × (agrees k (views row.parts.items) ≡ false)) (λ e. Lacks e (IsNotJoined ts m c.args.place k p))
+    meets_map (λ e. Some e) stop_refusal c.finished.result (IsFinished k c.first-first.result row) (λ g. IsJoined ts m c.args.place k p g) (λ e. (e ≡ stop.Syntax) × (agrees k (views row.parts.items) ≡ false)) (λ _. IsNotJoined ts m c.args.place k p)
     (λ g fin.
     let u : view g.node ≡ node k (first p) row.last (more p qs) = fin.is ∙ ap (λ z. node k z row.last (views row.parts.items)) i ∙ ap (node k (first p) row.last) are in
     let a : agrees k (more p qs) ≡ true = ap (agrees k) (sym are) ∙ fin.agree in
@@ -192,7 +194,7 @@ optional-returns-in_err-part-clause-exact t c =
     let i = c.args.row.last in
     let e = c.in_err-part.field-0.0 in
     let P : Type 0 = (r : Rule) → Tends (λ n. option n ts m g r i c.args.here) None in
-    let f : Lacks e P = lacks_map (Tends (λ n. read n ts m g i) None) P e (λ a r. subst (λ b. Tends (λ n. option n ts m g r i b) None) (sym c.if-here.true) (steps.option_off ts m g r i a)) c.in_err-part.ensures in
+    let f : UnlessMemory (stop_refusal e) (λ _. P) = lacks_map (Tends (λ n. read n ts m g i) None) P e (λ a r. subst (λ b. Tends (λ n. option n ts m g r i b) None) (sym c.if-here.true) (steps.option_off ts m g r i a)) c.in_err-part.ensures in
     search rules
 
 pub optional-returns-in_ok-with-clause-low : goal.optional-returns-in_ok-with-clause-low
@@ -264,7 +266,7 @@ spelled-returns-in_err-so_far-in-Word-clause-exact t c =
     let w = c.in-Word.word in
     let at : right (drop n0 xs) ≡ prepend w (right (drop (suc n0) xs)) = ap right (drop_get xs n0 d (symbol.Word w) c.loop-symbol-test.true c.in-Word.is) in
     let e = c.in_err-so_far-in-Word.field-0.0 in
-    let f : Lacks e (Tends (λ n. spell n ts m (right xs) c.args.row.last) None) = lacks (Tends (λ n. spell n ts m (right xs) c.args.row.last) None) e (c.loop-symbol.invariant.leads.leads None (subst (λ r. Tends (λ n. spell n ts m r row.last) None) (sym at) (steps.word_off ts m (right (drop (suc n0) xs)) w row.last c.in_err-so_far-in-Word.ensures.1))) in
+    let f : UnlessMemory (stop_refusal e) (λ _. Tends (λ n. spell n ts m (right xs) c.args.row.last) None) = lacks (Tends (λ n. spell n ts m (right xs) c.args.row.last) None) e (c.loop-symbol.invariant.leads.leads None (subst (λ r. Tends (λ n. spell n ts m r row.last) None) (sym at) (steps.word_off ts m (right (drop (suc n0) xs)) w row.last c.in_err-so_far-in-Word.ensures.1))) in
     search rules
 
 pub spelled-returns-in_err-part-in-Part-clause-exact : goal.spelled-returns-in_err-part-in-Part-clause-exact
@@ -278,7 +280,7 @@ spelled-returns-in_err-part-in-Part-clause-exact t c =
     let g = c.in-Part.category in
     let at : right (drop n0 xs) ≡ Then [] g (right (drop (suc n0) xs)) = ap right (drop_get xs n0 d (symbol.Part g) c.loop-symbol-test.true c.in-Part.is) in
     let e = c.in_err-part-in-Part.field-0.0 in
-    let f : Lacks e (Tends (λ n. spell n ts m (right xs) c.args.row.last) None) = lacks_map (Tends (λ n. read n ts m g row.last) None) (Tends (λ n. spell n ts m (right xs) c.args.row.last) None) e (λ q. c.loop-symbol.invariant.leads.leads None (subst (λ r. Tends (λ n. spell n ts m r row.last) None) (sym at) (steps.part_off ts m g (right (drop (suc n0) xs)) row.last q))) c.in_err-part-in-Part.ensures in
+    let f : UnlessMemory (stop_refusal e) (λ _. Tends (λ n. spell n ts m (right xs) c.args.row.last) None) = lacks_map (Tends (λ n. read n ts m g row.last) None) (Tends (λ n. spell n ts m (right xs) c.args.row.last) None) e (λ q. c.loop-symbol.invariant.leads.leads None (subst (λ r. Tends (λ n. spell n ts m r row.last) None) (sym at) (steps.part_off ts m g (right (drop (suc n0) xs)) row.last q))) c.in_err-part-in-Part.ensures in
     search rules
 
 pub spelled-returns-in_err-so_far-in-Optional-clause-exact : goal.spelled-returns-in_err-so_far-in-Optional-clause-exact
@@ -294,7 +296,7 @@ spelled-returns-in_err-so_far-in-Optional-clause-exact t c =
     let at : right (drop n0 xs) ≡ Maybe [] g r = ap right (drop_get xs n0 d (symbol.Optional g) c.loop-symbol-test.true c.in-Optional.is) in
     let here : c.begins-here.result ≡ begins g (slice_get ts row.last) = c.begins-here.ensures ∙ ap (begins g) c.kind_at.ensures in
     let e = c.in_err-so_far-in-Optional.field-0.0 in
-    let f : Lacks e (Tends (λ n. spell n ts m (right xs) c.args.row.last) None) = lacks_map ((u : Rule) → Tends (λ n. option n ts m g u row.last c.begins-here.result) None) (Tends (λ n. spell n ts m (right xs) c.args.row.last) None) e (λ q. c.loop-symbol.invariant.leads.leads None (subst (λ z. Tends (λ n. spell n ts m z row.last) None) (sym at) (steps.maybe_all ts m g r row.last None (subst (λ b. Tends (λ n. option n ts m g r row.last b) None) here (q r))))) c.in_err-so_far-in-Optional.ensures.exact in
+    let f : UnlessMemory (stop_refusal e) (λ _. Tends (λ n. spell n ts m (right xs) c.args.row.last) None) = lacks_map ((u : Rule) → Tends (λ n. option n ts m g u row.last c.begins-here.result) None) (Tends (λ n. spell n ts m (right xs) c.args.row.last) None) e (λ q. c.loop-symbol.invariant.leads.leads None (subst (λ z. Tends (λ n. spell n ts m z row.last) None) (sym at) (steps.maybe_all ts m g r row.last None (subst (λ b. Tends (λ n. option n ts m g r row.last b) None) here (q r))))) c.in_err-so_far-in-Optional.ensures.exact in
     search rules
 
 pub spelled-returns-in_err-so_far-in-Result-clause-exact : goal.spelled-returns-in_err-so_far-in-Result-clause-exact
@@ -309,7 +311,7 @@ spelled-returns-in_err-so_far-in-Result-clause-exact t c =
     let r = right (drop (suc n0) xs) in
     let at : right (drop n0 xs) ≡ Unless [] g result_words r = ap right (drop_get xs n0 d symbol.Result c.loop-symbol-test.true c.in-Result.is) in
     let e = c.in_err-so_far-in-Result.field-0.0 in
-    let f : Lacks e (Tends (λ n. spell n ts m (right xs) c.args.row.last) None) = lacks_map ((u : Rule) → Tends (λ n. option n ts m g u row.last c.begins_result-here.result) None) (Tends (λ n. spell n ts m (right xs) c.args.row.last) None) e (λ q. c.loop-symbol.invariant.leads.leads None (subst (λ z. Tends (λ n. spell n ts m z row.last) None) (sym at) (steps.unless_all ts m g result_words r row.last None (subst (λ b. Tends (λ n. option n ts m g r row.last b) None) c.begins_result-here.ensures (q r))))) c.in_err-so_far-in-Result.ensures.exact in
+    let f : UnlessMemory (stop_refusal e) (λ _. Tends (λ n. spell n ts m (right xs) c.args.row.last) None) = lacks_map ((u : Rule) → Tends (λ n. option n ts m g u row.last c.begins_result-here.result) None) (Tends (λ n. spell n ts m (right xs) c.args.row.last) None) e (λ q. c.loop-symbol.invariant.leads.leads None (subst (λ z. Tends (λ n. spell n ts m z row.last) None) (sym at) (steps.unless_all ts m g result_words r row.last None (subst (λ b. Tends (λ n. option n ts m g r row.last b) None) c.begins_result-here.ensures (q r))))) c.in_err-so_far-in-Result.ensures.exact in
     search rules
 
 pub spelled-returns-in-Items-clause-exact : goal.spelled-returns-in-Items-clause-exact
@@ -326,7 +328,7 @@ spelled-returns-in-Items-clause-exact t c =
     let i : ℕ → Option (Trees × ℕ) = λ n. items n ts m l row.last in
     let at : right (drop n0 xs) ≡ Many [] l = ap right (drop_get xs n0 d (symbol.Items c.in-Items.repetition) c.loop-symbol-test.true c.in-Items.is) in
     let same : (x : Option (Trees × ℕ)) → Tends i x → Tends h x = λ x a. subst (λ r. Tends (λ n. spell n ts m r row.last) x) (sym at) (steps.many_all ts m l row.last x a) in
-    result_map c.items.result (λ r. IsRowOn i row r) (λ r. IsRowOn f c.args.row r) (λ e. Lacks e (Tends i None)) (λ e. Lacks e (Tends f None))
+    meets_map stop_refusal stop_refusal c.items.result (λ r. IsRowOn i row r) (λ r. IsRowOn f c.args.row r) (λ _. Tends i None) (λ _. Tends f None)
     (λ r on. leads_to f h c.args.row row r c.loop-symbol.invariant.leads (row_on h i row r same on))
     (λ e. lacks_map (Tends i None) (Tends f None) e (λ a. c.loop-symbol.invariant.leads.leads None (same None a)))
     c.items.ensures.exact
@@ -521,7 +523,7 @@ items-returns-in_err-part-clause-exact t c =
     let place : c.lead-at.result ≡ lead l i = c.lead-at.ensures.place it in
     let e = c.in_err-part.field-0.0 in
     let P : Type 0 = Tends (λ n. items n ts m l c.args.row.last) None in
-    let f : Lacks e P = lacks_map (Tends (λ n. read n ts m c.item.result c.lead-at.result) None) P e (λ r. c.loop-alloc.invariant.leads.leads None (steps.item_off ts m l i it (subst (λ g. Tends (λ n. read n ts m g (lead l i)) None) c.item.ensures (subst (λ j. Tends (λ n. read n ts m c.item.result j) None) place r)))) c.in_err-part.ensures in
+    let f : UnlessMemory (stop_refusal e) (λ _. P) = lacks_map (Tends (λ n. read n ts m c.item.result c.lead-at.result) None) P e (λ r. c.loop-alloc.invariant.leads.leads None (steps.item_off ts m l i it (subst (λ g. Tends (λ n. read n ts m g (lead l i)) None) c.item.ensures (subst (λ j. Tends (λ n. read n ts m c.item.result j) None) place r)))) c.in_err-part.ensures in
     search rules
 
 pub items-returns-in-Done-clause-low : goal.items-returns-in-Done-clause-low
@@ -645,7 +647,7 @@ items-returns-in_err-so_far-2-clause-exact t c =
     let st : turn l (slice_get ts i) ≡ Stop = sym c.loop-alloc.invariant.told ∙ turn_stops c.loop-alloc.turned (sym c.is_stop.ensures ∙ c.loop-alloc-test.false) in
     let e = c.in_err-so_far-2.field-0.0 in
     let P : Type 0 = Tends (λ n. items n ts m l c.args.row.last) None in
-    let f : Lacks e P = lacks P e (c.loop-alloc.invariant.leads.leads None (steps.stop_off ts m l i st c.in_err-so_far-2.ensures.1)) in
+    let f : UnlessMemory (stop_refusal e) (λ _. P) = lacks P e (c.loop-alloc.invariant.leads.leads None (steps.stop_off ts m l i st c.in_err-so_far-2.ensures.1)) in
     search rules
 
 pub items-returns-clause-exact : goal.items-returns-clause-exact
@@ -710,7 +712,7 @@ tree-returns-in_err-grown-2 t c =
     let p = view c.loop-kind.grown.node in
     let e = c.in_err-grown-2.field-0.0 in
     let next : continues g (kind_of p) (slice_get ts (last p)) ≡ Some k = sym c.next_kind.ensures ∙ c.in-Some-next_kind.is in
-    let f : Lacks e (Tends (λ n. read n ts m g i) None) = lacks_map (IsNotJoined ts m c.place-in-Some-next_kind.result k p) (Tends (λ n. read n ts m g i) None) e (λ r. c.loop-kind.invariant.leads None (r g (sym c.place-in-Some-next_kind.ensures) next)) c.in_err-grown-2.ensures in
+    let f : UnlessMemory (stop_refusal e) (λ _. Tends (λ n. read n ts m g i) None) = lacks_map (IsNotJoined ts m c.place-in-Some-next_kind.result k p) (Tends (λ n. read n ts m g i) None) e (λ r. c.loop-kind.invariant.leads None (r g (sym c.place-in-Some-next_kind.ensures) next)) c.in_err-grown-2.ensures in
     search rules
 
 ranked : (c : Category) (k l : Kind) (w : Option TokenKind) (big a b d : ℕ) (p : Place) → place_of c ≡ p → continues c k w ≡ Some l → (is_solid (after_first (rule p l)) ≡ true → a < b) → a ≤ b → b ≤ big → d ≡ rank l → 8 * (big - b) + d < 8 * (big - a) + rank k

@@ -1,11 +1,12 @@
 use Rattle.std.proofs.Common.{◌≡◌, None, length, sym, ◌∙◌, subst}
+use Rattle.go_base.specs.Gives.{Unless as UnlessMemory}
 use Rattle.go_tokens.specs.Tokens.{IsTokenList, kinds}
 use Rattle.go_grammar.specs.declared.kind.Category.TheVariants as category
 use Rattle.go_grammar.specs.Reader.{read, Tends}
 use Rattle.go_grammar.specs.Grammar.{IsFile}
 use Rattle.go_grammar.specs.Trees.{last}
 use Rattle.go_tree.specs.Views.{view}
-use Rattle.go_parse.specs.Engine.{Lacks}
+use Rattle.go_parse.specs.Engine.{stop_refusal}
 use Rattle.go_parse.proofs.Found.{is_file, no_file, no_file_over, length-kinds}
 use Rattle.go_parse.proofs.parser.parse.Goals as goal
 
@@ -13,7 +14,7 @@ pub returns-in-Err-Syntax : goal.returns-in-Err-Syntax
 returns-in-Err-Syntax c =
     let ts = kinds c.args.tokens.now.tokens in
     let P : Type 0 = Tends (λ n. read n ts 101 category.File 0) None in
-    let none : P = subst (λ e. Lacks e P) c.in-Err-Syntax.field-0-is c.in-Err-Syntax.ensures in
+    let none : P = subst (λ e. UnlessMemory (stop_refusal e) (λ _. P)) c.in-Err-Syntax.field-0-is c.in-Err-Syntax.ensures in
     (c.no_tree.ensures, no_file ts none)
 
 pub returns-then-last-count : goal.returns-then-last-count

@@ -1,4 +1,0 @@
-use Rattle.go_base.proofs.steps.tests.counts_each_step.Given as goal
-
-abbrev pub ghosts-count : goal.ghosts-count
-ghosts-count a = record { name = a.blank.name; parts = a.blank.parts }
