@@ -1,2 +1,1 @@
-pub mod FolderLaws
 mod StoredLemmas

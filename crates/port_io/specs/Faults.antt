@@ -1,13 +1,13 @@
 -- Counts of faults. A count stands still at its last value.
-use Rattle.std.specs.Prelude.{◌≡◌, ℕ, ◌-◌, ◌^◌, ◌<◌, ◌≤◌, ◌⊎◌, Result, Ok, Err}
+use Rattle.std.specs.Prelude.{◌≡◌, ℕ, ◌+◌, ◌-◌, ◌^◌, ◌≤◌, min, Result, Ok, Err}
 use Rattle.port_io.specs.declared.source.Failed.{Failed}
 use Rattle.port_io.specs.declared.sink.SinkError.{SinkError}
 use Rattle.port_io.specs.declared.sink.SinkError.TheVariants as sink
 
--- The count rose: it is greater than it was, or has its last value.
+-- The count rose by one, up to its last value.
 pub record Rose (old new : ℕ) : Type 0 where
   pub never_falls : old ≤ new
-  pub rose : (old < new) ⊎ (new ≡ 2 ^ 64 - 1)
+  pub by_one : new ≡ min (old + 1) (2 ^ 64 - 1)
 
 -- A call of a source raised the count exactly where it failed.
 abbrev pub CountsRead : {X : Type 0} → Result X Failed → ℕ → ℕ → Type 0

@@ -1,5 +1,6 @@
-ghost use Rattle.std.specs.Prelude.{◌≡◌, ◌==◌, ◌+◌, ◌-◌, ◌^◌, min};
+ghost use Rattle.std.specs.Prelude.{◌≡◌, ◌==◌};
 ghost use Rattle.std.specs.List.{list_any};
+ghost use Rattle.port_io.specs.Calls.{FollowsPlan, plan_of, planned};
 ghost use Rattle.port_io.specs.Faults.{Rose};
 
 /// Which calls of an object in memory fail: a list of numbers, where the first call has the number 1.
@@ -11,22 +12,24 @@ pub(crate) struct Calls {
 
 impl Calls {
     pub(crate) fn new(failing: Vec<u64>) -> Calls
-        ensures failing { result.failing ≡ failing }
-        ensures made { result.made ≡ 0 }
+        ensures { plan_of result ≡ planned failing.items }
     {
         Calls { failing, made: 0 }
     }
 
     /// Whether the next call fails, which has then been made.
     pub(crate) fn next_fails(&mut self) -> bool
-        ensures fails { result ≡ list_any (λ n. n == self.new.made) self.old.failing.items }
-        ensures made { self.new.made ≡ min (self.old.made + 1) (2 ^ 64 - 1) }
-        ensures failing { self.new.failing ≡ self.old.failing }
+        ensures { FollowsPlan (plan_of self.old) (plan_of self.new) result }
     {
         self.made = self.made.saturating_add(1);
-        let made = self.made;
-        self.failing.iter().any(|number| *number == made)
+        is_listed(&self.failing, self.made)
     }
+}
+
+fn is_listed(failing: &[u64], number: u64) -> bool
+    ensures { result ≡ list_any (λ n. n == number) failing.now }
+{
+    failing.iter().any(|other| *other == number)
 }
 
 /// The count after one more fault. It stands still at its last value.

@@ -1,5 +1,6 @@
-ghost use Rattle.std.specs.Prelude.{◌≡◌, ℕ, List, Option, Some, None, IfOk, IfSome, OnOk, OnErr, IsSome};
+ghost use Rattle.std.specs.Prelude.{◌≡◌, ◌↔◌, ◌++◌, ℕ, List, Option, Some, None, IfOk, IfSome, OnOk, OnErr, IsSome, codes, string_bytes};
 ghost use Rattle.std.specs.Option.{option_copied, option_map};
+ghost use Rattle.std.specs.IoError.{error_kind};
 ghost use Rattle.std.specs.List.Sorted.{IsPermutation};
 ghost use Rattle.std.specs.FinMap as map;
 ghost use Rattle.port_io.specs.Held.{Held, files_under, with_file};
@@ -117,12 +118,16 @@ pub struct MemFolder {
 }
 
 impl MemFolder {
+    ghost use Rattle.port_io.specs.Calls.{planned};
+    ghost use Rattle.port_io.specs.Plans.{folder_plan};
+
     /// Folders without files, of which the calls with these numbers fail.
     pub fn new(alloc: Global, failing: Vec<u64>) -> MemFolder
         ensures chosen { ⟦<MemFolder as Folder>⟧.chosen result ≡ None }
         ensures held { ⟦<MemFolder as Folder>⟧.held result ≡ Some (λ _. map.empty) }
         ensures reading { ⟦<MemFolder as Folder>⟧.reading_faults result ≡ 0 }
         ensures writing { ⟦<MemFolder as Folder>⟧.writing_faults result ≡ 0 }
+        ensures plan { folder_plan result ≡ planned failing.items }
     {
         MemFolder {
             store: Store::new(alloc),
@@ -138,6 +143,9 @@ impl MemFolder {
             ⟦<MemFolder as Folder>⟧.held self.new ≡ Some (with_file held dir.now name.now bytes.now))) }
         ensures err { OnErr result (⟦<MemFolder as Folder>⟧.held self.new ≡ ⟦<MemFolder as Folder>⟧.held self.old) }
         ensures chosen { ⟦<MemFolder as Folder>⟧.chosen self.new ≡ ⟦<MemFolder as Folder>⟧.chosen self.old }
+        ensures reading { ⟦<MemFolder as Folder>⟧.reading_faults self.new ≡ ⟦<MemFolder as Folder>⟧.reading_faults self.old }
+        ensures writing { ⟦<MemFolder as Folder>⟧.writing_faults self.new ≡ ⟦<MemFolder as Folder>⟧.writing_faults self.old }
+        ensures plan { folder_plan self.new ≡ folder_plan self.old }
     {
         self.store.add(dir, name, bytes)
     }
@@ -152,6 +160,9 @@ impl MemFolder {
 }
 
 impl Folder for MemFolder {
+    ghost use Rattle.port_io.specs.Calls.{FollowsPlan, is_failed_call};
+    ghost use Rattle.port_io.specs.Plans.{folder_plan};
+
     ghost chosen = { λ f. chosen_text f.store.chosen };
 
     ghost held = { λ f. Some (held_by f.store.files.items) };
@@ -160,7 +171,14 @@ impl Folder for MemFolder {
 
     ghost writing_faults = { λ f. f.writing_faults };
 
-    fn select(&mut self, dir: &str) -> Result<(), FolderError> {
+    fn select(&mut self, dir: &str) -> Result<(), FolderError>
+        ensures ok { OnOk result (⟦<MemFolder as Folder>⟧.chosen self.new ≡ Some dir.now) }
+        ensures err { OnErr result (⟦<MemFolder as Folder>⟧.chosen self.new ≡ ⟦<MemFolder as Folder>⟧.chosen self.old) }
+        ensures held { ⟦<MemFolder as Folder>⟧.held self.new ≡ ⟦<MemFolder as Folder>⟧.held self.old }
+        ensures reading { CountsCall result (⟦<MemFolder as Folder>⟧.reading_faults self.old) (⟦<MemFolder as Folder>⟧.reading_faults self.new) }
+        ensures writing { ⟦<MemFolder as Folder>⟧.writing_faults self.new ≡ ⟦<MemFolder as Folder>⟧.writing_faults self.old }
+        ensures plan { FollowsPlan (folder_plan self.old) (folder_plan self.new) (is_failed_call result) }
+    {
         if self.calls.next_fails() {
             self.reading_faults = raise(self.reading_faults);
             return Err(FolderError::Failed);
@@ -169,7 +187,16 @@ impl Folder for MemFolder {
         Ok(())
     }
 
-    fn names(&mut self) -> Result<Vec<Name>, FolderError> {
+    fn names(&mut self) -> Result<Vec<Name>, FolderError>
+        requires { IsSome (⟦<MemFolder as Folder>⟧.chosen self.old) }
+        ensures names { IfOk result (λ names. IfSome (files_under (⟦<MemFolder as Folder>⟧.held self.old) (⟦<MemFolder as Folder>⟧.chosen self.old)) (λ files.
+            IsPermutation (map.keys files) names.items)) }
+        ensures chosen { ⟦<MemFolder as Folder>⟧.chosen self.new ≡ ⟦<MemFolder as Folder>⟧.chosen self.old }
+        ensures held { ⟦<MemFolder as Folder>⟧.held self.new ≡ ⟦<MemFolder as Folder>⟧.held self.old }
+        ensures reading { CountsCall result (⟦<MemFolder as Folder>⟧.reading_faults self.old) (⟦<MemFolder as Folder>⟧.reading_faults self.new) }
+        ensures writing { ⟦<MemFolder as Folder>⟧.writing_faults self.new ≡ ⟦<MemFolder as Folder>⟧.writing_faults self.old }
+        ensures plan { FollowsPlan (folder_plan self.old) (folder_plan self.new) (is_failed_call result) }
+    {
         if self.calls.next_fails() {
             self.reading_faults = raise(self.reading_faults);
             return Err(FolderError::Failed);
@@ -177,7 +204,18 @@ impl Folder for MemFolder {
         Ok(self.store.names()?)
     }
 
-    fn read(&mut self, name: &Name) -> Result<Bytes, FolderError> {
+    fn read(&mut self, name: &Name) -> Result<Bytes, FolderError>
+        requires chosen { IsSome (⟦<MemFolder as Folder>⟧.chosen self.old) }
+        requires held { IfSome (files_under (⟦<MemFolder as Folder>⟧.held self.old) (⟦<MemFolder as Folder>⟧.chosen self.old)) (λ files.
+            IsSome (map.get files name.now)) }
+        ensures bytes { IfOk result (λ bytes. IfSome (files_under (⟦<MemFolder as Folder>⟧.held self.old) (⟦<MemFolder as Folder>⟧.chosen self.old)) (λ files.
+            map.get files name.now ≡ Some bytes)) }
+        ensures chosen { ⟦<MemFolder as Folder>⟧.chosen self.new ≡ ⟦<MemFolder as Folder>⟧.chosen self.old }
+        ensures held { ⟦<MemFolder as Folder>⟧.held self.new ≡ ⟦<MemFolder as Folder>⟧.held self.old }
+        ensures reading { CountsCall result (⟦<MemFolder as Folder>⟧.reading_faults self.old) (⟦<MemFolder as Folder>⟧.reading_faults self.new) }
+        ensures writing { ⟦<MemFolder as Folder>⟧.writing_faults self.new ≡ ⟦<MemFolder as Folder>⟧.writing_faults self.old }
+        ensures plan { FollowsPlan (folder_plan self.old) (folder_plan self.new) (is_failed_call result) }
+    {
         if self.calls.next_fails() {
             self.reading_faults = raise(self.reading_faults);
             return Err(FolderError::Failed);
@@ -185,7 +223,15 @@ impl Folder for MemFolder {
         Ok(self.store.read(name)?)
     }
 
-    fn write(&mut self, name: &Name, bytes: &[u8]) -> Result<(), FolderError> {
+    fn write(&mut self, name: &Name, bytes: &[u8]) -> Result<(), FolderError>
+        requires { IsSome (⟦<MemFolder as Folder>⟧.chosen self.old) }
+        ensures held { Writes result (⟦<MemFolder as Folder>⟧.held self.old) (⟦<MemFolder as Folder>⟧.held self.new) (⟦<MemFolder as Folder>⟧.chosen self.old) name.now bytes.now }
+        ensures kept { OnErr result (⟦<MemFolder as Folder>⟧.held self.new ≡ ⟦<MemFolder as Folder>⟧.held self.old) }
+        ensures chosen { ⟦<MemFolder as Folder>⟧.chosen self.new ≡ ⟦<MemFolder as Folder>⟧.chosen self.old }
+        ensures reading { ⟦<MemFolder as Folder>⟧.reading_faults self.new ≡ ⟦<MemFolder as Folder>⟧.reading_faults self.old }
+        ensures writing { CountsCall result (⟦<MemFolder as Folder>⟧.writing_faults self.old) (⟦<MemFolder as Folder>⟧.writing_faults self.new) }
+        ensures plan { FollowsPlan (folder_plan self.old) (folder_plan self.new) (is_failed_call result) }
+    {
         if self.calls.next_fails() {
             self.writing_faults = raise(self.writing_faults);
             return Err(FolderError::Failed);
@@ -271,7 +317,9 @@ pub struct DirFolder<R: Files + AllocGlobal + Clone + Drop> {
 impl<R: Files + AllocGlobal + Clone + Drop> DirFolder<R> {
     /// The folders that the runtime reaches.
     pub fn new(rt: R) -> DirFolder<R>
-        ensures { ⟦<DirFolder<R> as Folder>⟧.chosen result ≡ None }
+        ensures chosen { ⟦<DirFolder<R> as Folder>⟧.chosen result ≡ None }
+        ensures reading { ⟦<DirFolder<R> as Folder>⟧.reading_faults result ≡ 0 }
+        ensures writing { ⟦<DirFolder<R> as Folder>⟧.writing_faults result ≡ 0 }
     {
         DirFolder {
             rt,
@@ -282,7 +330,10 @@ impl<R: Files + AllocGlobal + Clone + Drop> DirFolder<R> {
     }
 }
 
-fn cause(error: io::Error) -> FolderError {
+/// A failed call, unless memory ran out.
+fn cause(error: io::Error) -> FolderError
+    ensures { (result ≡ FolderError.Memory) ↔ (error_kind error ≡ ErrorKind.OutOfMemory) }
+{
     if error.kind() == ErrorKind::OutOfMemory {
         FolderError::Memory
     } else {
@@ -302,7 +353,9 @@ fn counted<X>(outcome: Result<X, FolderError>, faults: &mut u64) -> Result<X, Fo
 }
 
 /// The path of a file.
-fn path_in(alloc: Global, dir: &str, name: &Name) -> Result<String, FolderError> {
+fn path_in(alloc: Global, dir: &str, name: &Name) -> Result<String, FolderError>
+    ensures { IfOk result (λ path. string_bytes path ≡ dir.now ++ codes "/" ++ name.now) }
+{
     let Ok(name) = std::str::from_utf8(name.bytes()) else {
         return Err(FolderError::Failed);
     };
@@ -324,7 +377,9 @@ fn list_dir<R: Files + AllocGlobal + Clone + Drop>(
     Ok(names)
 }
 
-fn name_of(alloc: Global, text: &str) -> Result<Name, FolderError> {
+fn name_of(alloc: Global, text: &str) -> Result<Name, FolderError>
+    ensures { IfOk result (λ name. name ≡ text.now) }
+{
     Name::of(alloc, text.as_bytes()).map_err(|error| match error {
         NameError::Form => FolderError::Failed,
         NameError::Memory => FolderError::Memory,
@@ -352,6 +407,7 @@ fn write_file<R: Files + AllocGlobal + Clone + Drop>(
 
 fn text_of(chosen: &Option<String>) -> &str
     requires { IsSome (chosen_text chosen.now) }
+    ensures { chosen_text chosen.now ≡ Some result.now }
 {
     match chosen {
         Some(dir) => dir.as_str(),
@@ -386,94 +442,5 @@ impl<R: Files + AllocGlobal + Clone + Drop> Folder for DirFolder<R> {
     fn write(&mut self, name: &Name, bytes: &[u8]) -> Result<(), FolderError> {
         let outcome = write_file(&self.rt, text_of(&self.chosen), name, bytes);
         counted(outcome, &mut self.writing_faults)
-    }
-}
-
-#[cfg(test)]
-mod tests {
-    use super::*;
-    use std::test::Fail;
-
-    // The bytes of all files in the chosen folder, in the order of their names.
-    fn read_all<F: Folder>(alloc: Global, folder: &mut F) -> Result<Vec<u8>, FolderError>
-        requires { IsSome (F.chosen folder.old) }
-    {
-        let mut names = folder.names()?;
-        names.sort()?;
-        let mut all = Vec::new(alloc);
-        for name in &names {
-            all.extend_from_slice(folder.read(name)?.as_slice())?;
-        }
-        Ok(all)
-    }
-
-    // Selects a folder, changes a file in it, and reads all files.
-    fn rewrite<F: Folder>(
-        alloc: Global,
-        folder: &mut F,
-        dir: &str,
-    ) -> Result<Vec<u8>, FolderError> {
-        folder.select(dir)?;
-        let name = name_of(alloc, "b.go")?;
-        folder.write(&name, b"package q\n")?;
-        read_all(alloc, folder)
-    }
-
-    const FILES: [(&str, &str, &[u8]); 3] = [
-        ("d", "b.go", b"package p\n"),
-        ("d", "a.go", b"package a\n"),
-        ("e", "c.go", b"package c\n"),
-    ];
-
-    #[test]
-    fn holds_files_in_memory(rt: HostRuntime) -> Result<(), Fail> {
-        let alloc = rt.alloc();
-        let mut folder = SureFolder::new(alloc);
-        for (dir, name, bytes) in FILES {
-            folder.add(dir, &name_of(alloc, name)?, bytes)?;
-        }
-        let all = rewrite(alloc, &mut folder, "d")?;
-        assert_eq!(rt; all.as_slice(), b"package a\npackage q\n".as_slice());
-        let all = rewrite(alloc, &mut folder, "e")?;
-        assert_eq!(rt; all.as_slice(), b"package q\npackage c\n".as_slice());
-        let found = folder.find("d", &name_of(alloc, "a.go")?);
-        assert!(rt; found.is_some_and(|bytes| bytes.as_slice() == b"package a\n".as_slice()));
-        assert!(rt; folder.find("d", &name_of(alloc, "c.go")?).is_none());
-        Ok(())
-    }
-
-    #[test]
-    fn fails_by_numbers(rt: HostRuntime) -> Result<(), Fail> {
-        let alloc = rt.alloc();
-        for number in 1..6 {
-            let mut folder = MemFolder::new(alloc, vec![in alloc; number]?);
-            for (dir, name, bytes) in FILES {
-                folder.add(dir, &name_of(alloc, name)?, bytes)?;
-            }
-            assert!(rt; rewrite(alloc, &mut folder, "d").is_err());
-            let found = folder.find("d", &name_of(alloc, "b.go")?);
-            let expected: &[u8] = if number < 3 {
-                b"package p\n"
-            } else {
-                b"package q\n"
-            };
-            assert!(rt; found.is_some_and(|bytes| bytes.as_slice() == expected));
-            assert!(rt; rewrite(alloc, &mut folder, "d").is_ok());
-        }
-        Ok(())
-    }
-
-    #[test]
-    fn reaches_the_file_system(rt: HostRuntime) -> Result<(), Fail> {
-        let alloc = rt.alloc();
-        let dir = "port_io_test";
-        fs::create_dir(&rt, dir)?;
-        fs::create_dir(&rt, "port_io_test/inner.go")?;
-        let mut folder = DirFolder::new(rt.clone()?);
-        let all = rewrite(alloc, &mut folder, dir);
-        fs::remove_dir_all(&rt, dir)?;
-        assert_eq!(rt; all?.as_slice(), b"package q\n".as_slice());
-        assert!(rt; rewrite(alloc, &mut folder, dir).is_err());
-        Ok(())
     }
 }

@@ -40,7 +40,7 @@ pub trait Sink {
         ensures bound { IfOk result (λ n. n ≤ length bytes.now) }
         ensures appended { IfOk result (λ n. IfSome (written self.old) (λ before.
             written self.new ≡ Some (before ++ take n bytes.now))) }
-        ensures kept { OnErr result (written self.new ≡ written self.old) }
+        ensures kept { OnErr result (IfSome (written self.old) (λ before. written self.new ≡ Some before)) }
         ensures count { CountsWrite result (faults self.old) (faults self.new) };
 }
 
@@ -79,10 +79,14 @@ pub struct MemSink {
 }
 
 impl MemSink {
+    ghost use Rattle.port_io.specs.Calls.{planned};
+    ghost use Rattle.port_io.specs.Plans.{sink_plan};
+
     /// An empty sink, of which the calls with these numbers fail.
     pub fn new(alloc: Global, failing: Vec<u64>) -> MemSink
         ensures written { ⟦<MemSink as Sink>⟧.written result ≡ Some [] }
         ensures faults { ⟦<MemSink as Sink>⟧.faults result ≡ 0 }
+        ensures plan { sink_plan result ≡ planned failing.items }
     {
         MemSink {
             kept: Record::new(alloc),
@@ -100,11 +104,24 @@ impl MemSink {
 }
 
 impl Sink for MemSink {
+    ghost use Rattle.port_io.specs.Calls.{FollowsPlan, is_failed_write};
+    ghost use Rattle.port_io.specs.Plans.{sink_plan};
+
     ghost written = { λ s. Some s.kept.bytes.items };
 
     ghost faults = { λ s. s.faults };
 
-    fn write(&mut self, bytes: &[u8]) -> Result<usize, SinkError> {
+    fn write(&mut self, bytes: &[u8]) -> Result<usize, SinkError>
+        requires { 0 < length bytes.now }
+        ensures some { IfOk result (λ n. 1 ≤ n) }
+        ensures bound { IfOk result (λ n. n ≤ length bytes.now) }
+        ensures appended { IfOk result (λ n. IfSome (⟦<MemSink as Sink>⟧.written self.old) (λ before.
+            ⟦<MemSink as Sink>⟧.written self.new ≡ Some (before ++ take n bytes.now))) }
+        ensures kept { OnErr result (⟦<MemSink as Sink>⟧.written self.new ≡ ⟦<MemSink as Sink>⟧.written self.old) }
+        ensures count { CountsWrite result (⟦<MemSink as Sink>⟧.faults self.old) (⟦<MemSink as Sink>⟧.faults self.new) }
+        ensures plan { FollowsPlan (sink_plan self.old) (sink_plan self.new) (is_failed_write result) }
+        ensures whole { IfOk result (λ n. n ≡ length bytes.now) }
+    {
         if self.calls.next_fails() {
             self.faults = raise(self.faults);
             return Err(SinkError::Failed);
@@ -142,12 +159,22 @@ impl Sink for SureSink {
 
     ghost faults = { λ _. 0 };
 
-    fn write(&mut self, bytes: &[u8]) -> Result<usize, SinkError> {
+    fn write(&mut self, bytes: &[u8]) -> Result<usize, SinkError>
+        requires { 0 < length bytes.now }
+        ensures some { IfOk result (λ n. 1 ≤ n) }
+        ensures bound { IfOk result (λ n. n ≤ length bytes.now) }
+        ensures appended { IfOk result (λ n. IfSome (⟦<SureSink as Sink>⟧.written self.old) (λ before.
+            ⟦<SureSink as Sink>⟧.written self.new ≡ Some (before ++ take n bytes.now))) }
+        ensures kept { OnErr result (⟦<SureSink as Sink>⟧.written self.new ≡ ⟦<SureSink as Sink>⟧.written self.old) }
+        ensures count { CountsWrite result (⟦<SureSink as Sink>⟧.faults self.old) (⟦<SureSink as Sink>⟧.faults self.new) }
+        ensures whole { IfOk result (λ n. n ≡ length bytes.now) }
+    {
         self.kept.append(bytes)
     }
 }
 
-/// A stream of std, as a file or standard output. It tells no contents.
+/// A stream of std, as a file or standard output. What was written is told where the writer tells it, as a
+/// `Vec` does; a file and standard output tell nothing.
 #[derive(Drop)]
 pub struct FileSink<W: Write> {
     writer: W,
@@ -156,13 +183,16 @@ pub struct FileSink<W: Write> {
 
 impl<W: Write> FileSink<W> {
     /// A sink that writes to the writer.
-    pub fn new(writer: W) -> FileSink<W> {
+    pub fn new(writer: W) -> FileSink<W>
+        ensures written { ⟦<FileSink<W> as Sink>⟧.written result ≡ W.contents writer }
+        ensures faults { ⟦<FileSink<W> as Sink>⟧.faults result ≡ 0 }
+    {
         FileSink { writer, faults: 0 }
     }
 }
 
 impl<W: Write> Sink for FileSink<W> {
-    ghost written = { λ _. None };
+    ghost written = { λ s. W.contents s.writer };
 
     ghost faults = { λ s. s.faults };
 
@@ -175,44 +205,5 @@ impl<W: Write> Sink for FileSink<W> {
                 Err(SinkError::Failed)
             }
         }
-    }
-}
-
-#[cfg(test)]
-mod tests {
-    use super::*;
-    use std::test::Fail;
-
-    fn write_twice<K: Sink>(sink: &mut K) -> Result<usize, SinkError> {
-        let n = sink.write(b"classes ")?;
-        let m = sink.write(b"0\n")?;
-        Ok(n.wrapping_add(m))
-    }
-
-    #[test]
-    fn writes_to_memory(rt: HostRuntime) -> Result<(), Fail> {
-        let alloc = rt.alloc();
-        let mut sink = SureSink::new(alloc);
-        assert_eq!(rt; write_twice(&mut sink), Ok(10));
-        assert_eq!(rt; sink.written(), b"classes 0\n".as_slice());
-        let mut sink = MemSink::new(alloc, vec![in alloc; 2]?);
-        assert_eq!(rt; write_twice(&mut sink), Err(SinkError::Failed));
-        assert_eq!(rt; sink.written(), b"classes ".as_slice());
-        assert_eq!(rt; sink.write(b"1\n"), Ok(2));
-        assert_eq!(rt; sink.written(), b"classes 1\n".as_slice());
-        Ok(())
-    }
-
-    #[test]
-    fn writes_to_a_stream(rt: HostRuntime) -> Result<(), Fail> {
-        let mut bytes = Vec::new(rt.alloc());
-        assert_eq!(rt; write_twice(&mut FileSink::new(&mut bytes)), Ok(10));
-        assert_eq!(rt; bytes.as_slice(), b"classes 0\n".as_slice());
-        let mut full = [0u8; 8];
-        assert_eq!(rt;
-            write_twice(&mut FileSink::new(full.as_mut_slice())),
-            Err(SinkError::Failed)
-        );
-        Ok(())
     }
 }

@@ -1,6 +1,6 @@
-ghost use Rattle.std.specs.Prelude.{◌≡◌, ℕ, ◌+◌, ◌-◌, ◌<◌, ◌≤◌, List, length, take, drop, Option, Some, None, IfOk, OnErr, IfSome, slice_index};
+ghost use Rattle.std.specs.Prelude.{◌≡◌, ℕ, ◌<◌, ◌≤◌, List, length, drop, Option, Some, None, IfOk, OnErr, IfSome, IsOk, is_err};
 ghost use Rattle.port_io.specs.Faults.{CountsRead};
-ghost use Rattle.port_io.specs.Streams.{TakesFront};
+ghost use Rattle.port_io.specs.Streams.{TakesFront, FillsFront};
 
 use crate::calls::{Calls, raise};
 use go_base::Bytes;
@@ -26,7 +26,7 @@ pub trait Source {
         ensures bound { IfOk result (λ n. n ≤ length buf.new) }
         ensures bytes { IfOk result (λ n. IfSome (left self.old) (λ bytes.
             TakesFront bytes (left self.new) buf.new n)) }
-        ensures kept { OnErr result (left self.new ≡ left self.old) }
+        ensures kept { OnErr result (IfSome (left self.old) (λ bytes. left self.new ≡ Some bytes)) }
         ensures count { CountsRead result (faults self.old) (faults self.new) };
 }
 
@@ -49,6 +49,7 @@ impl Supply {
         requires { 0 < length buf.old }
         ensures bound { result ≤ length buf.new }
         ensures bytes { TakesFront (drop self.old.taken self.old.bytes) (Some (drop self.new.taken self.new.bytes)) buf.new result }
+        ensures fills { FillsFront (drop self.old.taken self.old.bytes) buf.old buf.new result }
     {
         let left = &self.bytes.as_slice()[self.taken..];
         let n = left.len().min(buf.len());
@@ -67,10 +68,14 @@ pub struct MemSource {
 }
 
 impl MemSource {
+    ghost use Rattle.port_io.specs.Calls.{planned};
+    ghost use Rattle.port_io.specs.Plans.{source_plan};
+
     /// A source of these bytes, of which the calls with these numbers fail.
     pub fn new(bytes: Bytes, failing: Vec<u64>) -> MemSource
         ensures left { ⟦<MemSource as Source>⟧.left result ≡ Some bytes }
         ensures faults { ⟦<MemSource as Source>⟧.faults result ≡ 0 }
+        ensures plan { source_plan result ≡ planned failing.items }
     {
         MemSource {
             supply: Supply::new(bytes),
@@ -81,11 +86,24 @@ impl MemSource {
 }
 
 impl Source for MemSource {
+    ghost use Rattle.port_io.specs.Calls.{FollowsPlan};
+    ghost use Rattle.port_io.specs.Plans.{source_plan};
+
     ghost left = { λ s. Some (drop s.supply.taken s.supply.bytes) };
 
     ghost faults = { λ s. s.faults };
 
-    fn read(&mut self, buf: &mut [u8]) -> Result<usize, Failed> {
+    fn read(&mut self, buf: &mut [u8]) -> Result<usize, Failed>
+        requires { 0 < length buf.old }
+        ensures bound { IfOk result (λ n. n ≤ length buf.new) }
+        ensures bytes { IfOk result (λ n. IfSome (⟦<MemSource as Source>⟧.left self.old) (λ bytes.
+            TakesFront bytes (⟦<MemSource as Source>⟧.left self.new) buf.new n)) }
+        ensures kept { OnErr result (⟦<MemSource as Source>⟧.left self.new ≡ ⟦<MemSource as Source>⟧.left self.old) }
+        ensures count { CountsRead result (⟦<MemSource as Source>⟧.faults self.old) (⟦<MemSource as Source>⟧.faults self.new) }
+        ensures plan { FollowsPlan (source_plan self.old) (source_plan self.new) (is_err result) }
+        ensures fills { IfOk result (λ n. IfSome (⟦<MemSource as Source>⟧.left self.old) (λ bytes. FillsFront bytes buf.old buf.new n)) }
+        ensures untouched { OnErr result (buf.new ≡ buf.old) }
+    {
         if self.calls.next_fails() {
             self.faults = raise(self.faults);
             return Err(Failed);
@@ -116,12 +134,20 @@ impl Source for SureSource {
 
     ghost faults = { λ _. 0 };
 
-    fn read(&mut self, buf: &mut [u8]) -> Result<usize, Failed> {
+    fn read(&mut self, buf: &mut [u8]) -> Result<usize, Failed>
+        requires { 0 < length buf.old }
+        ensures ok { IsOk result }
+        ensures bound { IfOk result (λ n. n ≤ length buf.new) }
+        ensures bytes { IfOk result (λ n. IfSome (⟦<SureSource as Source>⟧.left self.old) (λ bytes.
+            TakesFront bytes (⟦<SureSource as Source>⟧.left self.new) buf.new n)) }
+        ensures fills { IfOk result (λ n. IfSome (⟦<SureSource as Source>⟧.left self.old) (λ bytes. FillsFront bytes buf.old buf.new n)) }
+    {
         Ok(self.supply.read(buf))
     }
 }
 
-/// A stream of std, as a file or standard input. It tells no contents.
+/// A stream of std, as a file or standard input. What is left is told where the reader tells it, as a slice
+/// does; a file and standard input tell nothing.
 #[derive(Drop)]
 pub struct FileSource<R: Read> {
     reader: R,
@@ -130,13 +156,16 @@ pub struct FileSource<R: Read> {
 
 impl<R: Read> FileSource<R> {
     /// A source of what the reader reads.
-    pub fn new(reader: R) -> FileSource<R> {
+    pub fn new(reader: R) -> FileSource<R>
+        ensures left { ⟦<FileSource<R> as Source>⟧.left result ≡ R.remaining reader }
+        ensures faults { ⟦<FileSource<R> as Source>⟧.faults result ≡ 0 }
+    {
         FileSource { reader, faults: 0 }
     }
 }
 
 impl<R: Read> Source for FileSource<R> {
-    ghost left = { λ _. None };
+    ghost left = { λ s. R.remaining s.reader };
 
     ghost faults = { λ s. s.faults };
 
@@ -148,54 +177,5 @@ impl<R: Read> Source for FileSource<R> {
                 Err(Failed)
             }
         }
-    }
-}
-
-#[cfg(test)]
-mod tests {
-    use super::*;
-    use std::alloc::Global;
-    use std::test::Fail;
-
-    // Reads with a buffer of four bytes, up to six times.
-    fn read_all<S: Source>(alloc: Global, source: &mut S) -> Result<Vec<u8>, Fail> {
-        let mut all = Vec::new(alloc);
-        for _ in 0..6 {
-            let mut buf = [0u8; 4];
-            let n = source.read(&mut buf)?;
-            all.extend_from_slice(&buf[..n])?;
-        }
-        Ok(all)
-    }
-
-    #[test]
-    fn reads_from_memory(rt: HostRuntime) -> Result<(), Fail> {
-        let alloc = rt.alloc();
-        let text = || Bytes::from_slice(alloc, b"package main\n");
-        let mut source = SureSource::new(text()?);
-        assert_eq!(rt;
-            read_all(alloc, &mut source)?.as_slice(),
-            b"package main\n".as_slice()
-        );
-        let mut source = MemSource::new(text()?, vec![in alloc; 2]?);
-        let mut buf = [0u8; 9];
-        assert_eq!(rt; source.read(&mut buf), Ok(9));
-        assert_eq!(rt; source.read(&mut buf), Err(Failed));
-        assert_eq!(rt;
-            read_all(alloc, &mut source)?.as_slice(),
-            b"ain\n".as_slice()
-        );
-        Ok(())
-    }
-
-    #[test]
-    fn reads_from_a_stream(rt: HostRuntime) -> Result<(), Fail> {
-        let alloc = rt.alloc();
-        let mut source = FileSource::new(b"a.go".as_slice());
-        assert_eq!(rt;
-            read_all(alloc, &mut source)?.as_slice(),
-            b"a.go".as_slice()
-        );
-        Ok(())
     }
 }
