@@ -12,5 +12,6 @@ pub mod Results
 pub mod Runs
 pub mod Single
 pub mod Sites
+pub mod Subtrees
 pub mod Texts
 pub mod Words

@@ -8,19 +8,9 @@ use Rattle.go_grammar.specs.Rules.{Items, Rule, End, Then, Maybe, Unless, Many, 
 use Rattle.go_grammar.specs.Trees.{Tree, node, Trees, none, more, skip, first, last}
 use Rattle.go_grammar.specs.Grammar.{rule, Derives, Spells, Goes}
 use Rattle.go_grammar.proofs.Ranges.{words_order, gap_order, between_order, spells_order, goes_order, derives_grows}
+use Rattle.go_splice.specs.Lists.{InOrder, Ordered}
 use Rattle.go_splice.specs.Places.{Patch, keep, put, inside, Patches, done, part, run, items_behind, items_end, Range, places, places_in, Outside, Stays, Ascending}
 use Rattle.go_splice.proofs.Kept.{Stay}
-
-abbrev mutual
-  -- each node has a token, and its parts lie one behind the other inside it
-  pub InOrder : Tree → Type 0
-  InOrder (node k a b ps) = (a < b) × Ordered a ps b
-
-  -- the same of parts from i up to j
-  pub Ordered : ℕ → Trees → ℕ → Type 0
-  Ordered i none j = i ≤ j
-  Ordered i (more p ps) j = (i ≤ first p) × InOrder p × Ordered (last p) ps j
-  Ordered i (skip ps) j = Ordered i ps j
 
 sooner : (ps : Trees) (i k j : ℕ) → i ≤ k → Ordered k ps j → Ordered i ps j
 sooner none i k j le h = omega (arith, le, h)

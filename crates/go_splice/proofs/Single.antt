@@ -13,7 +13,8 @@ use Rattle.go_splice.specs.Replacing.{Edge, Seam, moved, shift, shifts, replace,
 use Rattle.go_splice.specs.Places.{Patch, keep, put, inside, Patches, done, has_items, items_behind, items_end, range, carry, carries, become, become_all, Stays, Fits, FitAll, all_agreed}
 use Rattle.go_splice.specs.Sites.{whole, items, nth_patch, set_patch, patches_behind, add_run, insert, run_range, local_range, alone}
 use Rattle.go_splice.proofs.Agreeing.{both_true, agree_agreed, run_agreed}
-use Rattle.go_splice.proofs.Order.{InOrder, Ordered, tree_order, row_order, run_ordered, derives_ordered}
+use Rattle.go_splice.specs.Lists.{InOrder, Ordered}
+use Rattle.go_splice.proofs.Order.{tree_order, row_order, run_ordered, derives_ordered}
 use Rattle.go_splice.proofs.Places.{places_replaced}
 use Rattle.go_splice.proofs.Sites.{sub_order, sub_row, fits_run, insert_fits, insert_out, out_run}
 

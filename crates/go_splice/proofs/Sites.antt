@@ -11,7 +11,8 @@ use Rattle.go_grammar.specs.Grammar.{rule}
 use Rattle.go_splice.specs.Replacing.{subtree_at, subtree_in, asked_at, asked_in, next_category, next_rule}
 use Rattle.go_splice.specs.Places.{Patch, keep, put, inside, Patches, done, part, run, has_items, items_behind, items_end, Range, places, places_in, Outside, Ascending, Fits, FitAll}
 use Rattle.go_splice.specs.Sites.{Local, whole, items, Site, parts_of, next_patch, other_patches, nth_patch, set_patch, patches_behind, add_run, insert, patch_of, run_range, local_range, range_in, site_range, site_ranges, alone, Sits, AllSit}
-use Rattle.go_splice.proofs.Order.{InOrder, Ordered, tree_order, row_order, run_ordered, both_outside, places_within}
+use Rattle.go_splice.specs.Lists.{InOrder, Ordered}
+use Rattle.go_splice.proofs.Order.{tree_order, row_order, run_ordered, both_outside, places_within}
 
 -- fitting
 module _ (ts us : List TokenKind) (m : ℕ → ℕ) where

@@ -11,8 +11,9 @@ ghost use Rattle.go_grammar.specs.declared.kind.Kind.{Kind};
 ghost use Rattle.go_grammar.specs.declared.kind.Level.{Level};
 ghost use Rattle.go_grammar.specs.Categories.{place_of};
 ghost use Rattle.go_splice.specs.Replacing.{Edge, Seam, subtree_at, asked_at, replace, agree, Step, Replaces, AreReplaced, takes_level, moved, shifts, onto, items_after, Run};
+ghost use Rattle.go_splice.specs.Lists.{Subtree, items_at, has_run, run_at};
 ghost use Rattle.go_splice.specs.Sites as sites;
-ghost use Rattle.go_splice.specs.Sites.{Site, patch_of, local_range, site_ranges, alone, AllSit, AllWithin, all_clear};
+ghost use Rattle.go_splice.specs.Sites.{Site, patch_of, local_range, run_range, site_ranges, alone, AllSit, AllWithin, all_clear};
 ghost use Rattle.go_splice.specs.Places.{Patch, put, carry, carries, become, range, places, Outside, Ascending, Stays, agreed, Fits, Change, changed, moved_by, ranges, Stand, with_declaration};
 
 /// Where a subtree is replaced by another tree of the category that is asked for at its place, over other tokens, the new
@@ -141,4 +142,15 @@ pub fn text_stands()
 /// The same for a run of items.
 pub fn run_stands()
     ensures { (ts us : List TokenKind) (i : ℕ) (l : Items) (new : Trees) (a b : ℕ) → Run ts l new a b → ((n : ℕ) → a ≤ n → n ≤ b → slice_get us (i + n) ≡ slice_get ts n) → Run us l (carries (λ n. i + n) new) (i + a) (i + b) }
+{}
+
+/// What stands at the end of a path is a derivation of the category that is asked for there, and lies inside the tree with its
+/// parts one behind the other; so each node of a tree at whatever depth has a token at least, and trees tile their tokens.
+pub fn subtrees_stand()
+    ensures { (ts : List TokenKind) (c : Category) (t s : Tree) (path : List ℕ) → Derives ts c t → subtree_at path t ≡ Some s → Subtree ts c t path s }
+{}
+
+/// Adjoining items of a list are a run, from the first token of the first up to behind the last one of the last.
+pub fn items_stand()
+    ensures { (ts : List TokenKind) (c : Category) (k : Kind) (a b : ℕ) (ps : Trees) (f n : ℕ) (l : Items) → Derives ts c (node k a b ps) → items_at f (rule (place_of c) k) ≡ Some l → has_run f n ps ≡ true → Run ts l (run_at f n ps) (run_range f n ps).from (run_range f n ps).upto }
 {}

@@ -96,12 +96,17 @@ pub record PartsOf (edits : Edits) (tail : List ℕ) : Type 0 where
   pub cut : Cut (old_pieces parts) []
   pub fits : Fits parts tail_pieces
 
--- The lexing of the new text: its tokens are the old ones with the ranges replaced, and those of the tail.
+-- The lexing of the new text: its tokens are the old ones with the ranges replaced, and those of the tail. The pieces of the
+-- parts are those of the old text, and the pieces of each new range and of the tail are those that it has alone (`fits`).
 pub record EditedLexing (file : ℕ) (edits : Edits) (tail : List ℕ) (ts : List Token) : Type 0 where
   pub parts : List Part
   pub tail_pieces : List (List ℕ)
   pub matches : Matches edits parts
   pub tail_is : join tail_pieces ≡ tail
+  pub old_is : join (old_pieces parts) ≡ old_text edits
+  pub new_is : join (new_pieces parts tail_pieces) ≡ new_text edits tail
+  pub cut : Cut (old_pieces parts) []
+  pub fits : Fits parts tail_pieces
   pub tokens : List Token
   pub comments : List Span
   pub lexes : Lexes file (new_text edits tail) tokens comments

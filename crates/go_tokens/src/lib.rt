@@ -24,8 +24,6 @@ pub mod literal;
 pub mod piece;
 mod scan;
 mod spelling;
-#[cfg(test)]
-mod tests;
 pub mod token;
 pub mod tokens;
 pub mod value;

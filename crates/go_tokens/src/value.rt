@@ -1,13 +1,13 @@
 // The values of literals, by the bytes of their tokens.
 
-ghost use Rattle.std.specs.Prelude.{◌≡◌, ◌==◌, ◌+◌, ◌*◌, ◌<◌, ◌≤◌, ◌^◌, ◌++◌, true, length, take, IfOk, MatchOption, if◌then◌else◌};
+ghost use Rattle.std.specs.Prelude.{◌≡◌, ◌==◌, ◌+◌, ◌*◌, ◌<◌, ◌≤◌, ◌^◌, ◌++◌, [], true, false, length, take, IfOk, MatchOption, if◌then◌else◌};
 ghost use Rattle.std.specs.Char.{digit_value, encode_utf8};
 ghost use Rattle.std.specs.Str.{IsUtf8, chars};
 ghost use Rattle.go_tokens.specs.Literals.{base_of, digits_of, digits_value, integer_value, inside, elements, is_one, rune_elements, first_value, rune_value, element_value, element_bytes, found_bytes, without_returns, begins_raw, string_value};
 ghost use Rattle.go_tokens.specs.Values.{below, constant_value, with_digit};
 
 use crate::encoding::characters;
-use crate::literal::{Element, inside, letter_base, read_element};
+use crate::literal::{Element, inside, is_element, letter_base, read_element};
 use go_base::Memory;
 use std::alloc::{AllocError, Global};
 use std::str;
@@ -85,12 +85,18 @@ fn digit_value(digit: u8) -> u32
 const LONGEST_RUNE: usize = 12;
 
 /// The number of a rune literal: a code point, or the byte of an octal or hexadecimal escape (Go
-/// specification: Rune literals).
+/// specification: Rune literals). It is 0 for a text with none or several of them between its first
+/// character and its last, and for bytes that are not UTF-8.
 pub fn rune_value(text: &[u8]) -> u32
-    ensures { IsUtf8 text.now → is_one (rune_elements (chars text.now)) ≡ true → result ≡ rune_value (chars text.now) }
+    ensures one { IsUtf8 text.now → is_one (rune_elements (chars text.now)) ≡ true → result ≡ rune_value (chars text.now) }
+    ensures other { IsUtf8 text.now → is_one (rune_elements (chars text.now)) ≡ false → result ≡ 0 }
+    ensures no_text { (IsUtf8 text.now → ⊥) → result ≡ 0 }
 {
-    let mut buffer = ['\0'; LONGEST_RUNE];
+    let mut buffer = ['\0'; LONGEST_RUNE + 1];
     let count = fill(&mut buffer, decoded(text));
+    if count > LONGEST_RUNE {
+        return 0;
+    }
     element_value(inside(&buffer[..count]))
 }
 
@@ -111,11 +117,12 @@ fn fill(buffer: &mut [char], text: &str) -> usize
     count
 }
 
-/// The value of the one character or escape of a rune.
+/// The value of the one character or escape of a rune, and 0 where there is none or more.
 fn element_value(text: &[char]) -> u32
-    ensures { is_one (elements 39 0 text.now) ≡ true → result ≡ first_value (elements 39 0 text.now) }
+    ensures one { is_one (elements 39 0 text.now) ≡ true → result ≡ first_value (elements 39 0 text.now) }
+    ensures other { is_one (elements 39 0 text.now) ≡ false → result ≡ 0 }
 {
-    if text.is_empty() {
+    if text.is_empty() || !is_element(text) {
         return 0;
     }
     match read_element('\'', text) {
@@ -134,20 +141,28 @@ fn number_of(element: Element) -> u32
 }
 
 /// The bytes of a string literal: characters in UTF-8, the bytes of octal and hexadecimal escapes as
-/// they are; in a raw string all but carriage returns (Go specification: String literals).
+/// they are; in a raw string all but carriage returns (Go specification: String literals). None for
+/// bytes that are not UTF-8.
 ///
 /// # Errors
 /// `Memory` where memory ran out.
 pub fn string_value(alloc: Global, text: &[u8]) -> Result<Vec<u8>, Memory>
-    ensures { IfOk result (λ value. IsUtf8 text.now → value.items ≡ string_value (chars text.now)) }
+    ensures utf8 { IfOk result (λ value. IsUtf8 text.now → value.items ≡ string_value (chars text.now)) }
+    ensures no_text { IfOk result (λ value. (IsUtf8 text.now → ⊥) → value.items ≡ []) }
 {
     let text = characters(alloc, decoded(text))?;
-    let value = if begins_raw(&text) {
-        without_returns(alloc, inside(&text))?
+    Ok(value_of(alloc, &text)?)
+}
+
+/// The bytes of a string literal of these characters.
+fn value_of(alloc: Global, text: &[char]) -> Result<Vec<u8>, AllocError>
+    ensures { IfOk result (λ value. value.items ≡ string_value text.now) }
+{
+    if begins_raw(text) {
+        without_returns(alloc, inside(text))
     } else {
-        elements_bytes(alloc, inside(&text))?
-    };
-    Ok(value)
+        elements_bytes(alloc, inside(text))
+    }
 }
 
 fn begins_raw(text: &[char]) -> bool
@@ -204,9 +219,10 @@ fn push_character(bytes: &mut Vec<u8>, c: char) -> Result<(), AllocError>
     bytes.extend_from_slice(encoded.as_bytes())
 }
 
-/// The text of UTF-8 bytes.
+/// The text of UTF-8 bytes, and none for others.
 fn decoded(bytes: &[u8]) -> &str
-    ensures { IsUtf8 bytes.now → result.now ≡ bytes.now }
+    ensures utf8 { IsUtf8 bytes.now → result.now ≡ bytes.now }
+    ensures no_text { (IsUtf8 bytes.now → ⊥) → result.now ≡ [] }
 {
     str::from_utf8(bytes).unwrap_or("")
 }

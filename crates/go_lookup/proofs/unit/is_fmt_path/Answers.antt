@@ -18,5 +18,5 @@ returns c =
     let t = c.word-text.result.now in
     let ascii : IsAscii t = c.if-not-is_ascii.ensures.cases in
     let yes : is_ascii w ≡ true = ap is_ascii (sym c.word-text.ensures) ∙ is_ascii-from _ ascii in
-    let value : c.in_ok-value.value.items ≡ string_value t = c.in_ok-value.ensures (IsUtf8-from_ascii _ ascii) ∙ ap string_value (chars-IsAscii _ ascii) in
+    let value : c.in_ok-value.value.items ≡ string_value t = c.in_ok-value.ensures.utf8 (IsUtf8-from_ascii _ ascii) ∙ ap string_value (chars-IsAscii _ ascii) in
     c.is_fmt.ensures ∙ ap is_fmt (c.deref.ensures.value ∙ value ∙ ap string_value c.word-text.ensures) ∙ sym (ap (λ b. b && is_fmt (string_value w)) yes)

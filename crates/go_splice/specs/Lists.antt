@@ -1,0 +1,64 @@
+-- Parts of a tree by their numbers: the parts of each node in order inside it, the subtree at the end of a path, and so many
+-- adjoining items of a list.
+use Rattle.std.specs.Prelude.{◌≡◌, ℕ, zero, suc, ◌<◌, ◌≤◌, Bool, true, false, List, [], ◌∷◌, Option, Some, None}
+use Rattle.go_tokens.specs.declared.token.TokenKind.{TokenKind}
+use Rattle.go_grammar.specs.declared.kind.Category.{Category}
+use Rattle.go_grammar.specs.Rules.{Items, Rule, End, Then, Maybe, Unless, Many}
+use Rattle.go_grammar.specs.Trees.{Tree, node, Trees, none, more, skip, first, last, parts}
+use Rattle.go_grammar.specs.Grammar.{Derives}
+use Rattle.go_splice.specs.Replacing.{asked_at}
+use Rattle.go_splice.specs.Places.{has_items}
+
+abbrev mutual
+  -- each node has a token, and its parts lie one behind the other inside it
+  pub InOrder : Tree → Type 0
+  InOrder (node k a b ps) = (a < b) × Ordered a ps b
+
+  -- the same of parts from i up to j
+  pub Ordered : ℕ → Trees → ℕ → Type 0
+  Ordered i none j = i ≤ j
+  Ordered i (more p ps) j = (i ≤ first p) × InOrder p × Ordered (last p) ps j
+  Ordered i (skip ps) j = Ordered i ps j
+
+-- The subtree s at the end of the path is a text of what is asked for there, and lies inside the tree, its parts in order.
+pub record Subtree (ts : List TokenKind) (c : Category) (t : Tree) (path : List ℕ) (s : Tree) : Type 0 where
+  pub category : Category
+  pub asked : asked_at c path t ≡ Some category
+  pub derives : Derives ts category s
+  pub begins : first t ≤ first s
+  pub some : first s < last s
+  pub ends : last s ≤ last t
+  pub tiled : Ordered (first s) (parts s) (last s)
+
+-- the items that stand behind so many parts of a right side
+abbrev pub items_at : ℕ → Rule → Option Items
+items_at n (Many ws l) = Some l
+items_at n (End ws) = None
+items_at zero (Then ws c r) = None
+items_at (suc n) (Then ws c r) = items_at n r
+items_at zero (Maybe ws c r) = None
+items_at (suc n) (Maybe ws c r) = items_at n r
+items_at zero (Unless ws c us r) = None
+items_at (suc n) (Unless ws c us r) = items_at n r
+
+-- is there a part behind so many, and so many more items
+abbrev pub has_run : ℕ → ℕ → Trees → Bool
+has_run f n none = false
+has_run zero n (more p ps) = has_items n ps
+has_run zero n (skip ps) = false
+has_run (suc f) n (more p ps) = has_run f n ps
+has_run (suc f) n (skip ps) = has_run f n ps
+
+-- so many items
+abbrev pub so_many : ℕ → Trees → Trees
+so_many zero ps = none
+so_many (suc n) none = none
+so_many (suc n) (more p ps) = more p (so_many n ps)
+so_many (suc n) (skip ps) = none
+
+-- behind so many parts, one and so many more
+abbrev pub run_at : ℕ → ℕ → Trees → Trees
+run_at zero n ps = so_many (suc n) ps
+run_at (suc f) n none = none
+run_at (suc f) n (more p ps) = run_at f n ps
+run_at (suc f) n (skip ps) = run_at f n ps
