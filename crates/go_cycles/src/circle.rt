@@ -1,6 +1,6 @@
-// The shortest circle of names by which a declaration needs itself.
-//
-// Nothing rests on the circle being right: it is walked along the names before it counts.
+//! The shortest circle of names by which a declaration needs itself.
+//!
+//! Nothing rests on the circle being right: it is walked along the names before it counts.
 
 use crate::graph::{Edge, Graph, Reason, node_of};
 use go_lookup::found::Found;

@@ -1,4 +1,4 @@
-// The columns of specifications whose types and values declarations have.
+//! The columns of specifications whose types and values declarations have.
 
 ghost use Rattle.std.specs.Prelude.{◌≡◌, true, IfOk, map};
 ghost use Rattle.go_lookup.specs.Views.{found_view, asked_view};

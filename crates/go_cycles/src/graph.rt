@@ -1,6 +1,6 @@
-// What needs what, as a graph.
-//
-// It is for searches only: what they find is tried against the names before it counts.
+//! What needs what, as a graph.
+//!
+//! It is for searches only: what they find is tried against the names before it counts.
 
 use crate::needs::source_of;
 use crate::ranks::{Part, Place, full_part, partial_part};

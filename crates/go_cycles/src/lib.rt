@@ -1,7 +1,7 @@
-// Which declarations of a package need themselves.
-//
-// `Order` decides it for each declaration, exactly by the definition in go_tree. A search that nobody has to trust proposes
-// ranks, by which a declaration is seen not to need itself, and circles, by which one is seen to do so.
+//! Which declarations of a package need themselves.
+//!
+//! `Order` decides it for each declaration, exactly by the definition in go_tree. A search that nobody has to trust proposes
+//! ranks, by which a declaration is seen not to need itself, and circles, by which one is seen to do so.
 #![tactic(auto)]
 
 mod circle;

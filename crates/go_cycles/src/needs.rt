@@ -1,4 +1,4 @@
-// What a declaration needs at once.
+//! What a declaration needs at once.
 
 ghost use Rattle.std.specs.Prelude.{◌≡◌, ◌&&◌, nat_eq};
 ghost use Rattle.std.specs.Option.{option_map};

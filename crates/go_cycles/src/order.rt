@@ -1,4 +1,4 @@
-// The order of the declarations of a package by what needs what.
+//! The order of the declarations of a package by what needs what.
 
 ghost use Rattle.std.specs.Prelude.{◌≡◌, IfOk, map};
 ghost use Rattle.go_tree.specs.Needs.{needs_itself};

@@ -1,4 +1,4 @@
-// Ranks of declarations, by which most are seen not to need themselves.
+//! Ranks of declarations, by which most are seen not to need themselves.
 
 ghost use Rattle.std.specs.Prelude.{◌≡◌, ◌≤◌, Bool, IfOk, OnOk, map};
 ghost use Rattle.std.specs.HashMap as hash;

@@ -1,4 +1,4 @@
-// What a declaration needs, what this needs, and so on, by the rounds of the definition.
+//! What a declaration needs, what this needs, and so on, by the rounds of the definition.
 
 ghost use Rattle.std.specs.Prelude.{◌≡◌, IfOk, OnOk, map, drop, []};
 ghost use Rattle.go_tree.specs.Needs.{needs, needs_of, is_among, is_known, with_one, with_all, all_needed, needs_itself};

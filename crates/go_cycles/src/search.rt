@@ -1,6 +1,6 @@
-// The ranks of declarations, by the strongly connected components of what needs what.
-//
-// Nothing rests on the ranks being right: what they show is tried against the names before it counts.
+//! The ranks of declarations, by the strongly connected components of what needs what.
+//!
+//! Nothing rests on the ranks being right: what they show is tried against the names before it counts.
 
 use crate::graph::{Edge, Graph, node_of};
 use crate::ranks::{Rank, Ranks};

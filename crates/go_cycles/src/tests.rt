@@ -1,4 +1,4 @@
-// Worked declarations of types.
+//! Worked declarations of types.
 
 use crate::circle::circle;
 use crate::graph::graph_of;

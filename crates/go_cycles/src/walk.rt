@@ -1,4 +1,4 @@
-// A circle of names, along which a declaration is seen to need itself.
+//! A circle of names, along which a declaration is seen to need itself.
 
 ghost use Rattle.std.specs.Prelude.{◌≡◌, Some, map};
 ghost use Rattle.std.specs.Option.{option_map};

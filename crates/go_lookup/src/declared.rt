@@ -1,4 +1,4 @@
-// The objects of a package, and the locals of its functions.
+//! The objects of a package, and the locals of its functions.
 
 ghost use Rattle.std.specs.Prelude.{◌≡◌, IfOk, map};
 ghost use Rattle.go_tree.specs.Uses.{declared_by, declared_in_package, begins_function, own_locals, function_locals, uses_by, IsComplete};

@@ -1,4 +1,4 @@
-// The declarations of a package.
+//! The declarations of a package.
 
 ghost use Rattle.std.specs.Prelude.{◌≡◌, ◌≤◌, ◌++◌, List, IfOk, OnOk, length, map};
 ghost use Rattle.std.specs.Option.{option_map};

@@ -1,4 +1,4 @@
-// Declarations by name and block, and by statement.
+//! Declarations by name and block, and by statement.
 
 ghost use Rattle.std.specs.Prelude.{◌≡◌, ◌++◌, ◌||◌, not, false, [], ◌∷◌, List, unwrap_or, IfOk, OnOk, map};
 ghost use Rattle.go_tree.specs.Meanings as meanings;

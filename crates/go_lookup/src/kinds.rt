@@ -1,4 +1,4 @@
-// Kinds of blocks and of declarations.
+//! Kinds of blocks and of declarations.
 
 ghost use Rattle.std.specs.Prelude.{◌≡◌};
 ghost use Rattle.go_tree.specs.Contexts.{is_package};

@@ -1,7 +1,7 @@
-// The declarations of a package, and what its names mean.
-//
-// `look_up` answers the names that are looked up, each with its meaning, and the objects of all tokens, exactly by the
-// definitions in go_tree. Scopes are a stack of tables by name, which is kept along the tokens of a file.
+//! The declarations of a package, and what its names mean.
+//!
+//! `look_up` answers the names that are looked up, each with its meaning, and the objects of all tokens, exactly by the
+//! definitions in go_tree. Scopes are a stack of tables by name, which is kept along the tokens of a file.
 #![tactic(auto)]
 
 pub mod declared;

@@ -1,4 +1,4 @@
-// The look-up of all names of a package.
+//! The look-up of all names of a package.
 
 ghost use Rattle.std.specs.Prelude.{◌≡◌, ◌≤◌, ℕ, IfOk, length, map};
 ghost use Rattle.go_names.specs.Scopes.{locals_of, AreSwept, AreNested, AreOrderly};

@@ -1,4 +1,4 @@
-// The names that are looked up in a package.
+//! The names that are looked up in a package.
 
 ghost use Rattle.std.specs.Prelude.{◌≡◌, ◌++◌, List, OnOk, map, []};
 ghost use Rattle.std.specs.Option.{option_map, option_to_list};

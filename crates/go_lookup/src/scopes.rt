@@ -1,4 +1,4 @@
-// The local names of the blocks around a place of a file.
+//! The local names of the blocks around a place of a file.
 
 ghost use Rattle.std.specs.Prelude.{true, false, ◌≡◌, ◌≤◌, ℕ, ◌-◌, List, [], OnOk, length, slice_get};
 ghost use Rattle.std.specs.Option.{option_map};

@@ -1,4 +1,4 @@
-// The meanings of a package by their blocks.
+//! The meanings of a package by their blocks.
 
 ghost use Rattle.std.specs.Prelude.{◌≡◌, List, [], ◌∷◌, ◌++◌, IfOk, OnOk, map};
 ghost use Rattle.std.specs.Option.{option_map, option_copied};

@@ -1,4 +1,4 @@
-// What names mean along the tokens of a file.
+//! What names mean along the tokens of a file.
 
 ghost use Rattle.std.specs.Prelude.{◌≡◌, ◌≤◌, ℕ, List, ◌∷◌, IfOk, Some, drop, slice_get, map};
 ghost use Rattle.std.specs.Option.{option_map};

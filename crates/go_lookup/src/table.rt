@@ -1,4 +1,4 @@
-// The objects of the tokens of each file.
+//! The objects of the tokens of each file.
 
 ghost use Rattle.std.specs.Prelude.{◌≡◌, ℕ, List, IfOk, None, length, map, replicate, set};
 ghost use Rattle.std.specs.Option.{option_map};

@@ -1,4 +1,4 @@
-// A file as the rules on names see it.
+//! A file as the rules on names see it.
 
 ghost use Rattle.std.specs.Prelude.{◌≡◌, slice_get, IfOk};
 ghost use Rattle.go_tokens.specs.Spellings.{same_text};

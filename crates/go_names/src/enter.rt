@@ -1,4 +1,4 @@
-// The context of a node's parts.
+//! The context of a node's parts.
 
 ghost use Rattle.std.specs.Prelude.{◌≡◌, ◌&&◌, not, nat_eq};
 ghost use Rattle.go_grammar.specs.Grammar as grammar;

@@ -1,4 +1,4 @@
-// Laws of what the tree of a file has to do with names.
+//! Laws of what the tree of a file has to do with names.
 
 ghost use Rattle.std.specs.Prelude.{◌≡◌, ℕ, false, List, None};
 ghost use Rattle.go_tokens.specs.declared.token.TokenKind.{TokenKind};

@@ -1,4 +1,4 @@
-// What a node tells by itself.
+//! What a node tells by itself.
 
 ghost use Rattle.std.specs.Prelude.{◌≡◌, ◌<◌, ◌++◌, ◌∷◌, [], OnOk, false};
 ghost use Rattle.go_grammar.specs.Trees.{kind_of, first, last, parts};

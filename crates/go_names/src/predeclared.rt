@@ -1,4 +1,4 @@
-// Predeclared names of Go 1.22 (Go specification: Predeclared identifiers).
+//! Predeclared names of Go 1.22 (Go specification: Predeclared identifiers).
 
 ghost use Rattle.std.specs.Prelude.{◌≡◌, map};
 ghost use Rattle.go_tokens.specs.Spellings.{same_text, listed};

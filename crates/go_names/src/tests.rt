@@ -1,5 +1,5 @@
-// What small files have to do with names, as one reads it from their tokens. Each begins with `package p` and a newline, the
-// tokens 0 to 2.
+//! What small files have to do with names, as one reads it from their tokens. Each begins with `package p` and a newline, the
+//! tokens 0 to 2.
 
 use crate::walk::events;
 use go_parse::parse;

@@ -1,4 +1,4 @@
-// The walk.
+//! The walk.
 
 ghost use Rattle.std.specs.Prelude.{◌≡◌, ◌++◌, OnOk, IfOk};
 ghost use Rattle.go_grammar.specs.Grammar.{ends_named};

@@ -1,4 +1,4 @@
-// Statements that may not stand where they do, and those that are too many.
+//! Statements that may not stand where they do, and those that are too many.
 
 ghost use Rattle.std.specs.Prelude.{◌≡◌, ◌≤◌, ◌+◌, Some, IfOk, IfErr, length, slice_get};
 ghost use Rattle.std.specs.Option.{option_map};

@@ -1,4 +1,4 @@
-// Rules on clauses: package names, imports, and declarations outside the profile.
+//! Rules on clauses: package names, imports, and declarations outside the profile.
 
 ghost use Rattle.std.specs.Prelude.{◌≡◌, ◌≤◌, ◌+◌, suc, IfOk, None, length, map, codes};
 ghost use Rattle.std.specs.Option.{option_map};

@@ -1,4 +1,4 @@
-// No declaration needs itself.
+//! No declaration needs itself.
 
 ghost use Rattle.std.specs.Prelude.{◌≡◌, ◌+◌, [], IfOk, length, map};
 ghost use Rattle.std.specs.Option.{option_map};

@@ -1,4 +1,4 @@
-// Rules on fields, keys, parameters and defaults that stand twice.
+//! Rules on fields, keys, parameters and defaults that stand twice.
 
 ghost use Rattle.std.specs.Prelude.{◌≡◌, ◌≤◌, List, [], IfOk, length};
 ghost use Rattle.std.specs.Option.{option_map};

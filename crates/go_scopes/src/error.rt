@@ -1,4 +1,4 @@
-// Why names have no meaning.
+//! Why names have no meaning.
 
 ghost use Rattle.std.specs.Prelude.{◌≡◌};
 ghost use Rattle.go_scopes.specs.declared.error.ResolveError.TheVariants as error;

@@ -1,4 +1,4 @@
-// The least of some faults.
+//! The least of some faults.
 
 ghost use Rattle.std.specs.Prelude.{◌≡◌, []};
 ghost use Rattle.std.specs.Option.{option_map};

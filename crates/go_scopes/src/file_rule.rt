@@ -1,4 +1,4 @@
-// Rules on the events of each file by themselves.
+//! Rules on the events of each file by themselves.
 
 ghost use Rattle.std.specs.Prelude.{◌≡◌, ◌≤◌, ℕ, List, IfOk, length};
 ghost use Rattle.std.specs.Option.{option_map};

@@ -1,4 +1,4 @@
-// Rules on the names that are looked up.
+//! Rules on the names that are looked up.
 
 ghost use Rattle.std.specs.Prelude.{◌≡◌, ◌&&◌, map};
 ghost use Rattle.std.specs.Option.{option_map};

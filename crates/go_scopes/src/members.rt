@@ -1,4 +1,4 @@
-// Fields, keys and parameters by their names.
+//! Fields, keys and parameters by their names.
 
 ghost use Rattle.std.specs.Prelude.{◌≡◌, ◌++◌, ◌∷◌, [], List, OnOk};
 ghost use Rattle.go_tokens.specs.Tokens.{TokenList};

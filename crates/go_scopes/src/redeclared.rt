@@ -1,4 +1,4 @@
-// Rules on names that are declared more than once.
+//! Rules on names that are declared more than once.
 
 ghost use Rattle.std.specs.Prelude.{◌≡◌, ◌≤◌, ◌&&◌, not, nat_eq, [], List, IfOk, length, map};
 ghost use Rattle.std.specs.Option.{option_map};

@@ -1,4 +1,4 @@
-// The meaning of the names of a package.
+//! The meaning of the names of a package.
 
 ghost use Rattle.std.specs.Prelude.{◌≡◌, ◌≤◌, None, Some, IfOk, length, map};
 ghost use Rattle.std.specs.Option.{option_map};

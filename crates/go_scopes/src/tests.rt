@@ -1,4 +1,4 @@
-// Worked packages.
+//! Worked packages.
 
 use crate::error::ResolveError;
 use crate::resolve::resolve;

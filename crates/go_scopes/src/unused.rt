@@ -1,4 +1,4 @@
-// Rules on local variables and imports that are not used.
+//! Rules on local variables and imports that are not used.
 
 ghost use Rattle.std.specs.Prelude.{◌≡◌, ◌≤◌, ◌&&◌, IfOk, OnOk, List, not, length, map};
 ghost use Rattle.std.specs.Option.{option_map};

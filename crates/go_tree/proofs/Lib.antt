@@ -1,4 +1,3 @@
-pub mod Examples
 pub mod Heights
 pub mod Order
 pub mod Package

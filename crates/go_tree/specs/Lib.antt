@@ -1,14 +1,12 @@
 pub mod Branches
 pub mod Clauses
 pub mod Contexts
-pub mod Declarations
 pub mod Duplicates
 pub mod Events
-pub mod Expressions
 pub mod Failures
 pub mod Faults
 pub mod File
-pub mod Headers
+pub mod Functions
 pub mod Lists
 pub mod Lookups
 pub mod Meanings
@@ -16,6 +14,5 @@ pub mod Needs
 pub mod Predeclared
 pub mod Redeclared
 pub mod Spans
-pub mod Statements
 pub mod Uses
 pub mod Views

@@ -1,7 +1,6 @@
 -- The trees that the nodes of the program hold.
 use Rattle.std.specs.Prelude.{ℕ, zero, suc, ◌≤◌, Bool, true, false, if◌then◌else◌, ◌||◌, List, [], ◌∷◌, Option, Some, None, map}
 use Rattle.std.specs.Option.{option_map}
-use Rattle.go_grammar.specs.Reader.{◌>>=◌}
 use Rattle.go_grammar.specs.Trees.{Tree, node, Trees, none, more, skip, kind_of, first, last, parts}
 use Rattle.go_grammar.specs.Grammar.{is_name, is_parameter}
 use Rattle.go_tree.specs.declared.node.Node.{Node}
@@ -48,10 +47,6 @@ part_at (more p ps) zero = Some p
 part_at (skip ps) zero = None
 part_at (more p ps) (suc n) = part_at ps n
 part_at (skip ps) (suc n) = part_at ps n
-
--- the first part of the part of this number
-abbrev pub inner_at : Trees → ℕ → Option Tree
-inner_at ps n = part_at ps n >>= λ p. part_at (parts p) 0
 
 -- what a place that may be absent holds
 abbrev pub flat : Option (Option Tree) → Option Tree

@@ -1,4 +1,4 @@
-// What the parts of a node must be besides standing where the grammar has them.
+//! What the parts of a node must be besides standing where the grammar has them.
 
 ghost use Rattle.std.specs.Prelude.{◌≡◌, ◌||◌, ◌&&◌, nat_le};
 ghost use Rattle.go_grammar.specs.Grammar as grammar;

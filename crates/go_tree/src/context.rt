@@ -1,4 +1,4 @@
-// Where a node stands, as far as names are concerned.
+//! Where a node stands, as far as names are concerned.
 
 /// What a name is declared as (Go specification: Declarations and scope).
 #[derive(Clone, Copy, Debug, PartialEq, Eq)]

@@ -1,4 +1,4 @@
-// What the nodes of a tree have to do with names. Numbers are those of tokens of the file.
+//! What the nodes of a tree have to do with names. Numbers are those of tokens of the file.
 
 use crate::context::{Block, Entity, Manner, Role, Scope, Site};
 

@@ -1,4 +1,4 @@
-// The tree of a whole file.
+//! The tree of a whole file.
 
 ghost use Rattle.std.specs.Prelude.{◌≡◌, ◌<◌, ◌≤◌, IfOk, length, slice_get, Some};
 ghost use Rattle.std.specs.Option.{option_map};
@@ -7,13 +7,13 @@ ghost use Rattle.go_tokens.specs.declared.token.TokenKind.{TokenKind};
 ghost use Rattle.go_tokens.specs.Tokens.{kinds};
 ghost use Rattle.go_tree.specs.File.{IsFileTree};
 ghost use Rattle.go_tree.specs.Lists.{functions, functions_of};
-ghost use Rattle.go_tree.specs.Spans.{span_at, token_text, leaf_text, start_of, end_of, file_of};
+ghost use Rattle.go_tree.specs.Spans.{span_at, token_text, leaf_token, leaf_text, start_of, end_of, file_of};
 ghost use Rattle.go_tree.specs.Views.{view, views, part_at, behind_first};
 
-use crate::expression::Leaf;
 use crate::functions::Functions;
 use crate::node::{Node, part_of};
 use go_base::Span;
+use go_grammar::kind::Kind;
 use go_tokens::tokens::Tokens;
 use std::alloc::{AllocError, Global};
 use std::marker::Model;
@@ -89,7 +89,7 @@ impl File {
     pub fn leaf_text(&self, node: &Node) -> Option<&[u8]>
         ensures { leaf_text self.now.tokens (view node.now) ≡ option_map (λ text. text.now) result }
     {
-        let token = Leaf::of(node)?.token;
+        let token = leaf_token(node)?;
         if token < self.count() {
             Some(self.text(token))
         } else {
@@ -176,5 +176,20 @@ impl File {
             start: self.start(node),
             end: self.end(node),
         }
+    }
+}
+
+/// The number of the token of a name or a literal (Go specification: Operands).
+fn leaf_token(node: &Node) -> Option<u32>
+    ensures { result ≡ leaf_token (view node.now) }
+{
+    match node.kind() {
+        Kind::Name => Some(node.first()),
+        Kind::DeclaredName => Some(node.first()),
+        Kind::Integer => Some(node.first()),
+        Kind::Rune => Some(node.first()),
+        Kind::Text => Some(node.first()),
+        Kind::ImportPath => Some(node.first()),
+        _ => None,
     }
 }

@@ -1,7 +1,8 @@
-// The functions of a file by number.
+//! The functions of a file by number, and what they are made of.
 
 ghost use Rattle.std.specs.Prelude.{◌≡◌, ◌++◌, IfOk, OnOk, length, slice_get};
 ghost use Rattle.std.specs.Option.{option_map};
+ghost use Rattle.go_tree.specs.Functions.{function_declaration_of, function_declaration_view};
 ghost use Rattle.go_tree.specs.Lists.{functions, functions_of, function_here, is_function, seen};
 ghost use Rattle.go_tree.specs.Views.{view, views};
 
@@ -13,6 +14,17 @@ use std::alloc::{AllocError, Global};
 #[derive(Debug, Drop)]
 pub struct Functions<'a> {
     nodes: Vec<&'a Node>,
+}
+
+/// A function (Go specification: Function declarations).
+#[derive(Clone, Copy, Debug)]
+pub struct FunctionDeclaration<'a> {
+    /// The number of the token that is its name.
+    pub name: u32,
+    /// Its signature.
+    pub signature: &'a Node,
+    /// Its block; none where the function is written in another language.
+    pub body: Option<&'a Node>,
 }
 
 impl<'a> Functions<'a> {
@@ -46,6 +58,29 @@ impl<'a> Functions<'a> {
         ensures { slice_get (functions_of self.now) number ≡ option_map (λ n. view n.now) result }
     {
         self.nodes.get(number).copied()
+    }
+}
+
+impl<'a> FunctionDeclaration<'a> {
+    /// What a node is made of, if it is a function.
+    pub fn of(node: &'a Node) -> Option<FunctionDeclaration<'a>>
+        ensures { function_declaration_of (view node.now) ≡ option_map function_declaration_view result }
+    {
+        match node.kind() {
+            Kind::FunctionDeclaration => {
+                let signature = node.part(0)?;
+                if node.first() < node.last() {
+                    Some(FunctionDeclaration {
+                        name: node.first() + 1,
+                        signature,
+                        body: node.part(1),
+                    })
+                } else {
+                    None
+                }
+            },
+            _ => None,
+        }
     }
 }
 

@@ -1,4 +1,4 @@
-// Laws of trees that stand over tokens.
+//! Laws of trees that stand over tokens.
 
 ghost use Rattle.std.specs.Prelude.{◌≡◌, ℕ, ◌<◌, ◌≤◌, List, Some, map};
 ghost use Rattle.go_tokens.specs.declared.token.Token.{Token};

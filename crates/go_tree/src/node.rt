@@ -1,9 +1,9 @@
-// The nodes of a syntax tree.
+//! The nodes of a syntax tree.
 
 ghost use Rattle.std.specs.Prelude.{◌≡◌};
 ghost use Rattle.std.specs.Option.{option_map};
 ghost use Rattle.go_grammar.specs.Trees.{node, kind_of, first, last, parts};
-ghost use Rattle.go_tree.specs.Views.{view, views, part_at, inner_at, flat, behind_first};
+ghost use Rattle.go_tree.specs.Views.{view, views, part_at, flat, behind_first};
 
 use go_grammar::kind::Kind;
 
@@ -63,13 +63,6 @@ impl Node {
         ensures { part_at (parts (view self.now)) number ≡ option_map (λ n. view n.now) result }
     {
         part_of(self.parts(), number)
-    }
-
-    /// The first part of the part of this number.
-    pub fn inner(&self, number: usize) -> Option<&Node>
-        ensures { inner_at (parts (view self.now)) number ≡ option_map (λ n. view n.now) result }
-    {
-        self.part(number)?.part(0)
     }
 
     /// Its parts behind the first, in order.

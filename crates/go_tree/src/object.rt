@@ -1,4 +1,4 @@
-// What names mean.
+//! What names mean.
 
 use crate::context::{Entity, Scope};
 

@@ -1,4 +1,4 @@
-// The statement lists of a function by number.
+//! The statement lists of a function by number.
 
 ghost use Rattle.std.specs.Prelude.{◌≡◌, ◌++◌, IfOk, OnOk, length, slice_get};
 ghost use Rattle.std.specs.Option.{option_map};

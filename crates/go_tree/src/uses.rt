@@ -1,4 +1,4 @@
-// What the names of a package mean, by token.
+//! What the names of a package mean, by token.
 
 ghost use Rattle.std.specs.Prelude.{◌≡◌, Some, is_some, length, map, slice_get};
 ghost use Rattle.std.specs.Option.{option_map};
