@@ -4,7 +4,10 @@ use Rattle.go_ints.specs.declared.operators.Op.TheVariants.{Add, Sub, Div, Xor, 
 use Rattle.go_constants.specs.declared.values.Const.TheVariants.{Bool, Int, Text}
 use Rattle.go_constants.specs.declared.values.ConstOp.TheVariants.{Arith, Eq, Lt}
 use Rattle.go_constants.specs.declared.values.ConstFault.TheVariants.{TooWide, DivideZero, Operands}
+use Rattle.go_constants.specs.declared.representing.Basic.TheVariants as basic
+use Rattle.go_ints.specs.declared.kinds.Kind.TheVariants.{Uint8}
 use Rattle.go_constants.specs.Folding.{folded}
+use Rattle.go_constants.specs.Representing.{is_represented}
 
 pub record Examples : Type 0 where
   -- numbers from -2 ^ 127 to 2 ^ 127 - 1
@@ -31,3 +34,8 @@ pub record Examples : Type 0 where
   pub joined : folded (Arith Add) (Text (codes "ab")) (Text (codes "c")) ≡ Ok (Text (codes "abc"))
   pub by_bytes : folded Lt (Text (codes "b")) (Text (codes "ab")) ≡ Ok (Bool false)
   pub front_first : folded Lt (Text (codes "a")) (Text (codes "ab")) ≡ Ok (Bool true)
+  -- what a type has
+  pub byte_has_255 : is_represented (Int (pos 255) false) (basic.Int Uint8) ≡ true
+  pub byte_lacks_300 : is_represented (Int (pos 300) false) (basic.Int Uint8) ≡ false
+  pub booleans_have_true : is_represented (Bool true) basic.Bool ≡ true
+  pub texts_lack_numbers : is_represented (Int (pos 1) false) basic.Text ≡ false

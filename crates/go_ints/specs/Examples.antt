@@ -1,12 +1,19 @@
 -- What the operators give, worked out by hand from the Go specification.
-use Rattle.std.specs.Prelude.{◌≡◌, ◌^◌, ◌-◌, Ok, Err, pos, neg_ℤ}
+use Rattle.std.specs.Prelude.{◌≡◌, ◌^◌, ◌-◌, true, false, Ok, Err, pos, neg_ℤ}
 use Rattle.go_ints.specs.declared.kinds.Kind.TheVariants.{Int8, Int16, Int64, Uint8, Uint16, Uint64, Int}
 use Rattle.go_ints.specs.declared.operators.Op.TheVariants.{Add, Sub, Mul, Div, Rem, And, Or, Xor, AndNot, Shl, Shr}
 use Rattle.go_ints.specs.declared.operators.Trap.TheVariants.{DivideZero, NegativeShift}
+use Rattle.go_ints.specs.Wrapping.{wrapped}
+use Rattle.go_ints.specs.Kinds.{is_value_of}
 use Rattle.go_ints.specs.Arithmetic.{arithmetic}
 
--- sums and differences go round
 pub record Examples : Type 0 where
+  -- wrapping, and the ends of a kind
+  pub wrapped_by_one_round : wrapped 8 true (pos 300) ≡ pos 44
+  pub wrapped_below_zero : wrapped 64 false (neg_ℤ (pos 1)) ≡ pos (2 ^ 64 - 1)
+  pub least_fits : is_value_of Int16 (neg_ℤ (pos 32768)) ≡ true
+  pub one_more_does_not : is_value_of Int16 (pos 32768) ≡ false
+  -- sums and differences go round
   pub sum : arithmetic Int8 Add (pos 127) (pos 1) ≡ Ok (neg_ℤ (pos 128))
   pub difference : arithmetic Uint16 Sub (pos 0) (pos 1) ≡ Ok (pos 65535)
   pub product : arithmetic Uint64 Mul (pos (2 ^ 64 - 1)) (pos (2 ^ 64 - 1)) ≡ Ok (pos 1)

@@ -44,7 +44,7 @@ module _ (shapes : List Shape) (definitions : List (Option Definition)) (count k
       let is = right_definition shapes definitions n r h in
       let number = ok.table.numbered i n s in
       let rises = count_rises is_declaration shapes i count (shape.Named n) s refl l in
-      (subst (HasRightId new n) is.2 (definition_right (take count shapes) (take k definitions) n is.0 (take_get k definitions n (Some is.0) is.1 (omega (arith, number, rises, k_is)))), closed.rights_within i n r l s h)
+      (subst (HasRightId new n) is.2 (definition_right (take count shapes) (take k definitions) n is.0 (take_get k definitions n (Some is.0) is.1 (omega (arith, number, rises, k_is)))), closed i n r l s h)
 
   new_defined : (r : ℕ) → r < count → IsDefined old r → IsDefined new r
   new_defined r l d n h = let right = d n (old_shape r (shape.Named n) h) in (right.0, (new_right r n right.0 l (old_shape r (shape.Named n) h) right.1).0)
@@ -75,7 +75,7 @@ module _ (shapes : List Shape) (definitions : List (Option Definition)) (count k
       let place = get_take k definitions n (Some is.0) is.1 in
       let there = declared_there n place.1 in
       let before = old_right n r h in
-      let l = closed.rights_within there.0 n r there.1 there.2 before in
+      let l = closed there.0 n r there.1 there.2 before in
       (subst (λ x. r < x) (sym size) l, new_defined r l (ok.table.right_sides n r before).1)
 
   few : k ≤ length definitions
@@ -100,7 +100,7 @@ module _ (shapes : List Shape) (definitions : List (Option Definition)) (count k
         let there = declared_there n place.1 in
         let before = ok.leads n d place.0 in
         let side = definition_right shapes definitions n d place.0 in
-        let l = closed.rights_within there.0 n d.right there.1 there.2 side in
+        let l = closed there.0 n d.right there.1 there.2 side in
         let also = leads_also old new (λ j. j < count) (λ i b. omega (arith, b, within)) (λ i s b h. take_get count shapes i s h b) new_right d.right d.underlying l before.0 in
         (also.0, subst (λ x. d.underlying < x) (sym size) also.1);
   }

@@ -7,10 +7,10 @@ use Rattle.go_types.specs.declared.shape.Shape.TheVariants as shape
 use Rattle.go_types.specs.declared.types.Definition.{Definition}
 use Rattle.go_types.specs.declared.verdict.Verdict.{Verdict}
 use Rattle.go_types.specs.Shapes.{IsInterned}
-use Rattle.go_types.specs.Tables.{Table, HasShape, HasRightId, HasPartsBelow, WasDeclared, held, is_declaration}
+use Rattle.go_types.specs.Tables.{Table, HasShape, HasRightId, HasPartsBelow, WasDeclared, held, parts, is_declaration}
 use Rattle.go_types.specs.Changes.{table_of, IsResolved, IsClosedBelow, IsKept}
 use Rattle.go_types.specs.Verdicts.{by_shape, of_right, IsVerdict, IsShapeVerdict, AreVerdicts}
-use Rattle.go_types.proofs.Places.{get_left, get_snoc, get_last, get_within, get_take, take_get, get_set, get_set_other, get_set_same}
+use Rattle.go_types.proofs.Places.{get_left, get_snoc, get_last, get_within, get_take, take_get, get_set, get_set_other, get_set_same, all_of}
 use Rattle.go_types.proofs.Countings.{count_rises, length_longer, length_taken, take_longer, take_whole}
 use Rattle.go_types.proofs.Containment.{declared_or_not, held_part, listed_right}
 use Rattle.go_types.proofs.Carrying.{right_definition, definition_right}
@@ -155,8 +155,8 @@ module _ (shapes : List Shape) (definitions : List (Option Definition)) (verdict
   part_below : (s : Shape) (l j : ℕ) → StandsBelow s → slice_get (held whole s) l ≡ Some j → j < count
   part_below s l j b e =
       elim (declared_or_not s) [
-        | inl d ↦ closed.rights_within b.0 d.0 j b.1 (b.2 ∙ ap Some d.1) (listed_right (slice_get whole.rights d.0) l j (ap (λ x. slice_get (held whole x) l) (sym d.1) ∙ e))
-        | inr plain ↦ held_part whole s count l j plain (closed.parts_within b.0 s b.1 b.2) e
+        | inl d ↦ closed b.0 d.0 j b.1 (b.2 ∙ ap Some d.1) (listed_right (slice_get whole.rights d.0) l j (ap (λ x. slice_get (held whole x) l) (sym d.1) ∙ e))
+        | inr plain ↦ held_part whole s count l j plain (all_of (λ p. p < b.0) (λ p. p < count) (parts s) (λ p l. let lower = b.1 in omega arith) (kept.resolved.table.parts_below b.0 s b.2)) e
       ]
 
   right_below : (n r : ℕ) → StandsBelow (shape.Named n) → HasRightId whole n r → HasRightId first n r

@@ -46,10 +46,9 @@ IsInternedIn old new s i = IsInterned old.shapes new.shapes s i × (new.rights �
 abbrev pub first_types : ℕ → Table → Table
 first_types count t = record { shapes = take count t.shapes; rights = take (count_by is_declaration (take count t.shapes)) t.rights }
 
--- No type below the number has a part or a right side from that number on.
-pub record IsClosedBelow (count : ℕ) (t : Table) : Type 0 where
-  pub parts_within : (i : ℕ) (s : Shape) → i < count → HasShape t i s → HasPartsBelow count s
-  pub rights_within : (i n r : ℕ) → i < count → HasShape t i (shape.Named n) → HasRightId t n r → r < count
+-- No declared type below the number has a right side from that number on.
+abbrev pub IsClosedBelow : ℕ → Table → Type 0
+IsClosedBelow count t = (i n r : ℕ) → i < count → HasShape t i (shape.Named n) → HasRightId t n r → r < count
 
 -- ---- what the program keeps
 

@@ -49,7 +49,8 @@ abbrev pub array_scalars : ℕ → ℕ → ℕ
 array_scalars n scalars = if nat_eq scalars 0 then n else n * scalars
 
 mutual
-  -- The scalars of a type. Of a declared type its right side is asked.
+  -- The scalars of a type: this program's measure of how large a value is, which the Go specification does not have. Of a
+  -- declared type its right side is asked.
   pub data Scalars (rights : Rights) : TypeTree → ℕ → Type 0 where
     of_boolean : Scalars rights boolean 1
     of_text : Scalars rights text 1

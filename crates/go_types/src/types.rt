@@ -169,7 +169,8 @@ impl Types {
         }
     }
 
-    /// Takes away the types from the number `count` on.
+    /// Takes away the types from the number `count` on. No declared type below that number has a
+    /// right side from there on.
     pub fn cut(&mut self, count: u64)
         requires within { count ≤ length self.old.shapes }
         requires closed { IsClosedBelow count self.old }
@@ -230,7 +231,8 @@ impl Types {
         }
     }
 
-    /// How many scalars a value of the type has: an array has its length times those of its element,
+    /// How many scalars a value of the type has. The Go specification has no such count: it is this
+    /// program's measure of how large a value is. An array has its length times those of its element,
     /// or its length where those are 0; a struct the sum over its fields, and at least 1; a declared
     /// type those of its right side; every other type 1. A count above 2^64 - 1 is answered as
     /// 2^64 - 1.

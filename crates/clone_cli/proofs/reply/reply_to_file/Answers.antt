@@ -12,7 +12,7 @@ pub returns-in-Err-Fault : goal.returns-in-Err-Fault
 returns-in-Err-Fault c =
     IfOk-weaker c.unbuilt-in-Err-Fault.result _ _
     (λ v e. unbuilt-is (named_text c.args.file.now) v.items
-    (λ b. (let told = c.in-Err-Fault.ensures.lexing b.tokens b.comments (subst (λ bytes. IsLexing 0 bytes b.tokens b.comments) (sym c.as_slice-bytes.ensures) b.lexing) in cc)) e)
+    (λ b. absurd (rw c.in-Err-Fault.field-0-is at (c.in-Err-Fault.ensures.lexing b.tokens b.comments (subst (λ bytes. IsLexing 0 bytes b.tokens b.comments) (sym c.as_slice-bytes.ensures) b.lexing)))) e)
     c.unbuilt-in-Err-Fault.ensures
 
 pub returns-in-Ok-parse : goal.returns-in-Ok-parse

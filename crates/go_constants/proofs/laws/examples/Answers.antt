@@ -21,4 +21,8 @@ returns c = record {
   joined = refl;
   by_bytes = refl;
   front_first = refl;
+  byte_has_255 = refl;
+  byte_lacks_300 = refl;
+  booleans_have_true = refl;
+  texts_lack_numbers = refl;
 }

@@ -5,6 +5,10 @@ use Rattle.go_ints.proofs.laws.examples.Goals as goal
 pub returns : goal.returns
 unfolding wrapped
 returns c = record {
+  wrapped_by_one_round = refl;
+  wrapped_below_zero = refl;
+  least_fits = refl;
+  one_more_does_not = refl;
   sum = refl;
   difference = refl;
   product = refl;
