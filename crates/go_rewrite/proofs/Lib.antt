@@ -1,0 +1,6 @@
+mod Aligned
+mod Numbers
+mod Parts
+mod Rewritten
+mod Tokens
+mod Trees
