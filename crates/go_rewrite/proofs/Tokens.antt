@@ -19,7 +19,7 @@ use Rattle.go_rewrite.proofs.Numbers.{earlier}
 use Rattle.go_rewrite.proofs.Parts.{swaps_of, swaps, swapped, rewritten_swaps, spliced_swapped, kind_in, to_changes, kinds_read, same_changes, changed_kinds, swaps_ascend}
 use Rattle.go_rewrite.proofs.Aligned.{aligned}
 
-among_get : (ts : List Token) (i : ℕ) (t : Token) → slice_get ts i ≡ Some t → IsAmong ts t
+pub among_get : (ts : List Token) (i : ℕ) (t : Token) → slice_get ts i ≡ Some t → IsAmong ts t
 among_get [] i t e = cc
 among_get (u ∷ ts) zero t e = inl (cc)
 among_get (u ∷ ts) (suc i) t e = inr (among_get ts i t e)
