@@ -7,11 +7,11 @@ use Rattle.go_grammar.specs.declared.kind.Kind.TheVariants as kind
 use Rattle.go_grammar.specs.declared.kind.Category.{Category}
 use Rattle.go_grammar.specs.Categories.{place_of}
 use Rattle.go_grammar.specs.Rules.{Items, Rule, End, Then, Maybe, Unless, Many, item}
-use Rattle.go_grammar.specs.Trees.{Tree, node, Trees, none, more, skip, last}
+use Rattle.go_grammar.specs.Trees.{Tree, node, Trees, none, more, skip, last, parts}
 use Rattle.go_grammar.specs.Grammar.{rule, agrees, are_names, count, first_parts, Derives, Spells, Goes}
 use Rattle.go_grammar.proofs.Rows.{and_both}
 use Rattle.go_splice.specs.Replacing.{agree, agree_all, onto}
-use Rattle.go_splice.specs.Places.{Patch, keep, put, inside, Patches, done, part, run, items_behind, carries, become, become_all, agreed, all_agreed}
+use Rattle.go_splice.specs.Places.{Patch, keep, put, inside, Patches, done, part, run, items_behind, carry, carries, become, become_all, agreed, all_agreed}
 use Rattle.go_splice.specs.Sites.{Local, whole, items, Site, parts_of, next_patch, other_patches, nth_patch, set_patch, patches_behind, add_run, insert, patch_of, is_free, may_change, is_free_for, is_clear, is_clear_in, all_clear}
 use Rattle.go_splice.proofs.Kept.{agrees_carried}
 
@@ -63,15 +63,67 @@ module _ (m : ℕ → ℕ) where
   first_same P n q (part x qs) (skip ps) h g = h
   first_same P n q (run c new qs) (skip ps) h g = g
 
-  change_agrees : (k : Kind) (n : ℕ) (q : Patch) (qs : Patches) (ps : Trees) → may_change k n ≡ true → agrees k (become_all m ps qs) ≡ true → agrees k (carries m ps) ≡ true → agrees k (become_all m ps (set_patch n q qs)) ≡ true
-  change_agrees kind.Parameters n q qs ps e h g = cc
-  change_agrees kind.NewNames zero q qs ps e h g = cc
-  change_agrees kind.NewNames (suc n) q qs ps e h g = first_same are_names n q qs ps h g
-  change_agrees kind.AssigningRange zero q qs ps e h g = cc
-  change_agrees kind.AssigningRange (suc n) q qs ps e h g = first_same (λ z. nat_le (count (first_parts z)) 2) n q qs ps h g
-  change_agrees kind.DefiningRange zero q qs ps e h g = cc
-  change_agrees kind.DefiningRange (suc n) q qs ps e h g = first_same (λ z. nat_le (count (first_parts z)) 2) n q qs ps h g
-  change_agrees _ n q qs ps e h g = refl
+  -- a row with another patch for one part has as many parts as before, or as many as if all stay
+  set_count : (P : ℕ → Bool) (n : ℕ) (w : Patch) (qs : Patches) (ps : Trees) → P (count (become_all m ps qs)) ≡ true → P (count (carries m ps)) ≡ true → P (count (become_all m ps (set_patch n w qs))) ≡ true
+  set_count P zero w done none h g = h
+  set_count P zero w done (more p ps) h g = h
+  set_count P zero w done (skip ps) h g = h
+  set_count P zero w (part x qs) none h g = h
+  set_count P zero w (part x qs) (more p ps) h g = h
+  set_count P zero w (part x qs) (skip ps) h g = h
+  set_count P zero w (run c new qs) none h g = h
+  set_count P zero w (run c new qs) (more p ps) h g = g
+  set_count P zero w (run c new qs) (skip ps) h g = g
+  set_count P (suc n) w done none h g = h
+  set_count P (suc n) w done (more p ps) h g = set_count (λ k. P (suc k)) n w done ps h h
+  set_count P (suc n) w done (skip ps) h g = set_count (λ k. P (suc k)) n w done ps h h
+  set_count P (suc n) w (part x qs) none h g = h
+  set_count P (suc n) w (part x qs) (more p ps) h g = set_count (λ k. P (suc k)) n w qs ps h g
+  set_count P (suc n) w (part x qs) (skip ps) h g = set_count (λ k. P (suc k)) n w qs ps h g
+  set_count P (suc n) w (run c new qs) none h g = h
+  set_count P (suc n) w (run c new qs) (more p ps) h g = set_count (λ k. P (suc k)) n w done ps g g
+  set_count P (suc n) w (run c new qs) (skip ps) h g = set_count (λ k. P (suc k)) n w done ps g g
+
+  abbrev two : ℕ → Bool
+  two n = nat_le n 2
+
+  -- The same of the items of the first part of the first part.
+  list_count : (n : ℕ) (w : Patch) (q : Patch) (t : Tree) → two (count (parts (become m t q))) ≡ true → two (count (parts (carry m t))) ≡ true → two (count (parts (become m t (inside (set_patch n w (parts_of q)))))) ≡ true
+  list_count n w keep (node k a b ps) h g = set_count two n w done ps g g
+  list_count n w (put s) (node k a b ps) h g = set_count two n w done ps g g
+  list_count n w (inside qs) (node k a b ps) h g = set_count two n w qs ps h g
+
+  first_count : (n : ℕ) (path : List ℕ) (x : Local) (q : Patch) (t : Tree) → two (count (first_parts (parts (become m t q)))) ≡ true → two (count (first_parts (parts (carry m t)))) ≡ true → two (count (first_parts (parts (become m t (insert (zero ∷ n ∷ path) x q))))) ≡ true
+  first_count n path x q (node k a b none) h g = refl
+  first_count n path x q (node k a b (skip ps)) h g = refl
+  first_count n path x keep (node k a b (more p ps)) h g = list_count n (insert path x (nth_patch n done)) keep p g g
+  first_count n path x (put s) (node k a b (more p ps)) h g = list_count n (insert path x (nth_patch n done)) keep p g g
+  first_count n path x (inside done) (node k a b (more p ps)) h g = list_count n (insert path x (nth_patch n done)) keep p g g
+  first_count n path x (inside (part q qs)) (node k a b (more p ps)) h g = list_count n (insert path x (nth_patch n (parts_of q))) q p h g
+  first_count n path x (inside (run c new qs)) (node k a b (more p ps)) h g = list_count n (insert path x (nth_patch n done)) keep p g g
+
+  range_agrees : (n : ℕ) (path : List ℕ) (x : Local) (qs : Patches) (ps : Trees) → two (count (first_parts (first_parts (become_all m ps qs)))) ≡ true → two (count (first_parts (first_parts (carries m ps)))) ≡ true → two (count (first_parts (first_parts (become_all m ps (set_patch zero (insert (zero ∷ n ∷ path) x (next_patch qs)) qs))))) ≡ true
+  range_agrees n path x qs none h g = refl
+  range_agrees n path x qs (skip ps) h g = refl
+  range_agrees n path x done (more p ps) h g = first_count n path x keep p g g
+  range_agrees n path x (part q qs) (more p ps) h g = first_count n path x q p h g
+  range_agrees n path x (run c new qs) (more p ps) h g = first_count n path x keep p g g
+
+  change_agrees : (k : Kind) (n : ℕ) (path : List ℕ) (x : Local) (qs : Patches) (ps : Trees) → may_change k n path ≡ true → agrees k (become_all m ps qs) ≡ true → agrees k (carries m ps) ≡ true → agrees k (become_all m ps (set_patch n (insert path x (nth_patch n qs)) qs)) ≡ true
+  change_agrees kind.Parameters n path x qs ps e h g = cc
+  change_agrees kind.NewNames zero path x qs ps e h g = cc
+  change_agrees kind.NewNames (suc n) path x qs ps e h g = first_same are_names n (insert path x (nth_patch (suc n) qs)) qs ps h g
+  change_agrees kind.AssigningRange zero [] x qs ps e h g = cc
+  change_agrees kind.AssigningRange zero (zero ∷ []) x qs ps e h g = cc
+  change_agrees kind.AssigningRange zero (zero ∷ n ∷ path) x qs ps e h g = range_agrees n path x qs ps h g
+  change_agrees kind.AssigningRange zero (suc n ∷ path) x qs ps e h g = cc
+  change_agrees kind.AssigningRange (suc n) path x qs ps e h g = first_same (λ z. nat_le (count (first_parts z)) 2) n (insert path x (nth_patch (suc n) qs)) qs ps h g
+  change_agrees kind.DefiningRange zero [] x qs ps e h g = cc
+  change_agrees kind.DefiningRange zero (zero ∷ []) x qs ps e h g = cc
+  change_agrees kind.DefiningRange zero (zero ∷ n ∷ path) x qs ps e h g = range_agrees n path x qs ps h g
+  change_agrees kind.DefiningRange zero (suc n ∷ path) x qs ps e h g = cc
+  change_agrees kind.DefiningRange (suc n) path x qs ps e h g = first_same (λ z. nat_le (count (first_parts z)) 2) n (insert path x (nth_patch (suc n) qs)) qs ps h g
+  change_agrees _ n path x qs ps e h g = refl
 
   next_agreed : (qs : Patches) (p : Tree) (ps : Trees) → all_agreed m (more p ps) qs ≡ true → agreed m p (next_patch qs) ≡ true
   next_agreed done p ps h = refl
@@ -127,10 +179,10 @@ module _ (m : ℕ → ℕ) where
           local_agreed (items f n new) (node k a b ps) z g h e = both_true (agrees k (become_all m ps (add_run f n new (parts_of z)))) (all_agreed m ps (add_run f n new (parts_of z))) (free_agrees k (become_all m ps (add_run f n new (parts_of z))) e) (run_agreed f n new ps (parts_of z) (parts_agreed z k a b ps h))
       insert_agreed (n ∷ path) (node k a b ps) q g h e =
           let old = and_both (agrees k ps) (agree_all ps) g in
-          let way = and_both (may_change k n) (is_clear_in n path x ps) e in
+          let way = and_both (may_change k n path) (is_clear_in n path x ps) e in
           let new = insert path x (nth_patch n (parts_of q)) in
           both_true (agrees k (become_all m ps (set_patch n new (parts_of q)))) (all_agreed m ps (set_patch n new (parts_of q)))
-          (change_agrees k n new (parts_of q) ps way.0 (node_agrees q k a b ps old.0 h) (agrees_carried m k ps ∙ old.0))
+          (change_agrees k n path x (parts_of q) ps way.0 (node_agrees q k a b ps old.0 h) (agrees_carried m k ps ∙ old.0))
           (set_agreed n path ps (parts_of q) old.1 (parts_agreed q k a b ps h) way.1)
 
       set_agreed : (n : ℕ) (path : List ℕ) (ps : Trees) (qs : Patches) → agree_all ps ≡ true → all_agreed m ps qs ≡ true → is_clear_in n path x ps ≡ true → all_agreed m ps (set_patch n (insert path x (nth_patch n qs)) qs) ≡ true

@@ -60,7 +60,7 @@ module _ (x : Change) (us : List TokenKind) (order : x.from < x.upto) (long : x.
       let c : length (drop x.upto us) ≡ length us - x.upto = length-drop x.upto us in
       omega (arith, a, b, c, head_long)
 
-low : (x : Change) (xs : List Change) (n : ℕ) → n ≤ x.from → moved_by (x ∷ xs) n ≡ n
+pub low : (x : Change) (xs : List Change) (n : ℕ) → n ≤ x.from → moved_by (x ∷ xs) n ≡ n
 low x xs n le = ap (λ b. if b then n else moved x.upto (x.from + length x.words) (moved_by xs n)) (le-leb n x.from le)
 
 high : (x : Change) (xs : List Change) (n : ℕ) → x.from < n → moved_by (x ∷ xs) n ≡ moved x.upto (x.from + length x.words) (moved_by xs n)
@@ -122,6 +122,12 @@ module _ (ts : List TokenKind) where
         same = ap (slice_get (exchanged x (changed xs ts))) here ∙ behind_same x (changed xs ts) h.1 r.long (moved_by xs n) on ∙ s.same;
         next = omega (arith, here, there, s.next, on);
       }
+
+  -- behind the first change all stands as after the others
+  pub later_same : (x : Change) (xs : List Change) (n : ℕ) → x.from < x.upto → Ascending x.upto (ranges xs) (length ts) → x.upto ≤ n → slice_get (changed (x ∷ xs) ts) (moved_by (x ∷ xs) n) ≡ slice_get (changed xs ts) (moved_by xs n)
+  later_same x xs n order h le =
+      let r = front xs x.upto h in
+      ap (slice_get (exchanged x (changed xs ts))) (high x xs n (omega (arith, order, le))) ∙ behind_same x (changed xs ts) order r.long (moved_by xs n) (r.order n le)
 
   pub change_end : (xs : List Change) (i : ℕ) → Ascending i (ranges xs) (length ts) → moved_by xs (length ts) ≡ length (changed xs ts)
   change_end xs i h = (front xs i h).moves

@@ -1,5 +1,5 @@
 -- The subtrees of a derivation, and the runs of items in it.
-use Rattle.std.proofs.Common.{◌≡◌, ℕ, zero, suc, ◌<◌, ◌≤◌, Bool, true, false, List, [], ◌∷◌, Option, Some, None, refl, ◌∙◌, subst, arith}
+use Rattle.std.proofs.Common.{◌≡◌, ℕ, zero, suc, ◌<◌, ◌≤◌, Bool, true, false, List, [], ◌∷◌, Option, Some, None, refl, sym, ap, ◌∙◌, subst, arith}
 use Rattle.go_tokens.specs.declared.token.TokenKind.{TokenKind}
 use Rattle.go_grammar.specs.declared.kind.Kind.{Kind}
 use Rattle.go_grammar.specs.declared.kind.Category.{Category}
@@ -8,9 +8,9 @@ use Rattle.go_grammar.specs.Rules.{Items, Rule, End, Then, Maybe, Unless, Many, 
 use Rattle.go_grammar.specs.Trees.{Tree, node, Trees, none, more, skip, first, last, parts}
 use Rattle.go_grammar.specs.Grammar.{rule, Derives, Spells, Goes}
 use Rattle.go_grammar.proofs.Ranges.{words_order, gap_order, between_order, spells_order, goes_order, derives_grows}
-use Rattle.go_splice.specs.Replacing.{subtree_at, subtree_in, asked_at, asked_in, Run}
-use Rattle.go_splice.specs.Places.{has_items, items_end}
-use Rattle.go_splice.specs.Sites.{run_range}
+use Rattle.go_splice.specs.Replacing.{Edge, subtree_at, subtree_in, asked_at, asked_in, Run}
+use Rattle.go_splice.specs.Places.{done, has_items, items_behind, items_end, Range, range, FitAll}
+use Rattle.go_splice.specs.Sites.{patches_behind, add_run, run_range}
 use Rattle.go_splice.specs.Lists.{Ordered, Subtree, items_at, has_run, so_many, run_at}
 use Rattle.go_splice.proofs.Order.{derives_ordered}
 
@@ -108,3 +108,41 @@ module _ (ts : List TokenKind) where
   -- the items behind so many parts of a node
   pub node_run : (f n : ℕ) (k : Kind) (a b : ℕ) (ps : Trees) (c : Category) (l : Items) → Derives ts c (node k a b ps) → items_at f (rule (place_of c) k) ≡ Some l → has_run f n ps ≡ true → Run ts l (run_at f n ps) (run_range f n ps).from (run_range f n ps).upto
   node_run f n k a b ps c l h at e = run_of f n ps (rule (place_of c) k) l a b h.1 at e
+
+  -- a run has a token
+  pub run_grows : (l : Items) (new : Trees) (a b : ℕ) → Run ts l new a b → a < b
+  run_grows l none a b r = absurd r
+  run_grows l (skip ps) a b r = absurd r
+  run_grows l (more p none) a b r = omega (arith, r.0, r.2, derives_grows ts p (item l) r.1)
+  run_grows l (more p (skip qs)) a b r = absurd r
+  run_grows l (more p (more q qs)) a b r = omega (arith, r.0, derives_grows ts p (item l) r.1, between_order ts l (last p) r.2 r.3, gap_order ts l r.2 (first q) r.4, run_grows l (more q qs) (first q) b r.5)
+
+  -- what becomes of so many items fits where it is a run of what is listed there
+  module _ (us : List TokenKind) (m : ℕ → ℕ) (new : Trees) (l : Items) where
+    behind_done : (n : ℕ) → patches_behind n done ≡ done
+    behind_done zero = refl
+    behind_done (suc n) = behind_done n
+
+    pub run_fits_at : (f n : ℕ) (ps : Trees) (r : Rule) (i j : ℕ) → items_at f r ≡ Some l → has_run f n ps ≡ true → run_range f n ps ≡ range i j → Run us l new (m i) (m j) → Edge ts us i (m i) → FitAll ts us m r ps (add_run f n new done)
+    run_fits_at f n none r i j e h place is edge = cc
+    run_fits_at zero n (more p ps) (End ws) i j e h place is edge = cc
+    run_fits_at zero n (more p ps) (Then ws c r) i j e h place is edge = cc
+    run_fits_at zero n (more p ps) (Maybe ws c r) i j e h place is edge = cc
+    run_fits_at zero n (more p ps) (Unless ws c us' r) i j e h place is edge = cc
+    run_fits_at zero n (more p ps) (Many ws k) i j e h place is edge =
+        let same : l ≡ k = cc in
+        let from : first p ≡ i = ap Range.from place in
+        let upto : items_end n p ps ≡ j = ap Range.upto place in
+        let stands : Run us k new (m (first p)) (m (items_end n p ps)) = subst (λ x. Run us x new (m (first p)) (m (items_end n p ps))) same (subst (λ x. Run us l new (m (first p)) (m x)) (sym upto) (subst (λ x. Run us l new (m x) (m j)) (sym from) is)) in
+        (h, stands, subst (λ x. Edge ts us x (m x)) (sym from) edge, subst (λ z. FitAll ts us m (Many ws k) (items_behind n ps) z) (sym (behind_done n)) tt)
+    run_fits_at zero n (skip ps) r i j e h place is edge = cc
+    run_fits_at (suc f) n (more p ps) (End ws) i j e h place is edge = cc
+    run_fits_at (suc f) n (more p ps) (Then ws c r) i j e h place is edge = (tt, run_fits_at f n ps r i j e h place is edge)
+    run_fits_at (suc f) n (more p ps) (Maybe ws c r) i j e h place is edge = (tt, run_fits_at f n ps r i j e h place is edge)
+    run_fits_at (suc f) n (more p ps) (Unless ws c us' r) i j e h place is edge = (tt, run_fits_at f n ps r i j e h place is edge)
+    run_fits_at (suc f) n (more p ps) (Many ws k) i j e h place is edge = (tt, run_fits_at f n ps (Many ws k) i j e h place is edge)
+    run_fits_at (suc f) n (skip ps) (End ws) i j e h place is edge = cc
+    run_fits_at (suc f) n (skip ps) (Then ws c r) i j e h place is edge = run_fits_at f n ps r i j e h place is edge
+    run_fits_at (suc f) n (skip ps) (Maybe ws c r) i j e h place is edge = run_fits_at f n ps r i j e h place is edge
+    run_fits_at (suc f) n (skip ps) (Unless ws c us' r) i j e h place is edge = run_fits_at f n ps r i j e h place is edge
+    run_fits_at (suc f) n (skip ps) (Many ws k) i j e h place is edge = run_fits_at f n ps (Many ws k) i j e h place is edge

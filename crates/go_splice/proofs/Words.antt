@@ -35,7 +35,7 @@ module _ (ts : List TokenKind) (xs : List Change) (n : ℕ) (x : Change) (ascend
     | inr lt ↦ stand.words k lt ∙ sym (get_left x.words ws k lt)
   ]
 
-  edge_there : Edge ts (changed xs ts) x.from (moved_by xs x.from)
+  pub edge_there : Edge ts (changed xs ts) x.from (moved_by xs x.from)
   edge_there =
       let here : slice_get (changed xs ts) (moved_by xs x.from) ≡ slice_get x.words 0 = ap (slice_get (changed xs ts)) (omega arith) ∙ stand.words 0 long in
       record {
@@ -51,9 +51,14 @@ module _ (ts : List TokenKind) (xs : List Change) (n : ℕ) (x : Change) (ascend
     subst (λ k. Edge ts (changed xs ts) k (moved_by xs k)) (sym from) edge_there,
   )
 
-  pub run_fits : (c : Category) (k : Kind) (a b : ℕ) (front : Trees) (o : Tree) (os new rest : Trees) (l : Items) → items_after (rule (place_of c) k) front ≡ Some l → Run ts l (more o os) x.from x.upto → Run (x.words ++ ws) l new 0 (length x.words) → Fits ts (changed xs ts) (moved_by xs) c (node k a b (onto front (onto (more o os) rest))) (alone (items (count front) (count os) (carries (λ k. moved_by xs x.from + k) new))) × (local_range (node k a b (onto front (onto (more o os) rest))) (items (count front) (count os) (carries (λ k. moved_by xs x.from + k) new)) ≡ range x.from x.upto)
-  run_fits c k a b front o os new rest l e old is =
+  -- a run of the words alone, where the words stand
+  pub run_there : (l : Items) (new : Trees) → Run (x.words ++ ws) l new 0 (length x.words) → Run (changed xs ts) l (carries (λ k. moved_by xs x.from + k) new) (moved_by xs x.from) (moved_by xs x.upto)
+  run_there l new is =
       let there : Run (changed xs ts) l (carries (λ k. moved_by xs x.from + k) new) (moved_by xs x.from + 0) (moved_by xs x.from + length x.words) = placed_run (x.words ++ ws) (changed xs ts) (moved_by xs x.from) l new 0 (length x.words) is (λ k lo hi. same k hi) in
       let begin : moved_by xs x.from + 0 ≡ moved_by xs x.from = omega arith in
-      let moved : Run (changed xs ts) l (carries (λ k. moved_by xs x.from + k) new) (moved_by xs x.from) (moved_by xs x.upto) = subst (λ z. Run (changed xs ts) l (carries (λ k. moved_by xs x.from + k) new) (moved_by xs x.from) z) (sym stand.ends) (subst (λ z. Run (changed xs ts) l (carries (λ k. moved_by xs x.from + k) new) z (moved_by xs x.from + length x.words)) begin there) in
+      subst (λ z. Run (changed xs ts) l (carries (λ k. moved_by xs x.from + k) new) (moved_by xs x.from) z) (sym stand.ends) (subst (λ z. Run (changed xs ts) l (carries (λ k. moved_by xs x.from + k) new) z (moved_by xs x.from + length x.words)) begin there)
+
+  pub run_fits : (c : Category) (k : Kind) (a b : ℕ) (front : Trees) (o : Tree) (os new rest : Trees) (l : Items) → items_after (rule (place_of c) k) front ≡ Some l → Run ts l (more o os) x.from x.upto → Run (x.words ++ ws) l new 0 (length x.words) → Fits ts (changed xs ts) (moved_by xs) c (node k a b (onto front (onto (more o os) rest))) (alone (items (count front) (count os) (carries (λ k. moved_by xs x.from + k) new))) × (local_range (node k a b (onto front (onto (more o os) rest))) (items (count front) (count os) (carries (λ k. moved_by xs x.from + k) new)) ≡ range x.from x.upto)
+  run_fits c k a b front o os new rest l e old is =
+      let moved : Run (changed xs ts) l (carries (λ k. moved_by xs x.from + k) new) (moved_by xs x.from) (moved_by xs x.upto) = run_there l new is in
       run_sits ts (changed xs ts) (moved_by xs) c k a b front o os (carries (λ k. moved_by xs x.from + k) new) rest l x.from x.upto e old moved edge_there

@@ -114,11 +114,14 @@ is_free kind.DefiningRange = false
 is_free kind.Parameters = false
 is_free k = true
 
--- may the part with this number change as it likes
-abbrev pub may_change : Kind → ℕ → Bool
-may_change kind.Parameters n = false
-may_change k zero = is_free k
-may_change k (suc n) = true
+-- May what this path leads to, from the part with this number on, change as it likes? How many operands a range assigns
+-- doesn't change below one of them.
+abbrev pub may_change : Kind → ℕ → List ℕ → Bool
+may_change kind.Parameters n path = false
+may_change kind.AssigningRange zero (zero ∷ n ∷ path) = true
+may_change kind.DefiningRange zero (zero ∷ n ∷ path) = true
+may_change k zero path = is_free k
+may_change k (suc n) path = true
 
 -- may what becomes of the node do so whatever the items are
 abbrev pub is_free_for : Local → Tree → Bool
@@ -129,7 +132,7 @@ abbrev mutual
   -- the nodes on the path agree with their parts whatever becomes of the node at its end
   pub is_clear : List ℕ → Local → Tree → Bool
   is_clear [] x t = is_free_for x t
-  is_clear (n ∷ path) x (node k a b ps) = may_change k n && is_clear_in n path x ps
+  is_clear (n ∷ path) x (node k a b ps) = may_change k n path && is_clear_in n path x ps
 
   pub is_clear_in : ℕ → List ℕ → Local → Trees → Bool
   is_clear_in n path x none = false

@@ -177,10 +177,10 @@ pub line_ends_append : (ps qs : List (List ℕ)) (e : Bool) → line_ends (ps ++
 line_ends_append [] qs e = refl
 line_ends_append (p ∷ ps) qs e = ap (λ b. cond (is_token p) false (is_break p || b)) (line_ends_append ps qs e)
 
-line_ends_token : (p : List ℕ) (ps : List (List ℕ)) (e : Bool) → is_token p ≡ true → line_ends (p ∷ ps) e ≡ false
+pub line_ends_token : (p : List ℕ) (ps : List (List ℕ)) (e : Bool) → is_token p ≡ true → line_ends (p ∷ ps) e ≡ false
 line_ends_token p ps e h = ap (λ b. cond b false (is_break p || line_ends ps e)) h
 
-line_ends_old : (ps : List (List ℕ)) (e : Bool) → begins_with_token ps ≡ true → line_ends ps e ≡ false
+pub line_ends_old : (ps : List (List ℕ)) (e : Bool) → begins_with_token ps ≡ true → line_ends ps e ≡ false
 line_ends_old [] e h = cc
 line_ends_old (p ∷ ps) e h = line_ends_token p ps e h
 
@@ -195,7 +195,7 @@ line_ends_new (p ∷ ps) e h =
     (λ a. let b = both (is_blank p) (blanks_and_token ps) a in line_ends_blank p ps e (blank_plain p b.0) ∙ line_ends_new ps e b.1)
     (either (is_token p) _ h)
 
-line_ends_blanks : (ps : List (List ℕ)) (e : Bool) → list_all is_blank ps ≡ true → line_ends ps e ≡ e
+pub line_ends_blanks : (ps : List (List ℕ)) (e : Bool) → list_all is_blank ps ≡ true → line_ends ps e ≡ e
 line_ends_blanks [] e h = refl
 line_ends_blanks (p ∷ ps) e h = let b = both (is_blank p) (list_all is_blank ps) h in line_ends_blank p ps e (blank_plain p b.0) ∙ line_ends_blanks ps e b.1
 
@@ -219,16 +219,16 @@ items_append (p ∷ ps) qs e =
     ∙ ap (λ l. items_of p (line_ends ps (line_ends qs e)) ++ l) (items_append ps qs e)
     ∙ sym (append_assoc (items_of p (line_ends ps (line_ends qs e))) (items ps (line_ends qs e)) (items qs e))
 
-items_blanks : (ps : List (List ℕ)) (e : Bool) → list_all is_blank ps ≡ true → items ps e ≡ []
+pub items_blanks : (ps : List (List ℕ)) (e : Bool) → list_all is_blank ps ≡ true → items ps e ≡ []
 items_blanks [] e h = refl
 items_blanks (p ∷ ps) e h =
     let b = both (is_blank p) (list_all is_blank ps) h in
     ap (λ t. cond t (record { kind = token_kind p; text = encode_utf8_all p } ∷ semicolon (ends_statement p && line_ends ps e)) [] ++ items ps e) (blank_plain p b.0).no_token ∙ items_blanks ps e b.1
 
-token_items : (p : List ℕ) (e : Bool) → is_token p ≡ true → items_of p e ≡ record { kind = token_kind p; text = encode_utf8_all p } ∷ semicolon (ends_statement p && e)
+pub token_items : (p : List ℕ) (e : Bool) → is_token p ≡ true → items_of p e ≡ record { kind = token_kind p; text = encode_utf8_all p } ∷ semicolon (ends_statement p && e)
 token_items p e h = ap (λ t. cond t (record { kind = token_kind p; text = encode_utf8_all p } ∷ semicolon (ends_statement p && e)) []) h
 
-no_semicolon : (b : Bool) → semicolon (b && false) ≡ []
+pub no_semicolon : (b : Bool) → semicolon (b && false) ≡ []
 no_semicolon true = refl
 no_semicolon false = refl
 
@@ -288,7 +288,7 @@ new_good (Kept ps ∷ parts) tail f g = let goods = all_both ps (old_pieces part
 new_good (Replaced old new ∷ parts) tail f g = let goods = all_both (pieces_of old) (old_pieces parts) g in all_join (pieces_of new) (new_pieces parts tail) f.1.good (new_good parts tail f.4 goods.1)
 
 -- The tokens of the old text, and of the new one.
-old_blanks : (old : Range) → IsOld old → list_all is_blank old.blanks ≡ true
+pub old_blanks : (old : Range) → IsOld old → list_all is_blank old.blanks ≡ true
 old_blanks old is = ap (list_all is_blank) is.blanks
 
 pub old_items : (parts : List Part) (tail : List (List ℕ)) → Fits parts tail → items (old_pieces parts) true ≡ spliced (λ old new. old) parts

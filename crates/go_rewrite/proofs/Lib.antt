@@ -1,0 +1,11 @@
+mod Aligned
+mod ExampleCalls
+mod ExampleHoles
+mod ExampleSwitch
+mod ExampleWindows
+mod Numbers
+mod Parts
+mod Rewritten
+mod Testing
+mod Tokens
+mod Trees

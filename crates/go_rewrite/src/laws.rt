@@ -1,0 +1,30 @@
+// Laws of texts in which ranges are replaced.
+
+ghost use Rattle.std.specs.Prelude.{ℕ, List, Option};
+ghost use Rattle.go_base.specs.declared.Span.{Span};
+ghost use Rattle.go_tokens.specs.declared.token.Token.{Token};
+ghost use Rattle.go_tokens.specs.Tokens.{kinds};
+ghost use Rattle.go_tokens.specs.Lexing.{Lexes};
+ghost use Rattle.go_tokens.specs.Editing.{old_text};
+ghost use Rattle.go_grammar.specs.declared.kind.Category.{Category};
+ghost use Rattle.go_grammar.specs.Trees.{Tree};
+ghost use Rattle.go_grammar.specs.Grammar.{Derives};
+ghost use Rattle.go_splice.specs.Places.{changed};
+ghost use Rattle.go_rewrite.specs.Rewriting.{Rewrite, edits, changes, new_tree, TextsFit, IsTail, NewTokens, IsRewriting, IsFileRewriting, NewFile};
+
+/// Where ranges of a text are replaced, by the numbers of their tokens, and a text is appended, the new text has the old tokens
+/// with those ranges replaced by the tokens that the new texts have alone, and behind them the tokens of what is appended.
+pub fn rewritten_tokens()
+    ensures { (file : ℕ) (ts : List Token) (cs : List Span) (rs : List Rewrite) (rest tail : List ℕ) (us : List Token) → Lexes file (old_text (edits rs rest)) ts cs → TextsFit file ts 0 rs rest tail → IsTail file tail us → NewTokens file ts rs rest tail us }
+{}
+
+/// The same of a text with a tree: the new text has these tokens, and in front of what is appended the tree with what becomes
+/// of each range.
+pub fn rewritten_text()
+    ensures { (file : ℕ) (c : Category) (ts : List Token) (cs : List Span) (t : Tree) (rs : List Rewrite) (rest tail : List ℕ) (us : List Token) → IsRewriting file c ts cs t rs rest tail → IsTail file tail us → NewTokens file ts rs rest tail us × Derives (changed (changes rs) (kinds ts)) c (new_tree rs t) }
+{}
+
+/// The same of the bytes of a file, to which nothing or a declaration is appended: the new bytes have this lexing and this tree.
+pub fn rewritten_file()
+    ensures { (file : ℕ) (old new : List ℕ) (ts : List Token) (cs : List Span) (t : Tree) (rs : List Rewrite) (rest tail : List ℕ) (us : List Token) (added : Option Tree) → IsFileRewriting file old new ts cs t rs rest tail us added → NewFile file new ts t rs rest tail us added }
+{}
