@@ -5,8 +5,8 @@ ghost use Rattle.go_lookup.specs.Views.{found_view, asked_view};
 ghost use Rattle.go_cycles.specs.Columns.{AreAlike, is_listed, are_listed};
 
 use crate::needs::source_of;
+use go_lookup::asked::Asked;
 use go_lookup::found::Found;
-use go_lookup::lookup::Asked;
 use std::alloc::{AllocError, Global};
 use std::collections::HashMap;
 

@@ -4,8 +4,8 @@
 
 use crate::needs::source_of;
 use crate::ranks::{Part, Place, full_part, partial_part};
+use go_lookup::asked::Asked;
 use go_lookup::found::Found;
-use go_lookup::lookup::Asked;
 use std::alloc::{AllocError, Global};
 use std::collections::HashMap;
 

@@ -1,7 +1,7 @@
 //! Which declarations of a package need themselves.
 //!
-//! `Order` decides it for each declaration, exactly by the definition in go_tree. A search that nobody has to trust proposes
-//! ranks, by which a declaration is seen not to need itself, and circles, by which one is seen to do so.
+//! `Order::needs_itself` decides it for each declaration, exactly by the definition in go_tree. A search that nobody has to trust
+//! proposes ranks, by which a declaration is seen not to need itself, and circles, by which one is seen to do so.
 #![tactic(auto)]
 
 mod circle;
@@ -12,6 +12,4 @@ pub mod order;
 mod ranks;
 mod rounds;
 mod search;
-#[cfg(test)]
-mod tests;
 mod walk;

@@ -7,8 +7,8 @@ ghost use Rattle.go_cycles.specs.Needs.{source_of, way_of, needed_by};
 ghost use Rattle.go_lookup.specs.Views.{found_view, meaning_view, asked_view};
 ghost use Rattle.go_cycles.specs.Views.{needed_view};
 
+use go_lookup::asked::Asked;
 use go_lookup::found::Found;
-use go_lookup::lookup::Asked;
 use go_lookup::meaning::Meaning;
 use go_tree::context::{Reach, Site};
 use go_tree::event::Declaration;

@@ -1,6 +1,6 @@
 //! The order of the declarations of a package by what needs what.
 
-ghost use Rattle.std.specs.Prelude.{◌≡◌, IfOk, map};
+ghost use Rattle.std.specs.Prelude.{◌≡◌, IfOk, IfSome, map};
 ghost use Rattle.go_tree.specs.Needs.{needs_itself};
 ghost use Rattle.go_lookup.specs.Views.{found_view, asked_view};
 ghost use Rattle.go_cycles.specs.Order.{IsOrder};
@@ -12,8 +12,8 @@ use crate::ranks::{Bounds, Ranks, are_ranked, bounds, is_above};
 use crate::rounds::needs_itself;
 use crate::search::ranks;
 use crate::walk::is_circle;
+use go_lookup::asked::Asked;
 use go_lookup::found::Found;
-use go_lookup::lookup::Asked;
 use std::alloc::{AllocError, Global};
 
 /// What needs what in a package, with what shows whether a declaration needs itself.
@@ -51,11 +51,33 @@ pub fn order_of(
 }
 
 impl Order {
+    /// What the ranks or a circle show of a declaration: whether it needs itself, by way of at most `rounds` others. It doesn't
+    /// where it needs only ones of lower ranks, and does where there is a circle. None where neither shows anything.
+    pub fn shown<'a>(
+        &self,
+        alloc: Global,
+        lookups: &[Asked<'a>],
+        rounds: usize,
+        d: &Found<'a>,
+    ) -> Result<Option<bool>, AllocError>
+        requires { IsOrder self.now (map asked_view lookups.now) }
+        ensures { IfOk result (λ shown. IfSome shown (λ b. b ≡ needs_itself (map asked_view lookups.now) rounds (found_view d.now))) }
+    {
+        if self.holds && is_above(&self.bounds, &self.ranks, d) {
+            return Ok(Some(false));
+        }
+        let names = circle(alloc, &self.graph, d)?;
+        if self.alike && is_circle(lookups, rounds, d, &names) {
+            return Ok(Some(true));
+        }
+        Ok(None)
+    }
+
     /// Whether a declaration needs itself, by way of at most `rounds` others (Go specification: Type declarations, Package
     /// initialization).
     ///
-    /// It doesn't where it needs only ones of lower ranks, and does where there is a circle. The rounds of the definition decide
-    /// what is left, which is nothing if the searches are right.
+    /// The rounds of the definition decide it where neither the ranks nor a circle do, which doesn't happen if the searches are
+    /// right.
     pub fn needs_itself<'a>(
         &self,
         alloc: Global,
@@ -66,13 +88,9 @@ impl Order {
         requires { IsOrder self.now (map asked_view lookups.now) }
         ensures { IfOk result (λ b. b ≡ needs_itself (map asked_view lookups.now) rounds (found_view d.now)) }
     {
-        if self.holds && is_above(&self.bounds, &self.ranks, d) {
-            return Ok(false);
+        match self.shown(alloc, lookups, rounds, d)? {
+            Some(itself) => Ok(itself),
+            None => needs_itself(alloc, lookups, rounds, d),
         }
-        let names = circle(alloc, &self.graph, d)?;
-        if self.alike && is_circle(lookups, rounds, d, &names) {
-            return Ok(true);
-        }
-        needs_itself(alloc, lookups, rounds, d)
     }
 }

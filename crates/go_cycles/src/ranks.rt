@@ -6,8 +6,8 @@ ghost use Rattle.go_cycles.specs.Ranks.{rank_of, bound_of, full_part, partial_pa
 ghost use Rattle.go_lookup.specs.Views.{found_view, asked_view};
 
 use crate::needs::source_of;
+use go_lookup::asked::Asked;
 use go_lookup::found::Found;
-use go_lookup::lookup::Asked;
 use go_tree::context::{Reach, Site};
 use std::alloc::{AllocError, Global};
 use std::collections::HashMap;

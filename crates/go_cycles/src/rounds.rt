@@ -6,8 +6,8 @@ ghost use Rattle.go_lookup.specs.Views.{found_view, asked_view};
 ghost use Rattle.go_cycles.specs.Views.{needed_view};
 
 use crate::needs::{Needed, is_same, needed_by};
+use go_lookup::asked::Asked;
 use go_lookup::found::Found;
-use go_lookup::lookup::Asked;
 use std::alloc::{AllocError, Global};
 
 /// Whether the declaration is among those that are needed.

@@ -7,8 +7,8 @@ ghost use Rattle.go_cycles.specs.Circles.{step, walked, comes_back, is_circle};
 ghost use Rattle.go_cycles.specs.Views.{needed_view};
 
 use crate::needs::{Needed, is_same, needed_by};
+use go_lookup::asked::Asked;
 use go_lookup::found::Found;
-use go_lookup::lookup::Asked;
 
 /// The declaration that the name of this number calls for where the other one needs it, if it does.
 fn step<'a>(lookups: &[Asked<'a>], x: &Needed<'a>, name: usize) -> Option<Needed<'a>>

@@ -1,5 +1,5 @@
 -- The meanings of a package by their blocks, and what names mean along the tokens of a file.
-use Rattle.std.specs.Prelude.{◌≡◌, ℕ, Bool, nat_eq, List, [], Option, Some, None, map}
+use Rattle.std.specs.Prelude.{◌≡◌, ℕ, ◌≤◌, Bool, nat_eq, List, [], ◌∷◌, Option, Some, None, map}
 use Rattle.std.specs.HashMap.{HashMap, get}
 use Rattle.indexmap.specs.IndexMap.{IndexMap}
 use Rattle.indexmap.specs.IndexMap as index
@@ -11,6 +11,7 @@ use Rattle.go_tree.specs.declared.object.Extent.{Extent}
 use Rattle.go_tree.specs.declared.object.Extent.TheVariants as extent
 use Rattle.go_tree.specs.declared.event.Event.{Event}
 use Rattle.go_tree.specs.declared.event.Event.TheVariants as event
+use Rattle.go_tree.specs.Lookups.{Asked, asked_in}
 use Rattle.go_tree.specs.Meanings.{word, meaning_at}
 use Rattle.go_tree.specs.Meanings as names
 use Rattle.go_names.specs.Orders.{AreInOrder}
@@ -20,7 +21,7 @@ use Rattle.go_lookup.specs.declared.scopes.Block.{Block}
 use Rattle.go_lookup.specs.declared.sorted.Outer.{Outer}
 use Rattle.go_lookup.specs.declared.sorted.Sorted.{Sorted}
 use Rattle.go_lookup.specs.contracts.sorted.OuterPartialEq.TheImpl as outer_eq
-use Rattle.go_lookup.specs.Stacks.{said, IsSweeping}
+use Rattle.go_lookup.specs.Stacks.{said, IsSweeping, BeginBehind}
 use Rattle.go_lookup.specs.Views.{meaning_view}
 
 -- whether it is the extent of the block of a file, or of the package's
@@ -53,6 +54,10 @@ KnowsLocals m ms = (n : ℕ) → items_of (get nat_eq m n) ≡ locals_of n ms
 abbrev pub all_of : Sorted → List names.Meaning
 all_of s = map meaning_view s.all.items
 
+-- the local meanings of the file of this number
+abbrev pub file_locals : Sorted → ℕ → List names.Meaning
+file_locals s n = locals_of n (all_of s)
+
 pub record IsSorted (s : Sorted) : Type 0 where
   pub outer : KnowsOuter s.outer (all_of s)
   pub locals : KnowsLocals s.locals (all_of s)
@@ -71,6 +76,18 @@ named_meaning ms n ts (Some t) = meaning_at ms n t (word ts t)
 abbrev pub event_meanings : List names.Meaning → ℕ → TokenList → List Event → List (Option names.Meaning)
 event_meanings ms n ts es = map (λ e. named_meaning ms n ts (name_of e)) es
 
+-- The name of the event e, if it has one, means m.
+abbrev pub IsNamed : List names.Meaning → ℕ → TokenList → Event → Option Meaning → Type 0
+IsNamed ms n ts e m = option_map meaning_view m ≡ named_meaning ms n ts (name_of e)
+
+-- The names of the events mean what is told of them.
+abbrev pub AreNamed : List names.Meaning → ℕ → TokenList → List Event → List (Option Meaning) → Type 0
+AreNamed ms n ts es told = map (option_map meaning_view) told ≡ event_meanings ms n ts es
+
+-- the names of a file that are looked up
+abbrev pub unit_asked : List names.Meaning → ℕ → names.Unit → List Asked
+unit_asked ms n u = asked_in ms n u.tokens u.events
+
 -- How a walk along a file stands in front of the events that are left.
 pub record IsUnderway (n : ℕ) (all : List names.Meaning) (es : List Event) (bs : List Block) (left : List names.Meaning) : Type 0 where
   pub place : ℕ
@@ -82,3 +99,11 @@ pub record IsUnderway (n : ℕ) (all : List names.Meaning) (es : List Event) (bs
 abbrev pub IsReached : ℕ → List names.Meaning → Option ℕ → List Block → Type 0
 IsReached n all None bs = Unit
 IsReached n all (Some t) bs = (w : Bor (List ℕ)) → said bs t w ≡ inmost n t w.now None all
+
+-- What becomes of the blocks olds and the meanings that are left on the way to the token t.
+abbrev pub Advances : ℕ → List Block → List names.Meaning → List Block → List names.Meaning → Type 0
+Advances t olds left news behind = (n i : ℕ) → (all : List names.Meaning) → i ≤ t → IsSweeping n i all olds left → IsSweeping n t all news behind × BeginBehind t behind
+
+-- the same on the way to the token of an event, if it has one
+abbrev pub AdvancesTo : Option ℕ → List Block → List names.Meaning → List Block → List names.Meaning → Type 0
+AdvancesTo t olds left news behind = (n : ℕ) → (all : List names.Meaning) → (e : Event) → (es : List Event) → t ≡ name_of e → IsUnderway n all (e ∷ es) olds left → IsReached n all t news × IsUnderway n all es news behind

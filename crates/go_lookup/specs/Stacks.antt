@@ -7,7 +7,7 @@ use Rattle.go_tokens.specs.Spellings.{same_text}
 use Rattle.go_tree.specs.declared.context.Scope.{Scope}
 use Rattle.go_tree.specs.Meanings.{Meaning}
 use Rattle.go_names.specs.Orders.{Nests}
-use Rattle.go_names.specs.Scopes.{is_local, inmost, otherwise, scope_of, Each}
+use Rattle.go_names.specs.Scopes.{is_local, inmost, otherwise, over, scope_of, Each}
 use Rattle.indexmap.specs.IndexMap.{get}
 use Rattle.go_lookup.specs.declared.scopes.Block.{Block}
 use Rattle.go_lookup.specs.Views.{meaning_view}
@@ -56,6 +56,10 @@ AreParted bs ms = EachEnd (ArePartedBy ms) bs
 abbrev pub AreReady : ℕ → List Meaning → Type 0
 AreReady n [] = Unit
 AreReady n (m ∷ ms) = (is_local n m.extent ≡ true) × ((scope_of m.extent).from ≤ (scope_of m.extent).to) × Each (λ x. Nests (scope_of m.extent) (scope_of x.extent)) ms × AreReady n ms
+
+-- From the token t on the blocks news say what the blocks olds say, and the local meaning m over that.
+abbrev pub SaysOver : ℕ → Meaning → List Block → List Block → Type 0
+SaysOver t m olds news = (n u : ℕ) → (w : Bor (List ℕ)) → is_local n m.extent ≡ true → (scope_of m.extent).from ≤ t → t ≤ u → EachEnd (λ e. Parts e (scope_of m.extent)) olds → said news u w ≡ over n u w.now (said olds u w) m
 
 -- the scopes begin behind the token t
 abbrev pub BeginBehind : ℕ → List Meaning → Type 0

@@ -1,12 +1,12 @@
 -- The objects of a file's tokens, as they come from its events one by one, from the last one on.
-use Rattle.std.specs.Prelude.{ℕ, ◌≡◌, Bool, ◌&&◌, if◌then◌else◌, nat_eq, List, [], ◌∷◌, Option, Some, None, set}
+use Rattle.std.specs.Prelude.{ℕ, ◌≡◌, Bool, ◌&&◌, if◌then◌else◌, nat_eq, List, [], ◌∷◌, Option, Some, None, length, set}
 use Rattle.std.specs.HashMap.{HashMap}
 use Rattle.std.specs.HashMap as hash
 use Rattle.go_tokens.specs.Tokens.{TokenList}
 use Rattle.go_tree.specs.declared.event.Event.{Event}
 use Rattle.go_tree.specs.declared.event.Event.TheVariants as event
 use Rattle.go_tree.specs.declared.object.Object.{Object}
-use Rattle.go_tree.specs.Meanings.{Meaning, word, is_declared_at, own_object, object_at}
+use Rattle.go_tree.specs.Meanings.{Unit, Meaning, word, is_declared_at, own_object, object_at, token_objects}
 
 -- the object that is declared at a place, if one is
 abbrev pub declared_object : ℕ → ℕ → List Meaning → Option Object
@@ -26,3 +26,7 @@ abbrev pub over_event : List Meaning → ℕ → TokenList → Event → List (O
 over_event ms n ts (event.Use u) os = set os u.name (object_at ms n u.name (word ts u.name))
 over_event ms n ts (event.Declaration d) os = set os d.name (own_object n d.name (word ts d.name) ms ms)
 over_event ms n ts e os = os
+
+-- the objects of all tokens of a file
+abbrev pub unit_objects : List Meaning → ℕ → Unit → List (Option Object)
+unit_objects ms n u = token_objects ms n u.tokens u.events 0 (length u.tokens.tokens)

@@ -9,7 +9,7 @@ use Rattle.go_lookup.specs.declared.unit.Unit.{Unit}
 use Rattle.go_lookup.specs.declared.found.Found.{Found}
 use Rattle.go_lookup.specs.declared.meaning.Meaning.{Meaning}
 use Rattle.go_lookup.specs.declared.meaning.Numbers.{Numbers}
-use Rattle.go_lookup.specs.declared.lookup.Asked.{Asked}
+use Rattle.go_lookup.specs.declared.asked.Asked.{Asked}
 
 abbrev pub unit_view : Unit → names.Unit
 unit_view u = record { tokens = u.tokens.now; events = u.events.items }

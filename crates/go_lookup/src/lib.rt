@@ -4,12 +4,12 @@
 //! definitions in go_tree. Scopes are a stack of tables by name, which is kept along the tokens of a file.
 #![tactic(auto)]
 
+pub mod asked;
 pub mod declared;
 pub mod found;
 pub mod keys;
 pub mod kinds;
 pub mod look_up;
-pub mod lookup;
 pub mod meaning;
 pub mod scopes;
 pub mod sorted;

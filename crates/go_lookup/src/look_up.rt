@@ -7,8 +7,8 @@ ghost use Rattle.go_tree.specs.Meanings.{declarations, meanings, objects, object
 ghost use Rattle.go_lookup.specs.Views.{units_view, found_view, asked_view};
 ghost use Rattle.go_lookup.specs.Sorted.{all_of, IsSorted};
 
+use crate::asked::{Asked, push_asked};
 use crate::found::Found;
-use crate::lookup::{Asked, push_asked};
 use crate::meaning::meanings;
 use crate::sorted::{Sorted, by_block};
 use crate::sweep::event_meanings;

@@ -2,7 +2,7 @@
 
 ghost use Rattle.std.specs.Prelude.{◌≡◌, ◌≤◌, ◌<◌, ◌-◌, ◌^◌, ◌++◌, IfOk, OnOk, length, map};
 ghost use Rattle.std.specs.Option.{option_map};
-ghost use Rattle.go_tree.specs.Meanings.{lies_inside, extent_of, first_numbers, own_number, is_function, behind_shared, numbers_behind, numbered, imports_fmt, imported_from, meanings, predeclared_object, object_by, is_declared_at};
+ghost use Rattle.go_tree.specs.Meanings.{lies_inside, extent_of, first_numbers, own_number, is_function, behind_shared, numbers_behind, numbered, imports_fmt, imported_from, meanings, predeclared_object, object_by};
 ghost use Rattle.go_lookup.specs.Views.{unit_view, units_view, found_view, meaning_view, numbers_view};
 
 use crate::found::Found;
@@ -185,15 +185,5 @@ pub fn object_by(name: &[u8], meaning: Option<Meaning<'_>>) -> Option<Object>
     match meaning {
         None => predeclared_object(name),
         Some(meaning) => Some(meaning.object),
-    }
-}
-
-/// Whether the token of the file is where it is declared.
-pub fn is_declared_at(file: u32, token: u32, source: Option<Found<'_>>) -> bool
-    ensures { result ≡ is_declared_at file token (option_map found_view source.entry) }
-{
-    match source {
-        None => false,
-        Some(d) => d.file == file && d.declaration.name == token,
     }
 }

@@ -6,7 +6,7 @@ ghost use Rattle.std.specs.Borrow.{Bor};
 ghost use Rattle.go_tree.specs.Meanings as meanings;
 ghost use Rattle.go_names.specs.Scopes.{is_local, over, scope_of};
 ghost use Rattle.go_lookup.specs.Views.{meaning_view};
-ghost use Rattle.go_lookup.specs.Stacks.{said_in, said, with_one, ended_by, AreParted, ArePartedBy, EachEnd, Parts};
+ghost use Rattle.go_lookup.specs.Stacks.{said_in, said, with_one, ended_by, SaysOver, AreParted, ArePartedBy};
 
 use crate::meaning::{Meaning, lies_inside};
 use go_base::Memory;
@@ -128,7 +128,7 @@ impl<'a> Scopes<'a> {
 
     /// Enters a local name whose scope has begun: of those with equal scopes the first counts.
     pub fn enter(&mut self, alloc: Global, token: u32, meaning: &Meaning<'a>) -> Result<(), Memory>
-        ensures over { OnOk result ((n u : ℕ) → (w : Bor (List ℕ)) → is_local n meaning.now.extent ≡ true → (scope_of meaning.now.extent).from ≤ token → token ≤ u → EachEnd (λ e. Parts e (scope_of meaning.now.extent)) self.old.blocks.items → said self.new.blocks.items u w ≡ over n u w.now (said self.old.blocks.items u w) (meaning_view meaning.now)) }
+        ensures over { OnOk result (SaysOver token (meaning_view meaning.now) self.old.blocks.items self.new.blocks.items) }
         ensures parted { OnOk result ((ms : List meanings.Meaning) → AreParted self.old.blocks.items ms → ArePartedBy ms (scope_of meaning.now.extent).to → AreParted self.new.blocks.items ms) }
     {
         if let Some(outer) = self.find(token, meaning.name) {

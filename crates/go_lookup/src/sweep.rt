@@ -7,8 +7,8 @@ ghost use Rattle.go_tree.specs.declared.event.Event.{Event};
 ghost use Rattle.go_tree.specs.Meanings as meanings;
 ghost use Rattle.go_names.specs.Scopes.{locals_of, first_by, is_import, is_package, reached, AreSwept, AreNested, IsOrderly};
 ghost use Rattle.go_lookup.specs.Views.{unit_view, meaning_view};
-ghost use Rattle.go_lookup.specs.Stacks.{said, IsSweeping, BeginBehind};
-ghost use Rattle.go_lookup.specs.Sorted.{name_of, named_meaning, event_meanings, all_of, IsSorted, IsReached, IsUnderway};
+ghost use Rattle.go_lookup.specs.Stacks.{said};
+ghost use Rattle.go_lookup.specs.Sorted.{name_of, named_meaning, event_meanings, all_of, file_locals, IsNamed, AreNamed, Advances, AdvancesTo, IsSorted, IsReached};
 
 use crate::meaning::Meaning;
 use crate::scopes::{Scopes, scope_of};
@@ -28,7 +28,7 @@ fn advance<'a>(
     from: usize,
     token: u32,
 ) -> Result<usize, Memory>
-    ensures { IfOk result (λ to. (n i : ℕ) → (all : List meanings.Meaning) → i ≤ token → IsSweeping n i all scopes.old.blocks.items (map meaning_view (drop from locals.now)) → IsSweeping n token all scopes.new.blocks.items (map meaning_view (drop to locals.now)) × BeginBehind token (map meaning_view (drop to locals.now))) }
+    ensures { IfOk result (λ to. Advances token scopes.old.blocks.items (map meaning_view (drop from locals.now)) scopes.new.blocks.items (map meaning_view (drop to locals.now))) }
 {
     scopes.leave(token);
     for number in from..locals.len() {
@@ -49,7 +49,7 @@ fn advance_to<'a>(
     from: usize,
     token: Option<u32>,
 ) -> Result<usize, Memory>
-    ensures { IfOk result (λ to. (n : ℕ) → (all : List meanings.Meaning) → (e : Event) → (es : List Event) → token ≡ name_of e → IsUnderway n all (e ∷ es) scopes.old.blocks.items (map meaning_view (drop from locals.now)) → IsReached n all token scopes.new.blocks.items × IsUnderway n all es scopes.new.blocks.items (map meaning_view (drop to locals.now))) }
+    ensures { IfOk result (λ to. AdvancesTo token scopes.old.blocks.items (map meaning_view (drop from locals.now)) scopes.new.blocks.items (map meaning_view (drop to locals.now))) }
 {
     match token {
         None => Ok(from),
@@ -86,7 +86,7 @@ fn meaning_of<'a>(
     token: Option<u32>,
 ) -> Option<Meaning<'a>>
     requires { IsSorted sorted.now }
-    ensures { AreNested (locals_of file (all_of sorted.now)) → IsReached file (locals_of file (all_of sorted.now)) token scopes.now.blocks.items → option_map meaning_view result ≡ named_meaning (all_of sorted.now) file tokens.entry.now token }
+    ensures { AreNested (file_locals sorted.now file) → IsReached file (file_locals sorted.now file) token scopes.now.blocks.items → option_map meaning_view result ≡ named_meaning (all_of sorted.now) file tokens.entry.now token }
 {
     match token {
         None => None,
@@ -152,7 +152,7 @@ pub fn event_meanings<'a>(
 
 /// What is told of the event of this number.
 pub fn told_at<'a>(told: &[Option<Meaning<'a>>], number: usize) -> Option<Meaning<'a>>
-    ensures { (ms : List meanings.Meaning) → (n : ℕ) → (ts : TokenList) → (es : List Event) → (e : Event) → map (option_map meaning_view) told.now ≡ event_meanings ms n ts es → slice_get es number ≡ Some e → option_map meaning_view result ≡ named_meaning ms n ts (name_of e) }
+    ensures { (ms : List meanings.Meaning) → (n : ℕ) → (ts : TokenList) → (es : List Event) → (e : Event) → AreNamed ms n ts es told.now → slice_get es number ≡ Some e → IsNamed ms n ts e result }
 {
     match told.get(number) {
         None => None,

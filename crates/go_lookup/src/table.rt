@@ -2,11 +2,11 @@
 
 ghost use Rattle.std.specs.Prelude.{◌≡◌, ℕ, List, IfOk, None, length, map, replicate, set};
 ghost use Rattle.std.specs.Option.{option_map};
-ghost use Rattle.go_tree.specs.Meanings.{meaning_at, object_at, own_object, token_objects};
+ghost use Rattle.go_tree.specs.Meanings.{meaning_at, object_at, own_object};
 ghost use Rattle.go_tree.specs.Meanings as meanings;
-ghost use Rattle.go_lookup.specs.Tables.{Owns, over_event};
+ghost use Rattle.go_lookup.specs.Tables.{Owns, over_event, unit_objects};
 ghost use Rattle.go_lookup.specs.Views.{unit_view, meaning_view};
-ghost use Rattle.go_lookup.specs.Sorted.{name_of, named_meaning, event_meanings};
+ghost use Rattle.go_lookup.specs.Sorted.{IsNamed, AreNamed};
 
 use crate::meaning::{Meaning, object_by};
 use crate::sweep::told_at;
@@ -85,7 +85,7 @@ fn put_event(
     event: &Event,
     meaning: Option<Meaning<'_>>,
 )
-    ensures { (ms : List meanings.Meaning) → Owns owners.now ms → option_map meaning_view meaning.entry ≡ named_meaning ms file tokens.now (name_of event.now) → objects.new.items ≡ over_event ms file tokens.now event.now objects.old.items }
+    ensures { (ms : List meanings.Meaning) → Owns owners.now ms → IsNamed ms file tokens.now event.now meaning.entry → objects.new.items ≡ over_event ms file tokens.now event.now objects.old.items }
 {
     match event {
         Event::Use(lookup) => {
@@ -112,7 +112,7 @@ pub fn token_objects(
     unit: &Unit<'_>,
     told: &[Option<Meaning<'_>>],
 ) -> Result<Vec<Option<Object>>, AllocError>
-    ensures { IfOk result (λ v. (ms : List meanings.Meaning) → Owns owners.now ms → map (option_map meaning_view) told.now ≡ event_meanings ms file (unit_view unit.now).tokens (unit_view unit.now).events → v.items ≡ token_objects ms file (unit_view unit.now).tokens (unit_view unit.now).events 0 (length (unit_view unit.now).tokens.tokens)) }
+    ensures { IfOk result (λ v. (ms : List meanings.Meaning) → Owns owners.now ms → AreNamed ms file (unit_view unit.now).tokens (unit_view unit.now).events told.now → v.items ≡ unit_objects ms file (unit_view unit.now)) }
 {
     let mut out = no_objects(alloc, unit.tokens.count())?;
     for number in (0..unit.events.len()).rev() {

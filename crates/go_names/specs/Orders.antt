@@ -44,7 +44,7 @@ abbrev pub BeginsIn : Block → Entity → ℕ → ℕ → Type 0
 BeginsIn block.Package e name from = Unit
 BeginsIn (block.Local i) e name from = BeginsAt e name from
 
--- The scope of a declaration doesn't end before it begins, and begins at the name or behind it.
+-- The scope of a declaration doesn't end before it begins, and a local one begins at the name or behind it.
 abbrev pub IsFollowed : Declaration → Type 0
 IsFollowed d = BeginsIn d.block d.entity d.name d.scope.from × (d.scope.from ≤ d.scope.to)
 

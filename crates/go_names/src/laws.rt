@@ -21,7 +21,8 @@ pub fn scopes_nest()
     ensures { (ts : List TokenKind) (t : Tree) → IsFile ts t → ScopesNest (events (file_context (last t)) t) }
 {}
 
-/// The scope of each declaration begins at its name or behind it.
+/// No scope ends before it begins. A local type is in scope from its name on, every other local name behind itself, and no
+/// function is local.
 pub fn scopes_follow()
     ensures { (ts : List TokenKind) (t : Tree) → IsFile ts t → EachDeclared IsFollowed (events (file_context (last t)) t) }
 {}

@@ -9,6 +9,4 @@ pub mod enter;
 pub mod laws;
 pub mod own;
 pub mod predeclared;
-#[cfg(test)]
-mod tests;
 pub mod walk;

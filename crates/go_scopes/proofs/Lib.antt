@@ -1,5 +1,6 @@
 pub mod Gathering
 pub mod Least
+pub mod LookupRules
 pub mod Orderly
 pub mod Seconds
 pub mod Statements

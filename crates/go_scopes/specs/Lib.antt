@@ -1,5 +1,6 @@
 pub mod Decided
 pub mod Gathered
+pub mod LookupRules
 pub mod Noted
 pub mod Resolve
 pub mod Used

@@ -14,8 +14,8 @@ ghost use Rattle.go_scopes.specs.Views.{failure_of};
 use crate::failure::{is_earlier, note};
 use go_base::{Fault, FaultCode};
 use go_cycles::order::{Order, order_of};
+use go_lookup::asked::Asked;
 use go_lookup::found::Found;
-use go_lookup::lookup::Asked;
 use std::alloc::{AllocError, Global};
 
 /// Whether a fault that was found is reported before another one.

@@ -17,14 +17,14 @@ use crate::clauses::clause_faults;
 use crate::cycles::cycles;
 use crate::duplicates::duplicates;
 use crate::error::ResolveError;
-use crate::lookups::{initialisers, not_called, outside_members, outside_names, undeclared};
+use crate::lookups::{LookupRule, note_lookups};
 use crate::redeclared::redeclared;
 use crate::unused::{unused_imports, unused_variables};
 use go_base::{Fault, Memory};
+use go_lookup::asked::Asked;
 use go_lookup::declared::uses_of;
 use go_lookup::found::{Found, all_found, new_among};
 use go_lookup::look_up::look_up;
-use go_lookup::lookup::Asked;
 use go_lookup::unit::Unit;
 use go_names::laws::files_are_orderly;
 use go_names::walk::events;
@@ -59,7 +59,7 @@ fn unit_of<'a>(alloc: Global, file: &'a File) -> Result<Unit<'a>, AllocError>
 }
 
 /// The files as the rules see them.
-fn units_of<'a>(alloc: Global, files: &'a [File]) -> Result<Vec<Unit<'a>>, AllocError>
+pub fn units_of<'a>(alloc: Global, files: &'a [File]) -> Result<Vec<Unit<'a>>, AllocError>
     ensures units { IfOk result (λ v. units_view v.items ≡ units_of files.now) }
     ensures orderly { IfOk result (λ v. AreOrderly (units_view v.items)) }
 {
@@ -92,11 +92,11 @@ fn resolve_units(alloc: Global, units: &[Unit<'_>]) -> Result<Uses, ResolveError
 fn lookup_faults(found: Option<Fault>, asked: &[Asked<'_>]) -> Option<Fault>
     ensures { option_map failure_of result ≡ least_from (option_map failure_of found) (lookup_faults (map asked_view asked.now)) }
 {
-    let undeclared = undeclared(found, asked);
-    let named = outside_names(undeclared, asked);
-    let selected = outside_members(named, asked);
-    let called = not_called(selected, asked);
-    initialisers(called, asked)
+    let undeclared = note_lookups(LookupRule::Undeclared, found, asked);
+    let named = note_lookups(LookupRule::OutsideName, undeclared, asked);
+    let selected = note_lookups(LookupRule::OutsideMember, named, asked);
+    let called = note_lookups(LookupRule::NotCalled, selected, asked);
+    note_lookups(LookupRule::Initialiser, called, asked)
 }
 
 /// The rules on what is not used.

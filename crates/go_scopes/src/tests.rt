@@ -1,7 +1,10 @@
 //! Worked packages.
 
 use crate::error::ResolveError;
-use crate::resolve::resolve;
+use crate::resolve::{resolve, units_of};
+use go_cycles::order::order_of;
+use go_lookup::found::{all_found, new_among};
+use go_lookup::look_up::look_up;
 use go_parse::parse;
 use go_tokens::lex::lex;
 use go_tree::context::Entity;
@@ -14,7 +17,7 @@ use std::test::Fail;
 type Place = (u8, u32, u32, u32);
 
 /// Packages with their files and the fault that is reported, if there is one.
-const PACKAGES: [(&[&[u8]], Option<Place>); 20] = [
+const PACKAGES: [(&[&[u8]], Option<Place>); 24] = [
     (
         &[b"package p\nfunc f() { x := 1; x := 2; _ = x }"],
         Some((6, 0, 29, 30)),
@@ -80,6 +83,22 @@ const PACKAGES: [(&[&[u8]], Option<Place>); 20] = [
     ),
     (&[b"package p", b"package q"], Some((5, 1, 8, 9))),
     (&[], None),
+    // A constant without a value has that of the one before.
+    (
+        &[b"package p\nconst (\n\ta, b = 1, d\n\tc, d\n)"],
+        Some((20, 0, 35, 36)),
+    ),
+    // The last clause can't fall through, and there is one default at most.
+    (
+        &[b"package p\nfunc f() { switch 1 { default: fallthrough } }"],
+        Some((19, 0, 41, 52)),
+    ),
+    (
+        &[b"package p\nfunc f() { switch 1 { default: default: } }"],
+        Some((23, 0, 41, 48)),
+    ),
+    // What is wrong with these is no matter of names.
+    (&[b"package p\nvar x int8 = 300\nfunc f() int {\n}"], None),
 ];
 
 /// The file with this number and text.
@@ -116,34 +135,6 @@ fn fault(alloc: Global, texts: &[&[u8]]) -> Result<Option<Place>, Fail> {
 fn packages(rt: HostRuntime) -> Result<(), Fail> {
     for (texts, wanted) in PACKAGES {
         assert!(rt; fault(rt.alloc(), texts)? == wanted);
-    }
-    Ok(())
-}
-
-/// Packages whose names are as they should be, each a file.
-const NAMED: [&str; 14] = [
-    // Names that are declared, reused and hidden.
-    "package main\n\nfunc f(a int) int {\n\tb := a + 1\n\tb = b * 2\n\treturn b\n}\n\nfunc g(x int) int {\n\ty := x + 5\n\ty = y * 2\n\treturn y\n}\n",
-    "package p\n\nfunc f(a, b int) {\n\ta = b\n\tb = a\n}\n\nfunc g(a, b int) {\n\ta = a\n\ta = a\n}\n\nfunc k(a, b int) {\n\ta = b\n\ta = b\n}\n",
-    "package p\n\nfunc f() {}\n\nfunc g() {\n\tf()\n\tf()\n\tf()\n\tf()\n}\n",
-    "package p\n\nfunc f(a int) int {\n\ta = a + 1\n\tpanic(\"x\")\n}\n\nfunc g(a int) {\n\ta = a + 2\n\tpanic(\"y\")\n}\n",
-    "package p\n\nimport \"fmt\"\n\nfunc f(a int) {\n\tfmt.Println(a)\n\tfmt.Println(a)\n}\n",
-    "package p\n\nfunc f(a int) int {\n\tb := a + 1\n\tc := b * 2\n\t_ = c\n\treturn b\n}\n\nfunc g(a int) int {\n\tb := a + 1\n\tc := b * 2\n\t_ = c\n\treturn 0\n}\n",
-    "package p\n\nfunc f() {\n\ttype T struct{ n int }\n\tvar a, b T\n\ta.n = a.n + 1\n\ta.n = a.n * 2\n\tb.n = b.n + 1\n\tb.n = b.n * 2\n\t_ = a\n}\n",
-    "package p\n\nfunc f(a []string) int {\n\tn := len(a)\n\tn = n + 1\n\treturn n\n}\n\nfunc g(int []string) bool {\n\tn := len(int)\n\tn = n + 1\n\treturn n > 3\n}\n",
-    "package p\n\nfunc f(x int) {\n\tswitch x {\n\tcase-3:\n\t\tx++\n\t}\n\tx--\n}\n",
-    "package main\n\nimport \"fmt\"\n\nfunc main() {\n\ts := []int{1}\n\tvar a [2]int\n\ts = append(s, 2)\n\tt := s\n\ta[0] = 7\n\tb := a\n\tt[0] = 9\n\tb[1] = 3\n\tfmt.Println(s[0], len(s), cap(s), a[1], b[0])\n}\n",
-    "package main\n\nimport \"fmt\"\n\nfunc main() { for i, c := range \"a\\u00e9\\xff\" { fmt.Println(i, c) } }\n",
-    "package main\n\nimport \"fmt\"\n\ntype point struct {\n\tx, y int\n}\n\nfunc total(ps []point) int {\n\tsum := 0\n\tfor i := 0; i < len(ps); i++ {\n\t\tsum = sum + ps[i].x*ps[i].y\n\t}\n\tfmt.Println(\"total\", sum)\n\treturn sum\n}\n\nfunc readByte() int\n\nfunc main() {\n\tvar ps []point\n\tfor c := readByte(); c >= 0; c = readByte() {\n\t\tps = append(ps, point{c, len(ps) + 1})\n\t}\n\tfmt.Println(total(ps))\n}\n",
-    // What is wrong with these is no matter of names.
-    "package p\n\nfunc f() int {\n}\n",
-    "package p\n\nvar x int8 = 300\n",
-];
-
-#[test]
-fn named(rt: HostRuntime) -> Result<(), Fail> {
-    for text in NAMED {
-        assert!(rt; fault(rt.alloc(), &[text.as_bytes()])? == None);
     }
     Ok(())
 }
@@ -238,28 +229,127 @@ fn objects(rt: HostRuntime) -> Result<(), Fail> {
     for (token, wanted) in OBJECTS {
         assert!(rt; uses.object(0, token) == wanted);
     }
+    Ok(())
+}
+
+#[test]
+fn declarations(rt: HostRuntime) -> Result<(), Fail> {
+    let alloc = rt.alloc();
+    let mut files = Vec::new(alloc);
+    files.push(file(alloc, 0, PACKAGE)?)?;
+    if files.len() > 256 {
+        return Err("a package has at most 256 files".into());
+    }
+    let uses = resolve(alloc, &files)?;
     let function = Declared {
         file: 0,
         name: 12,
         entity: Entity::Function,
     };
-    let local = Declared {
-        file: 0,
-        name: 19,
-        entity: Entity::Variable,
-    };
     assert_eq!(rt; uses.files(), 1);
-    assert_eq!(rt; uses.package_objects().len(), 3);
-    assert!(rt; uses.package_object(1) == Some(function));
     assert_eq!(rt; uses.functions(), 2);
+    assert!(rt; uses.package_objects().get(1) == Some(&function));
     assert!(rt; uses.locals(0).map(|locals| locals.len()) == Some(2));
-    assert!(rt; uses.local(0, 1) == Some(local));
     assert!(rt; uses.declaration(Object::Package(1)) == Some(function));
-    let object = Object::Local {
-        function: 0,
-        number: 1,
-    };
-    assert!(rt; uses.declaration(object) == Some(local));
     assert!(rt; uses.declaration(Object::Import) == None);
+    Ok(())
+}
+
+/// The file of this number of a package of 256, whose 20 constants have the values of those of the next file.
+fn chained(alloc: Global, number: u32) -> Result<String, Fail> {
+    let mut text = String::from_str(alloc, "package p\n")?;
+    let next = number.saturating_add(1);
+    for constant in 0..20 {
+        let line = if number == 255 {
+            format!(in alloc; "const c255x{constant} = 1\n")?
+        } else {
+            format!(in alloc; "const c{number}x{constant} = c{next}x{constant}\n")?
+        };
+        text.push_str(&line)?;
+    }
+    Ok(text)
+}
+
+/// A package with as many files as there may be, and with chains of names through all of them.
+#[test]
+fn many_files(rt: HostRuntime) -> Result<(), Fail> {
+    let alloc = rt.alloc();
+    let mut files = Vec::new(alloc);
+    for number in 0..256 {
+        let text = chained(alloc, number)?;
+        files.push(file(alloc, number, text.as_bytes())?)?;
+    }
+    if files.len() > 256 {
+        return Err("a package has at most 256 files".into());
+    }
+    let uses = resolve(alloc, &files)?;
+    assert_eq!(rt; uses.package_objects().len(), 5120);
+    assert!(rt; uses.object(0, 6) == Some(Object::Package(20)));
+    Ok(())
+}
+
+/// Packages of a file, and which of their declarations need themselves.
+const CYCLES: [(&[u8], &[Option<bool>]); 9] = [
+    (
+        b"package p\ntype A struct { b B }\ntype B struct { c C }\ntype C struct { a A }",
+        &[Some(true), Some(true), Some(true)],
+    ),
+    (
+        b"package p\ntype A struct { b B }\ntype B struct { c C }\ntype C int",
+        &[Some(false), Some(false), Some(false)],
+    ),
+    (b"package p\ntype A []A", &[Some(false)]),
+    (b"package p\ntype A [len(A{})]int", &[Some(true)]),
+    (
+        b"package p\ntype A struct { b B }\ntype B []A",
+        &[Some(false), Some(false)],
+    ),
+    // An array's length needs all that the type's right side names.
+    (
+        b"package p\ntype A [len(B{})]int\ntype B []A",
+        &[Some(true), Some(false)],
+    ),
+    // What leads to a circle isn't on it.
+    (
+        b"package p\ntype A struct { b B }\ntype B struct { c C }\ntype C struct { b B }",
+        &[Some(false), Some(true), Some(true)],
+    ),
+    (
+        b"package p\ntype A [len(B{})]int\ntype B []C\ntype C []B",
+        &[Some(false), Some(false), Some(false)],
+    ),
+    // Each constant needs its own value.
+    (
+        b"package p\nconst a, b = b, 1\nfunc f(x [a]int) { f(x) }",
+        &[Some(false), Some(false), Some(false), Some(false)],
+    ),
+];
+
+/// What the ranks and the circles show of each declaration of a file.
+fn shown(alloc: Global, text: &[u8]) -> Result<Vec<Option<bool>>, Fail> {
+    let mut files = Vec::new(alloc);
+    files.push(file(alloc, 0, text)?)?;
+    let units = units_of(alloc, &files)?;
+    if units.len() > 256 {
+        return Err("a package has at most 256 files".into());
+    }
+    let declared = new_among(alloc, &all_found(alloc, &units)?)?;
+    let asked = look_up(alloc, &units, &declared)?.asked;
+    let order = order_of(alloc, &asked, &declared)?;
+    let rounds = declared.len().saturating_mul(2);
+    let mut shown = Vec::new(alloc);
+    for d in &declared {
+        shown.push(order.shown(alloc, &asked, rounds, d)?)?;
+    }
+    Ok(shown)
+}
+
+/// The ranks show of each declaration that it doesn't need itself, or else a circle that it does, so that the rounds of the
+/// definition are never needed.
+#[test]
+fn cycles(rt: HostRuntime) -> Result<(), Fail> {
+    for (text, wanted) in CYCLES {
+        assert!(rt; shown(rt.alloc(), text)?.as_slice() == wanted);
+    }
     Ok(())
 }

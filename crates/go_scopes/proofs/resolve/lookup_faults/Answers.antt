@@ -12,17 +12,17 @@ pub returns : goal.returns
 returns c =
     let asks = map asked_view c.args.asked.now in
     let f0 = option_map failure_of c.args.found in
-    let f1 = option_map failure_of c.undeclared-undeclared.result in
-    let f2 = option_map failure_of c.outside_names-named.result in
-    let f3 = option_map failure_of c.outside_members-selected.result in
-    let f4 = option_map failure_of c.not_called-called.result in
-    let f5 = option_map failure_of c.initialisers.result in
+    let f1 = option_map failure_of c.note_lookups-undeclared.result in
+    let f2 = option_map failure_of c.note_lookups-named.result in
+    let f3 = option_map failure_of c.note_lookups-selected.result in
+    let f4 = option_map failure_of c.note_lookups-called.result in
+    let f5 = option_map failure_of c.note_lookups.result in
     let r1 = failing code.Undeclared (undeclared asks) in
     let r2 = failing code.Outside (outside_names asks) in
     let r3 = failing code.Outside (outside_members asks) in
     let r4 = failing code.NotAValue (not_called asks) in
     let r5 = failing code.Initialiser (initialisers asks) in
-    let two = one_more f0 f1 f2 r1 r2 c.undeclared-undeclared.ensures c.outside_names-named.ensures in
-    let three = one_more f0 f2 f3 (r1 ++ r2) r3 two c.outside_members-selected.ensures in
-    let four = one_more f0 f3 f4 (r1 ++ r2 ++ r3) r4 three c.not_called-called.ensures in
-    one_more f0 f4 f5 (r1 ++ r2 ++ r3 ++ r4) r5 four c.initialisers.ensures
+    let two = one_more f0 f1 f2 r1 r2 c.note_lookups-undeclared.ensures c.note_lookups-named.ensures in
+    let three = one_more f0 f2 f3 (r1 ++ r2) r3 two c.note_lookups-selected.ensures in
+    let four = one_more f0 f3 f4 (r1 ++ r2 ++ r3) r4 three c.note_lookups-called.ensures in
+    one_more f0 f4 f5 (r1 ++ r2 ++ r3 ++ r4) r5 four c.note_lookups.ensures

@@ -6,8 +6,8 @@ use Rattle.go_tree.specs.declared.event.Event.TheVariants as event
 use Rattle.go_tree.specs.Lookups.{asked_in}
 use Rattle.go_lookup.specs.Views.{asked_view}
 use Rattle.go_lookup.proofs.Told.{get_some, drop_at, out_none, out_some}
-use Rattle.go_lookup.proofs.lookup.push_asked.Goals as goal
-use Rattle.go_lookup.proofs.lookup.push_asked.Goals.{in-Some+in_ok-push, in_default}
+use Rattle.go_lookup.proofs.asked.push_asked.Goals as goal
+use Rattle.go_lookup.proofs.asked.push_asked.Goals.{in-Some+in_ok-push, in_default}
 
 pub loop-number-preserved : goal.loop-number-preserved
 loop-number-preserved c ms told =

@@ -3,7 +3,7 @@ use Rattle.go_cycles.specs.Ranks.{are_ranked}
 use Rattle.go_lookup.specs.Views.{found_view, asked_view}
 use Rattle.go_cycles.proofs.Circled.{circle_needs}
 use Rattle.go_cycles.proofs.Ranked.{not_itself}
-use Rattle.go_cycles.proofs.order.Order.needs_itself.Goals as goal
+use Rattle.go_cycles.proofs.order.Order.shown.Goals as goal
 
 pub returns-then-is_above : goal.returns-then-is_above
 returns-then-is_above c =

@@ -2,12 +2,12 @@
 
 ghost use Rattle.std.specs.Prelude.{◌≡◌, ◌++◌, List, OnOk, map, []};
 ghost use Rattle.std.specs.Option.{option_map, option_to_list};
-ghost use Rattle.go_tree.specs.Lookups.{whole_of, selected_of, asked, asked_event, asked_in};
+ghost use Rattle.go_tree.specs.Lookups.{whole_of, selected_of, asked, asked_event};
 ghost use Rattle.go_tree.specs.Lookups as rules;
 ghost use Rattle.go_tree.specs.Meanings.{word, meaning_at};
 ghost use Rattle.go_tree.specs.Meanings as meanings;
 ghost use Rattle.go_lookup.specs.Views.{place_of, unit_view, meaning_view, asked_view};
-ghost use Rattle.go_lookup.specs.Sorted.{name_of, named_meaning, event_meanings};
+ghost use Rattle.go_lookup.specs.Sorted.{IsNamed, AreNamed, unit_asked};
 
 use crate::meaning::Meaning;
 use crate::sweep::told_at;
@@ -77,7 +77,7 @@ fn asked_by<'a>(
     event: &Event,
     meaning: Option<Meaning<'a>>,
 ) -> Option<Asked<'a>>
-    ensures { (ms : List meanings.Meaning) → (asks : List rules.Asked) → option_map meaning_view meaning.entry ≡ named_meaning ms file tokens.entry.now (name_of event.now) → asked_event ms file tokens.entry.now event.now asks ≡ option_to_list (option_map asked_view result) ++ asks }
+    ensures { (ms : List meanings.Meaning) (asks : List rules.Asked) → IsNamed ms file tokens.entry.now event.now meaning.entry → asked_event ms file tokens.entry.now event.now asks ≡ option_to_list (option_map asked_view result) ++ asks }
 {
     let Event::Use(lookup) = event else {
         return None;
@@ -95,7 +95,7 @@ pub fn push_asked<'a>(
     unit: &Unit<'a>,
     told: &[Option<Meaning<'a>>],
 ) -> Result<(), AllocError>
-    ensures { OnOk result ((ms : List meanings.Meaning) → map (option_map meaning_view) told.now ≡ event_meanings ms file (unit_view unit.now).tokens (unit_view unit.now).events → map asked_view out.new.items ≡ map asked_view out.old.items ++ asked_in ms file (unit_view unit.now).tokens (unit_view unit.now).events) }
+    ensures { OnOk result ((ms : List meanings.Meaning) → AreNamed ms file (unit_view unit.now).tokens (unit_view unit.now).events told.now → map asked_view out.new.items ≡ map asked_view out.old.items ++ unit_asked ms file (unit_view unit.now)) }
 {
     for (number, event) in unit.events.iter().enumerate() {
         if let Some(asked) = asked_by(file, unit.tokens, event, told_at(told, number)) {
