@@ -8,4 +8,6 @@
 #[cfg(test)]
 mod files;
 #[cfg(test)]
+mod path_files;
+#[cfg(test)]
 mod trees;

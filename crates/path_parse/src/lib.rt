@@ -8,8 +8,6 @@ mod error;
 mod lookahead;
 mod parser;
 mod row;
-#[cfg(test)]
-mod tests;
 mod tree;
 
 pub use error::ParseError;

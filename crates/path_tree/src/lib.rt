@@ -12,7 +12,5 @@ pub mod grammar;
 pub mod kind;
 pub mod laws;
 pub mod node;
-#[cfg(test)]
-mod tests;
 pub mod view;
 pub mod window;

@@ -1,9 +1,8 @@
-// Files that have a tree, and files that have none.
+//! Files that have a tree, and files that have none.
 
-use crate::error::ParseError;
-use crate::parser::parse;
 use go_base::{Fault, FaultCode};
 use go_tokens::lex::lex;
+use path_parse::{ParseError, parse};
 use std::alloc::Global;
 use std::test::Fail;
 
