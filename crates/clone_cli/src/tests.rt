@@ -1,6 +1,6 @@
 // Whole runs over objects in memory.
 
-use crate::serve::serve;
+use clone_serve::serve::serve;
 use go_base::{Bytes, Name};
 use port_io::{MemFolder, MemSink, MemSource};
 use std::alloc::Global;

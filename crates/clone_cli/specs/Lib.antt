@@ -1,9 +1,0 @@
-pub mod Bodies
-pub mod Members
-pub mod Names
-pub mod Usage
-pub mod Simple
-pub mod Functions
-pub mod Listing
-pub mod Reply
-pub mod Serving

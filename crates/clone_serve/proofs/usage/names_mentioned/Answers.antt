@@ -1,0 +1,13 @@
+use Rattle.std.proofs.Common.{◌++◌, ◌+◌, ap, sym, ◌∙◌, append_assoc, drop}
+use Rattle.std.specs.List.{filter_map, flat_map}
+use Rattle.clone_serve.specs.Usage.{local_of, mentioned}
+use Rattle.clone_serve.proofs.Nodes.{drop-got}
+use Rattle.clone_serve.proofs.usage.names_mentioned.Goals as goal
+
+pub loop-i-preserved : goal.loop-i-preserved
+loop-i-preserved c =
+    let rest = drop (c.loop-i.i + 1) c.args.body.now in
+    ap (λ l. l ++ flat_map mentioned rest) (c.in_ok-push_locals.ensures ∙ ap (λ ws. c.loop-i.names.items ++ filter_map local_of ws) c.behind_defined.ensures)
+    ∙ append_assoc c.loop-i.names.items (mentioned c.statement.result.now) (flat_map mentioned rest)
+    ∙ ap (λ l. c.loop-i.names.items ++ l) (ap (flat_map mentioned) (sym (drop-got c.args.body.now c.loop-i.i c.statement.result.now c.statement.ensures)))
+    ∙ c.loop-i.invariant

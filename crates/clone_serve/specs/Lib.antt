@@ -1,0 +1,10 @@
+pub mod Arguments
+pub mod Bodies
+pub mod Members
+pub mod Names
+pub mod Usage
+pub mod Simple
+pub mod Functions
+pub mod Listing
+pub mod Reply
+pub mod Serving

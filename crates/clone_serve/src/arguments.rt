@@ -1,0 +1,74 @@
+// The run of the program, from its arguments to the status that it ends with.
+
+ghost use Rattle.std.specs.Prelude.{◌≡◌, IfOk, IfErr, IfSome, IsErr, drop};
+ghost use Rattle.std.specs.Vec.Iter.{into_iter_items};
+ghost use Rattle.std.specs.IoError.{error_kind};
+ghost use Rattle.std.specs.Process.{exit_status};
+ghost use Rattle.clone_serve.specs.Arguments.{words_behind_name};
+ghost use Rattle.clone_serve.specs.Serving.{due_status, FitsScript, IsWhole, Writes, dir_of, texts_of, CountsRun, FitsWords};
+
+use crate::serve::serve;
+use port_io::{DirFolder, FileSink, FileSource, Folder, Sink, Source};
+use std::alloc::{AllocError, Global};
+use std::env::Args;
+use std::io::ErrorKind;
+use std::process::ExitCode;
+use std::rt::{Env, Files};
+use std::{env, io};
+
+/// The status where memory ran out.
+const NO_MEMORY: u8 = 8;
+
+fn behind_first(alloc: Global, args: Args) -> Result<Vec<String>, AllocError>
+    ensures { IfOk result (λ words. words.items ≡ drop 1 (into_iter_items args)) }
+{
+    let mut args = args;
+    let _name = args.next();
+    let mut words = Vec::new(alloc);
+    for word in args {
+        words.push(word)?;
+    }
+    Ok(words)
+}
+
+/// The words behind the program's own name. Arguments that are no text give none, so they are not taken.
+fn words_of(alloc: Global, args: io::Result<Args>) -> Result<Vec<String>, AllocError>
+    ensures words { IfOk result (λ words. words.items ≡ words_behind_name args) }
+    ensures memory { IfErr args (λ error. error_kind error ≡ ErrorKind.OutOfMemory → IsErr result) }
+{
+    match args {
+        Ok(args) => behind_first(alloc, args),
+        Err(error) if error.kind() == ErrorKind::OutOfMemory => Err(AllocError),
+        Err(_) => Ok(Vec::new(alloc)),
+    }
+}
+
+/// Serves the words behind the first argument, and answers the status to end with.
+pub fn serve_arguments<F: Folder, S: Source, K: Sink>(
+    alloc: Global,
+    args: io::Result<Args>,
+    folder: &mut F,
+    script: &mut S,
+    out: &mut K,
+) -> ExitCode
+    // These clauses are those of `serve`, at the words behind the program's own name.
+    ensures counts { CountsRun (exit_status result) (F.reading_faults folder.old) (F.reading_faults folder.new) (S.faults script.old) (S.faults script.new) (K.faults out.old) (K.faults out.new) }
+    ensures words { FitsWords (dir_of (texts_of (words_behind_name args))) (exit_status result) }
+    ensures script { IfSome (S.left script.old) (λ all. FitsScript (due_status (dir_of (texts_of (words_behind_name args))) all) (exit_status result)) }
+    ensures whole { IfSome (K.written out.old) (λ before. IfSome (F.held folder.old) (λ held. IfSome (S.left script.old) (λ all.
+        Writes (IsWhole (dir_of (texts_of (words_behind_name args))) held all) (exit_status result) before (K.written out.new)))) }
+{
+    match words_of(alloc, args) {
+        Ok(words) => ExitCode::from(serve(alloc, &words, folder, script, out)),
+        Err(_) => ExitCode::from(NO_MEMORY),
+    }
+}
+
+/// Runs the program over the folders of the file system, standard input and standard output.
+pub fn run<R: Env + Files + Input + Print + AllocGlobal + Copy>(rt: R) -> ExitCode {
+    let mut folder = DirFolder::new(rt);
+    let mut script = FileSource::new(rt.reader());
+    let mut out = FileSink::new(io::writer(&rt));
+    let args = env::args(&rt);
+    serve_arguments(rt.alloc(), args, &mut folder, &mut script, &mut out)
+}
