@@ -58,11 +58,11 @@ named : (x y : Bool) → x || y ≡ false → not x && true ≡ true
 named true y h = cc
 named false y h = refl
 
-function_new : (b : Block) (e : Entity) (m : Manner) (w : List ℕ) (r : Bool) → orders.begins_function b e m ≡ true → is_outside e b w ≡ false → not (is_blank w) && not (may_be_reused m && r) ≡ true
+pub function_new : (b : Block) (e : Entity) (m : Manner) (w : List ℕ) (r : Bool) → orders.begins_function b e m ≡ true → is_outside e b w ≡ false → not (is_blank w) && not (may_be_reused m && r) ≡ true
 function_new block.Package entity.Function manner.Declared w r h o = named (is_blank w) _ o
 function_new b e m w r h o = cc
 
-no_place : (b : Bool) (p : Place) (ps : List Place) → place_if b p ps ≡ [] → (b ≡ false) × (ps ≡ [])
+pub no_place : (b : Bool) (p : Place) (ps : List Place) → place_if b p ps ≡ [] → (b ≡ false) × (ps ≡ [])
 no_place true p ps h = absurd cc
 no_place false p ps h = (refl, h)
 
@@ -106,7 +106,7 @@ failing_none : (c : FaultCode) (ps : List Place) → failing c ps ≡ [] → ps 
 failing_none c [] h = refl
 failing_none c (p ∷ ps) h = absurd cc
 
-none_outside : (us : List names.Unit) → least (clause_faults us) ≡ None → outside_declarations (found us) ≡ []
+pub none_outside : (us : List names.Unit) → least (clause_faults us) ≡ None → outside_declarations (found us) ≡ []
 none_outside us h =
     let first = failing code.PackageName (package_names us) ++ failing code.Outside (imports us) in
     let all = append_none (first ++ failing code.Outside (outside_declarations (found us))) (failing code.Outside (missing_bodies (found us) us)) (least_none (clause_faults us) h) in

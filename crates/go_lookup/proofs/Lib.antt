@@ -1,6 +1,8 @@
 pub mod Ascii
 pub mod Behind
+pub mod Housed
 pub mod Named
+pub mod Owned
 pub mod Places
 pub mod Sorting
 pub mod Stacks

@@ -6,7 +6,10 @@ use Rattle.go_tokens.specs.Tokens.{TokenList}
 use Rattle.go_tree.specs.declared.event.Event.{Event}
 use Rattle.go_tree.specs.declared.event.Event.TheVariants as event
 use Rattle.go_tree.specs.declared.object.Object.{Object}
-use Rattle.go_tree.specs.Meanings.{Unit, Meaning, word, is_declared_at, own_object, object_at, token_objects}
+use Rattle.go_tree.specs.Meanings.{Meaning, word, is_declared_at, own_object, object_at, token_objects}
+use Rattle.go_tree.specs.Meanings as names
+use Rattle.go_names.specs.Inside.{LocalsInside, nowhere}
+use Rattle.go_names.specs.Orders.{AreInOrder}
 
 -- the object that is declared at a place, if one is
 abbrev pub declared_object : ℕ → ℕ → List Meaning → Option Object
@@ -28,5 +31,15 @@ over_event ms n ts (event.Declaration d) os = set os d.name (own_object n d.name
 over_event ms n ts e os = os
 
 -- the objects of all tokens of a file
-abbrev pub unit_objects : List Meaning → ℕ → Unit → List (Option Object)
+abbrev pub unit_objects : List Meaning → ℕ → names.Unit → List (Option Object)
 unit_objects ms n u = token_objects ms n u.tokens u.events 0 (length u.tokens.tokens)
+
+-- The names of each file are tokens of it, in order.
+abbrev pub AreCounted : List names.Unit → Type 0
+AreCounted [] = Unit
+AreCounted (u ∷ us) = AreInOrder 0 (length u.tokens.tokens) u.events × AreCounted us
+
+-- The locals of each file stand inside its functions.
+abbrev pub AreInside : List names.Unit → Type 0
+AreInside [] = Unit
+AreInside (u ∷ us) = LocalsInside nowhere u.events × AreInside us

@@ -18,6 +18,8 @@ fn declared_by(d: &Found<'_>) -> Declared
         file: d.file,
         name: d.declaration.name,
         entity: d.declaration.entity,
+        block: d.declaration.block,
+        scope: d.declaration.scope,
     }
 }
 

@@ -1,4 +1,5 @@
 pub mod Heights
+pub mod Inside
 pub mod Innermost
 pub mod Layers
 pub mod Locals

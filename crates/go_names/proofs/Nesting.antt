@@ -29,7 +29,7 @@ each_append Q [] fs h g = g
 each_append Q (event.Declaration d ∷ es) fs h g = (h.0, each_append Q es fs h.1 g)
 each_append Q (e ∷ es) fs h g = each_append Q es fs h g
 
-each_map : (Q R : Declaration → Type 0) (es : List Event) → ((d : Declaration) → Q d → R d) → EachDeclared Q es → EachDeclared R es
+pub each_map : (Q R : Declaration → Type 0) (es : List Event) → ((d : Declaration) → Q d → R d) → EachDeclared Q es → EachDeclared R es
 each_map Q R [] f h = tt
 each_map Q R (event.Declaration d ∷ es) f h = (f d h.0, each_map Q R es f h.1)
 each_map Q R (e ∷ es) f h = each_map Q R es f h
@@ -38,7 +38,7 @@ each_map Q R (e ∷ es) f h = each_map Q R es f h
 -- and begins no later than the tree ends.
 pub record Lies (i j e : ℕ) (d : Declaration) : Type 0 where
   begins : i ≤ d.scope.from
-  ends : (d.scope.to ≤ j) ⊎ ((d.scope.to ≡ e) × (d.scope.from ≤ j))
+  pub ends : (d.scope.to ≤ j) ⊎ ((d.scope.to ≡ e) × (d.scope.from ≤ j))
   follows : IsFollowed d
 
 -- declarations that lie so, each behind or inside the earlier ones
@@ -120,7 +120,7 @@ only_nested : (i j e : ℕ) (o : Option Scope) (es : List Event) → LiesAt i j 
 only_nested i j e o es h g = record { lie = each_map (IsOnly o) (Lies i j e) es (λ d. only_lies i j e o d h) g; nest = only_nest o es g }
 
 -- what a role gives
-abbrev ScopeGives : Option Scope → Option Scope → Type 0
+abbrev pub ScopeGives : Option Scope → Option Scope → Type 0
 ScopeGives o None = Unit
 ScopeGives o (Some s) = Some s ≡ o
 
@@ -390,7 +390,7 @@ mutual
       (parts_nested (pass c p) k i j ps (suc n) qs (last p) x.1 h.2 (record { role = g.role; parameters = g.parameters }) le)
   parts_nested c k i j ps n (skip qs) a x h g le = parts_nested c k i j ps (suc n) qs a x h g le
 
-  function_nested : (c : Context) (i j : ℕ) (ps : Trees) (qs : Trees) (a : ℕ) → AreLayered Function qs → LieIn a j qs → ScopeGives None c.parameters → AreNested a j j (events_of c kind.FunctionDeclaration i j ps 0 qs)
+  pub function_nested : (c : Context) (i j : ℕ) (ps : Trees) (qs : Trees) (a : ℕ) → AreLayered Function qs → LieIn a j qs → ScopeGives None c.parameters → AreNested a j j (events_of c kind.FunctionDeclaration i j ps 0 qs)
   function_nested c i j ps none a x h s = nested_none a j j
   function_nested c i j ps (more p qs) a x h s =
       let low : first p < last p = laid_grows p h.1 in

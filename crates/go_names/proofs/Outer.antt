@@ -29,7 +29,7 @@ use Rattle.go_names.proofs.Layers.{is_plain, has_plain, all_plain, within_plain,
 use Rattle.go_names.proofs.Nesting.{each_append, statement_each, misplaced_each, second_each}
 
 -- the kinds of what stands outside of functions
-abbrev is_outer : Kind → Bool
+abbrev pub is_outer : Kind → Bool
 is_outer kind.File = true
 is_outer kind.Imports = true
 is_outer kind.Import = true
@@ -40,7 +40,7 @@ is_outer (kind.Group s) = true
 is_outer (kind.Specification s) = true
 is_outer k = is_plain k
 
-abbrev is_function : Kind → Bool
+abbrev pub is_function : Kind → Bool
 is_function kind.FunctionDeclaration = true
 is_function k = false
 
@@ -65,10 +65,10 @@ all_outer (Many ws l) = has_outer (item l)
 
 abbrev mutual
   -- no node of the tree outside of functions opens a block
-  IsOutside : Tree → Type 0
+  pub IsOutside : Tree → Type 0
   IsOutside (node k i j ps) = (is_function k ≡ true) ⊎ ((is_outer k ≡ true) × AreOutside ps)
 
-  AreOutside : Trees → Type 0
+  pub AreOutside : Trees → Type 0
   AreOutside none = Unit
   AreOutside (more p ps) = IsOutside p × AreOutside ps
   AreOutside (skip ps) = AreOutside ps
@@ -171,7 +171,7 @@ either F O A (inr o) g = inr (o, g o)
 
 module _ (ts : List TokenKind) where
   mutual
-    derives_outside : (t : Tree) (c : Category) → has_outer c ≡ true → Derives ts c t → IsOutside t
+    pub derives_outside : (t : Tree) (c : Category) → has_outer c ≡ true → Derives ts c t → IsOutside t
     derives_outside (node k i j ps) c e h = either (is_function k ≡ true) (is_outer k ≡ true) (AreOutside ps) (within_outer c k e h.0) (λ o. spells_outside ps (rule (place_of c) k) i j (rule_outer (place_of c) k o) h.1)
 
     spells_outside : (ps : Trees) (r : Rule) (i j : ℕ) → all_outer r ≡ true → Spells ts r i ps j → AreOutside ps
@@ -213,12 +213,12 @@ outer_follow [] h false = tt
 outer_follow (event.Declaration d ∷ es) h false = (h.0, outer_follow es h.1 (begins_function d.block d.entity d.manner))
 outer_follow (e ∷ es) h false = outer_follow es h false
 
-abbrev IsNone : Option Scope → Type 0
+abbrev pub IsNone : Option Scope → Type 0
 IsNone None = Unit
 IsNone (Some s) = ⊥
 
 -- what a role declares
-abbrev IsOuterRole : Role → Type 0
+abbrev pub IsOuterRole : Role → Type 0
 IsOuterRole (role.Parameter g s) = IsNone s
 IsOuterRole r = Unit
 
@@ -228,7 +228,7 @@ name_outer c i (role.Parameter g None) b h = tt
 name_outer c i (role.Parameter g (Some s)) b h = absurd h
 name_outer c i r b h = tt
 
-own_outer : (c : Context) (k : Kind) (i j : ℕ) (ps : Trees) → is_outer k ≡ true → IsOuter c.block → IsOuterRole c.role → EachDeclared (λ d. IsOuter d.block) (own_events c k i j ps)
+pub own_outer : (c : Context) (k : Kind) (i j : ℕ) (ps : Trees) → is_outer k ≡ true → IsOuter c.block → IsOuterRole c.role → EachDeclared (λ d. IsOuter d.block) (own_events c k i j ps)
 own_outer c kind.FunctionDeclaration i j ps e b r = let no : false ≡ true = e in absurd cc
 own_outer c (kind.Specification sort.Type) i j ps e b r = (b, tt)
 own_outer c kind.DeclaredName i j ps e b r = name_outer c i c.role b r
@@ -240,12 +240,12 @@ own_outer c kind.Fallthrough i j ps e b r = misplaced_each (λ d. IsOuter d.bloc
 own_outer c k i j ps e b r = tt
 
 -- the context of the parts
-record IsOuterContext (c : Context) : Type 0 where
-  block : IsOuter c.block
-  role : IsOuterRole c.role
-  parameters : IsNone c.parameters
+pub record IsOuterContext (c : Context) : Type 0 where
+  pub block : IsOuter c.block
+  pub role : IsOuterRole c.role
+  pub parameters : IsNone c.parameters
 
-block_outer : (c : Context) (k : Kind) (i : ℕ) → is_outer k ≡ true → IsOuter c.block → IsOuter (block_in c k i)
+pub block_outer : (c : Context) (k : Kind) (i : ℕ) → is_outer k ≡ true → IsOuter c.block → IsOuter (block_in c k i)
 block_outer c kind.Block i e b = let no : false ≡ true = e in absurd cc
 block_outer c kind.Case i e b = let no : false ≡ true = e in absurd cc
 block_outer c kind.Default i e b = let no : false ≡ true = e in absurd cc
@@ -254,7 +254,7 @@ block_outer c kind.Switch i e b = let no : false ≡ true = e in absurd cc
 block_outer c kind.For i e b = let no : false ≡ true = e in absurd cc
 block_outer c k i e b = b
 
-parameters_outer : (c : Context) (k : Kind) (j : ℕ) (ps : Trees) (n : ℕ) (p : Tree) → is_outer k ≡ true → IsNone c.parameters → IsNone (parameters_in c k j ps n p)
+pub parameters_outer : (c : Context) (k : Kind) (j : ℕ) (ps : Trees) (n : ℕ) (p : Tree) → is_outer k ≡ true → IsNone c.parameters → IsNone (parameters_in c k j ps n p)
 parameters_outer c kind.FunctionDeclaration j ps n p e s = let no : false ≡ true = e in absurd cc
 parameters_outer c kind.FunctionType j ps n p e s = tt
 parameters_outer c k j ps n p e s = s
@@ -274,7 +274,7 @@ entry_outer : (named : Bool) (p : Tree) (group : ℕ) (s : Option Scope) → IsN
 entry_outer true p group s h = if_outer p (role.Parameter group s) h
 entry_outer false p group s h = tt
 
-role_outer : (c : Context) (k : Kind) (i j : ℕ) (named : Bool) (n : ℕ) (p : Tree) → IsOuterRole c.role → IsNone c.parameters → IsOuterRole (role_in c k i j named n p)
+pub role_outer : (c : Context) (k : Kind) (i j : ℕ) (named : Bool) (n : ℕ) (p : Tree) → IsOuterRole c.role → IsNone c.parameters → IsOuterRole (role_in c k i j named n p)
 role_outer c (kind.Specification sort.Constant) i j named n p r s = first_outer n (role.New _) tt
 role_outer c (kind.Specification sort.Variable) i j named n p r s = first_outer n (role.New _) tt
 role_outer c kind.Define i j named n p r s = first_outer n (role.New _) tt

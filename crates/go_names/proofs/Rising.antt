@@ -157,7 +157,7 @@ mutual
       (order_append i i (behind_name k i) (statement_events c.listed i j) (own_events c k i j ps) (statement_order c.listed i j) (own_order c k i j ps))
       (parts_order (begin c k) k i j ps 0 ps (behind_name k i) h.1)
 
-  parts_order : (c : Context) (k : Kind) (i j : ℕ) (ps : Trees) (n : ℕ) (qs : Trees) (a : ℕ) → LieIn a j qs → AreInOrder a j (events_of c k i j ps n qs)
+  pub parts_order : (c : Context) (k : Kind) (i j : ℕ) (ps : Trees) (n : ℕ) (qs : Trees) (a : ℕ) → LieIn a j qs → AreInOrder a j (events_of c k i j ps n qs)
   parts_order c k i j ps n none a h = h
   parts_order c k i j ps n (more p qs) a h =
       order_append a (last p) j (events (enter c k i j ps (ends_named ps) n p (is_more qs)) p) (events_of (pass c p) k i j ps (suc n) qs)

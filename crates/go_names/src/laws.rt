@@ -8,6 +8,7 @@ ghost use Rattle.go_tree.specs.Contexts.{file_context};
 ghost use Rattle.go_tree.specs.Events.{events};
 ghost use Rattle.go_tree.specs.Meanings.{Meaning, meanings, meaning_at};
 ghost use Rattle.go_tree.specs.Meanings as names;
+ghost use Rattle.go_names.specs.Inside.{LocalsInside, nowhere};
 ghost use Rattle.go_names.specs.Orders.{AreInOrder, EachDeclared, ScopesNest, IsFollowed, LocalsFollow};
 ghost use Rattle.go_names.specs.Scopes.{AreNested, AreSwept, IsOrderly, AreOrderly, locals_of, reached, inmost, first_by, is_import, is_package};
 
@@ -30,6 +31,11 @@ pub fn scopes_follow()
 /// Locals are declared behind a function of the package.
 pub fn locals_stand_in_functions()
     ensures { (ts : List TokenKind) (t : Tree) → IsFile ts t → LocalsFollow false (events (file_context (last t)) t) }
+{}
+
+/// Each local stands inside the last function in front of it, and its scope ends there.
+pub fn locals_stand_inside_functions()
+    ensures { (ts : List TokenKind) (t : Tree) → IsFile ts t → LocalsInside nowhere (events (file_context (last t)) t) }
 {}
 
 /// Where scopes nest, a name means the innermost of the local meanings at its place, which is found one by one in their order;

@@ -3,7 +3,10 @@
 ghost use Rattle.std.specs.Prelude.{◌≡◌, ◌≤◌, None, Some, IfOk, length, map};
 ghost use Rattle.std.specs.Option.{option_map};
 ghost use Rattle.go_base.specs.Gives.{Meets};
+ghost use Rattle.go_names.specs.Inside.{LocalsInside, nowhere};
+ghost use Rattle.go_names.specs.Orders.{AreInOrder};
 ghost use Rattle.go_names.specs.Scopes.{IsOrderly, AreOrderly};
+ghost use Rattle.go_lookup.specs.Tables.{AreCounted, AreInside};
 ghost use Rattle.go_tree.specs.Meanings.{found};
 ghost use Rattle.go_tree.specs.Failures.{least, least_from};
 ghost use Rattle.go_tree.specs.Faults.{lookup_faults, unused_faults, placed_faults, name_faults_by, reported};
@@ -26,7 +29,7 @@ use go_lookup::declared::uses_of;
 use go_lookup::found::{Found, all_found, new_among};
 use go_lookup::look_up::look_up;
 use go_lookup::unit::Unit;
-use go_names::laws::files_are_orderly;
+use go_names::laws::{files_are_orderly, locals_stand_inside_functions, names_are_in_order};
 use go_names::walk::events;
 use go_tree::file::File;
 use go_tree::uses::Uses;
@@ -49,8 +52,12 @@ pub fn resolve(alloc: Global, files: &[File]) -> Result<Uses, ResolveError>
 fn unit_of<'a>(alloc: Global, file: &'a File) -> Result<Unit<'a>, AllocError>
     ensures unit { IfOk result (λ u. unit_view u ≡ unit_of file.now) }
     ensures orderly { IfOk result (λ u. IsOrderly u.events.items) }
+    ensures counted { IfOk result (λ u. AreInOrder 0 (length u.tokens.now.tokens) u.events.items) }
+    ensures inside { IfOk result (λ u. LocalsInside nowhere u.events.items) }
 {
     files_are_orderly();
+    names_are_in_order();
+    locals_stand_inside_functions();
     let root = file.root();
     Ok(Unit {
         tokens: file.tokens(),
@@ -62,6 +69,8 @@ fn unit_of<'a>(alloc: Global, file: &'a File) -> Result<Unit<'a>, AllocError>
 pub fn units_of<'a>(alloc: Global, files: &'a [File]) -> Result<Vec<Unit<'a>>, AllocError>
     ensures units { IfOk result (λ v. units_view v.items ≡ units_of files.now) }
     ensures orderly { IfOk result (λ v. AreOrderly (units_view v.items)) }
+    ensures counted { IfOk result (λ v. AreCounted (units_view v.items)) }
+    ensures inside { IfOk result (λ v. AreInside (units_view v.items)) }
 {
     let mut units = Vec::new(alloc);
     for file in files {
@@ -74,6 +83,8 @@ pub fn units_of<'a>(alloc: Global, files: &'a [File]) -> Result<Vec<Unit<'a>>, A
 fn resolve_units(alloc: Global, units: &[Unit<'_>]) -> Result<Uses, ResolveError>
     requires few { length units.now ≤ 256 }
     requires orderly { AreOrderly (units_view units.now) }
+    requires counted { AreCounted (units_view units.now) }
+    requires inside { AreInside (units_view units.now) }
     ensures { Meets refusal_of result (λ u. (reported (units_view units.now) ≡ None) × (u ≡ uses (units_view units.now))) (λ fault. reported (units_view units.now) ≡ Some (failure_of fault)) }
 {
     let all = all_found(alloc, units)?;

@@ -7,7 +7,7 @@ use go_lookup::found::{all_found, new_among};
 use go_lookup::look_up::look_up;
 use go_parse::parse;
 use go_tokens::lex::lex;
-use go_tree::context::Entity;
+use go_tree::context::{Block, Entity, Scope};
 use go_tree::file::File;
 use go_tree::object::{Declared, Object, Predeclared};
 use std::alloc::Global;
@@ -245,6 +245,8 @@ fn declarations(rt: HostRuntime) -> Result<(), Fail> {
         file: 0,
         name: 12,
         entity: Entity::Function,
+        block: Block::Package,
+        scope: Scope { from: 11, to: 39 },
     };
     assert_eq!(rt; uses.files(), 1);
     assert_eq!(rt; uses.functions(), 2);

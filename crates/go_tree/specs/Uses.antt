@@ -1,5 +1,7 @@
 -- What the names of a package mean, for each token, with the objects that they name.
-use Rattle.std.specs.Prelude.{ℕ, ◌≡◌, suc, Bool, true, false, ◌&&◌, if◌then◌else◌, List, [], ◌∷◌, length, Option, Some, None, is_some, slice_get}
+use Rattle.std.specs.Prelude.{ℕ, ◌≡◌, suc, Bool, true, false, ◌&&◌, ◌||◌, if◌then◌else◌, nat_eq, nat_le, nat_lt, List, [], ◌∷◌, length, Option, Some, None, is_some, slice_get}
+use Rattle.go_tree.specs.declared.context.Block.{Block}
+use Rattle.go_tree.specs.declared.context.Block.TheVariants as block
 use Rattle.go_tree.specs.declared.object.Object.{Object}
 use Rattle.go_tree.specs.declared.object.Object.TheVariants as object
 use Rattle.go_tree.specs.declared.object.Declared.{Declared}
@@ -14,7 +16,7 @@ pub record UsesView : Type 0 where
   pub locals : List (List Declared)
 
 abbrev pub declared_by : Found → Declared
-declared_by d = record { file = d.file; name = d.it.name; entity = d.it.entity }
+declared_by d = record { file = d.file; name = d.it.name; entity = d.it.entity; block = d.it.block; scope = d.it.scope }
 
 -- the declarations of the package block, in order
 abbrev pub declared_in_package : List Found → List Declared
@@ -78,8 +80,48 @@ abbrev pub count_functions : List Declared → ℕ
 count_functions [] = 0
 count_functions (d ∷ ds) = if is_function d.entity then suc (count_functions ds) else count_functions ds
 
--- What every answer meets: the object of a token that the package declares has its declaration among those of its number, and
--- each function has its locals.
+-- whether the second stands behind the first, by file and token
+abbrev pub is_behind : Declared → Declared → Bool
+is_behind a b = nat_lt a.file b.file || (nat_eq a.file b.file && nat_lt a.name b.name)
+
+abbrev pub are_behind : Declared → List Declared → Bool
+are_behind a [] = true
+are_behind a (d ∷ ds) = is_behind a d && are_behind a ds
+
+-- whether each stands behind the earlier ones
+abbrev pub are_in_order : List Declared → Bool
+are_in_order [] = true
+are_in_order (d ∷ ds) = are_behind d ds && are_in_order ds
+
+-- whether a token of a file is the name of a local or stands in its scope
+abbrev pub is_within : Declared → ℕ → ℕ → Bool
+is_within d n t = nat_eq d.file n && (nat_eq d.name t || (nat_le d.scope.from t && nat_lt t d.scope.to))
+
+-- the same of an object of the package, where any token will do
+abbrev pub may_mean : Block → Declared → ℕ → ℕ → Bool
+may_mean block.Package d n t = true
+may_mean (block.Local i) d n t = is_within d n t
+
+-- the functions among declarations, in order
+abbrev pub functions_among : List Declared → List Declared
+functions_among [] = []
+functions_among (d ∷ ds) = if is_function d.entity then d ∷ functions_among ds else functions_among ds
+
+-- whether a local stands inside a function, with its scope
+abbrev pub lies_in : Declared → Declared → Bool
+lies_in g d = nat_eq g.file d.file && nat_le g.scope.from d.name && nat_lt d.name g.scope.to && nat_le d.scope.to g.scope.to
+
+-- What every answer meets. The object of a token that the package declares has a declaration under its number; the token that
+-- declares an object has that object, so that no other object has this declaration. Objects of the package, and the locals of a
+-- function, are numbered in the order of files and places. A local is meant at its name and in its scope alone, which lie
+-- inside its function. Each function has its locals.
 pub record IsComplete (u : UsesView) : Type 0 where
   pub declared : (n t : ℕ) (o : Object) → object_of u n t ≡ Some o → is_some (declared_as u o) ≡ has_declaration o
+  pub own : (o : Object) (d : Declared) → declared_as u o ≡ Some d → object_of u d.file d.name ≡ Some o
+  pub scope : (n t : ℕ) (o : Object) (d : Declared) → object_of u n t ≡ Some o → declared_as u o ≡ Some d → may_mean d.block d n t ≡ true
+  pub order : are_in_order u.package_level ≡ true
+  pub local_order : (f : ℕ) (ds : List Declared) → slice_get u.locals f ≡ Some ds → are_in_order ds ≡ true
+  pub package_block : (n : ℕ) (d : Declared) → slice_get u.package_level n ≡ Some d → is_package d.block ≡ true
+  pub local_block : (f n : ℕ) (d : Declared) → local_of u f n ≡ Some d → is_package d.block ≡ false
+  pub inside : (f n : ℕ) (g d : Declared) → slice_get (functions_among u.package_level) f ≡ Some g → local_of u f n ≡ Some d → lies_in g d ≡ true
   pub functions : length u.locals ≡ count_functions u.package_level

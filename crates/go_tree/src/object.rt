@@ -1,6 +1,6 @@
 //! What names mean.
 
-use crate::context::{Entity, Scope};
+use crate::context::{Block, Entity, Scope};
 
 /// A predeclared name of the profile (Go specification: Predeclared identifiers).
 #[derive(Clone, Copy, Debug, PartialEq, Eq)]
@@ -52,6 +52,10 @@ pub struct Declared {
     /// The number of the token of its name.
     pub name: u32,
     pub entity: Entity,
+    /// The innermost block around it.
+    pub block: Block,
+    /// Its scope, if it is a local; of a function the tokens of its declaration.
+    pub scope: Scope,
 }
 
 /// Where a name has a meaning.

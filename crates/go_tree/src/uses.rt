@@ -1,9 +1,10 @@
 //! What the names of a package mean, by token.
 
-ghost use Rattle.std.specs.Prelude.{◌≡◌, Some, is_some, length, map, slice_get};
+ghost use Rattle.std.specs.Prelude.{◌≡◌, true, Some, is_some, length, map, slice_get};
 ghost use Rattle.std.specs.Option.{option_map};
+ghost use Rattle.go_tree.specs.declared.object.Declared.{Declared};
 ghost use Rattle.go_tree.specs.declared.object.Object.{Object};
-ghost use Rattle.go_tree.specs.Uses.{object_of, object_in, local_of, declared_as, has_declaration, IsComplete};
+ghost use Rattle.go_tree.specs.Uses.{object_of, object_in, local_of, declared_as, has_declaration, may_mean, are_in_order, IsComplete};
 
 use crate::object::{Declared, Object};
 use std::marker::Model;
@@ -11,7 +12,8 @@ use std::marker::Model;
 /// What each name of a package means, and where the objects of the package and of its functions are declared.
 ///
 /// It is a table by token, so each answer takes constant time. Each object of the package or of a function that a token means
-/// has its declaration here.
+/// has a declaration under its number, and the token that declares it has it as its object. Objects are numbered in the order of
+/// files and places, and a local is meant in its scope alone.
 #[derive(Debug, Drop)]
 pub struct Uses {
     objects: Vec<Vec<Option<Object>>>,
@@ -58,6 +60,8 @@ impl Uses {
     pub fn object(&self, file: usize, token: usize) -> Option<Object>
         ensures object { result ≡ object_of self.now file token }
         ensures declared { (o : Object) → result ≡ Some o → is_some (declared_as self.now o) ≡ has_declaration o }
+        ensures complete { IsComplete self.now }
+        ensures scope { (o : Object) (d : Declared) → result ≡ Some o → declared_as self.now o ≡ Some d → may_mean d.block d file token ≡ true }
     {
         object_in(&self.objects, file, token)
     }
@@ -75,7 +79,8 @@ impl Uses {
 
     /// The objects of the package, in order of files and places.
     pub fn package_objects(&self) -> &[Declared]
-        ensures { result.now ≡ self.now.package_level }
+        ensures objects { result.now ≡ self.now.package_level }
+        ensures order { are_in_order result.now ≡ true }
     {
         &self.package_level
     }

@@ -9,3 +9,13 @@ returns-clause-declared c o e =
     let whole : IsComplete u = subst IsComplete c.self.view_is c.self.invariant in
     let here : object_of u c.args.file c.args.token ≡ c.object_in.result = grind (arith, common_steps) in
     whole.declared c.args.file c.args.token o (here ∙ e)
+
+pub returns-clause-scope : goal.returns-clause-scope
+returns-clause-scope c o d e f =
+    let u : UsesView = c.args.self.now in
+    let whole : IsComplete u = subst IsComplete c.self.view_is c.self.invariant in
+    let here : object_of u c.args.file c.args.token ≡ c.object_in.result = grind (arith, common_steps) in
+    whole.scope c.args.file c.args.token o d (here ∙ e) f
+
+pub returns-clause-complete : goal.returns-clause-complete
+returns-clause-complete c = subst IsComplete c.self.view_is c.self.invariant
