@@ -20,11 +20,11 @@ use Rattle.go_rewrite.specs.Rewriting.{Rewrite, own, new_items, edits, IsRange, 
 use Rattle.go_rewrite.proofs.Numbers.{same_start, same_end, token_behind, range_items, front_line, own_range}
 use Rattle.go_rewrite.proofs.Parts.{Swap, swaps_of, swaps}
 
-token_start : (file at n : ℕ) → (span file at n).start ≡ at
+pub token_start : (file at n : ℕ) → (span file at n).start ≡ at
 unfolding span
 token_start file at n = refl
 
-token_end : (file at n : ℕ) → (span file at n).end ≡ at + n
+pub token_end : (file at n : ℕ) → (span file at n).end ≡ at + n
 unfolding span
 token_end file at n = refl
 
@@ -35,7 +35,7 @@ pub record Head (ps : List (List ℕ)) : Type 0 where
   pub is : ps ≡ piece ∷ rest
   pub token : is_token piece ≡ true
 
-head_of : (ps : List (List ℕ)) → begins_with_token ps ≡ true → Head ps
+pub head_of : (ps : List (List ℕ)) → begins_with_token ps ≡ true → Head ps
 head_of [] h = cc
 head_of (p ∷ ps) h = record { piece = p; rest = ps; is = refl; token = h }
 
@@ -54,14 +54,14 @@ module _ (file : ℕ) (whole : List (List ℕ)) (cut : Cut whole []) where
   ordered = tokens_ordered file 0 whole true
 
   -- The number of a written token that begins where a piece does, or ends where one does.
-  number_at : (front : List (List ℕ)) (p : List ℕ) (rest : List (List ℕ)) (i : ℕ) (t : Token) → whole ≡ front ++ p ∷ rest → is_token p ≡ true → slice_get (tokens file 0 whole true) i ≡ Some t → IsWritten t → t.span.start ≡ width (join front) → i ≡ length (items front false)
+  pub number_at : (front : List (List ℕ)) (p : List ℕ) (rest : List (List ℕ)) (i : ℕ) (t : Token) → whole ≡ front ++ p ∷ rest → is_token p ≡ true → slice_get (tokens file 0 whole true) i ≡ Some t → IsWritten t → t.span.start ≡ width (join front) → i ≡ length (items front false)
   number_at front p rest i t w h e f s =
       let u : Token = token file (token_kind p) (width (join front)) (width p) in
       let piece : is_piece p ≡ true = (cut_second front (p ∷ rest) [] (subst (λ x. Cut x []) w cut)).0 in
       let at : slice_get (tokens file 0 whole true) (length (items front false)) ≡ Some u = ap (λ x. slice_get (tokens file 0 x true) (length (items front false))) w ∙ token_behind file front p rest true h in
       same_start (0 + width (join whole)) (tokens file 0 whole true) i (length (items front false)) t u ordered e at f (omega (arith, token_start file (width (join front)) (width p), token_end file (width (join front)) (width p), piece_some p piece)) (s ∙ sym (token_start file (width (join front)) (width p)))
 
-  number_to : (front : List (List ℕ)) (p : List ℕ) (rest : List (List ℕ)) (i : ℕ) (t : Token) → whole ≡ front ++ p ∷ rest → is_token p ≡ true → slice_get (tokens file 0 whole true) i ≡ Some t → IsWritten t → t.span.end ≡ width (join front) + width p → i ≡ length (items front false)
+  pub number_to : (front : List (List ℕ)) (p : List ℕ) (rest : List (List ℕ)) (i : ℕ) (t : Token) → whole ≡ front ++ p ∷ rest → is_token p ≡ true → slice_get (tokens file 0 whole true) i ≡ Some t → IsWritten t → t.span.end ≡ width (join front) + width p → i ≡ length (items front false)
   number_to front p rest i t w h e f s =
       let u : Token = token file (token_kind p) (width (join front)) (width p) in
       let piece : is_piece p ≡ true = (cut_second front (p ∷ rest) [] (subst (λ x. Cut x []) w cut)).0 in

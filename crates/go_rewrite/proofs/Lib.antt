@@ -3,6 +3,7 @@ mod ExampleCalls
 mod ExampleHoles
 mod ExampleSwitch
 mod ExampleWindows
+mod Excerpts
 mod Numbers
 mod Parts
 mod Rewritten

@@ -82,7 +82,7 @@ same_changes (r ∷ rs) =
     ap (λ l. (let x : Change = record { from = r.from; upto = r.upto; words = l } in x) ∷ to_changes (swaps rs)) (kinds_read r.new (own r.alone))
     ∙ ap (λ l. (let x : Change = record { from = r.from; upto = r.upto; words = words r } in x) ∷ l) (same_changes rs)
 
-drop_map : {A B : Type 0} (f : A → B) (n : ℕ) (xs : List A) → drop n (map f xs) ≡ map f (drop n xs)
+pub drop_map : {A B : Type 0} (f : A → B) (n : ℕ) (xs : List A) → drop n (map f xs) ≡ map f (drop n xs)
 drop_map f zero xs = refl
 drop_map f (suc n) [] = refl
 drop_map f (suc n) (x ∷ xs) = drop_map f n xs

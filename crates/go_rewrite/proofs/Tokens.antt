@@ -27,7 +27,7 @@ among_get (u ∷ ts) (suc i) t e = inr (among_get ts i t e)
 apart : (i k : ℕ) → i ≤ k → (i ≡ k) ⊎ (i < k)
 apart i k le = grind arith
 
-some_range : (n : ℕ) (ts : List Token) (from upto start end : ℕ) → AreOrdered 0 (map span_of ts) n → IsRange ts from upto start end → start < end
+pub some_range : (n : ℕ) (ts : List Token) (from upto start end : ℕ) → AreOrdered 0 (map span_of ts) n → IsRange ts from upto start end → start < end
 some_range n ts from upto start end o r = elim (apart from (upto - 1) (omega (arith, r.order))) [
   | inl same ↦
       let one : Some r.first ≡ Some r.last = sym r.has_first ∙ ap (slice_get ts) same ∙ r.has_last in
@@ -37,7 +37,7 @@ some_range n ts from upto start end o r = elim (apart from (upto - 1) (omega (ar
   | inr lt ↦ omega (arith, r.begins, r.ends, r.first_written, r.last_written, earlier 0 n ts from (upto - 1) r.first r.last o lt r.has_first r.has_last)
 ]
 
-abbrev spans_of : (n : ℕ) (ts : List Token) (from upto start end : ℕ) → AreOrdered 0 (map span_of ts) n → IsRange ts from upto start end → Spans ts start end
+abbrev pub spans_of : (n : ℕ) (ts : List Token) (from upto start end : ℕ) → AreOrdered 0 (map span_of ts) n → IsRange ts from upto start end → Spans ts start end
 spans_of n ts from upto start end o r = record {
   first = r.first;
   last = r.last;

@@ -1,16 +1,17 @@
 // Laws of texts in which ranges are replaced.
 
-ghost use Rattle.std.specs.Prelude.{ℕ, List, Option};
+ghost use Rattle.std.specs.Prelude.{◌≡◌, ◌+◌, ◌++◌, ℕ, List, Option};
 ghost use Rattle.go_base.specs.declared.Span.{Span};
 ghost use Rattle.go_tokens.specs.declared.token.Token.{Token};
 ghost use Rattle.go_tokens.specs.Tokens.{kinds};
-ghost use Rattle.go_tokens.specs.Lexing.{Lexes};
+ghost use Rattle.go_tokens.specs.Lexing.{width, Lexes};
 ghost use Rattle.go_tokens.specs.Editing.{old_text};
 ghost use Rattle.go_grammar.specs.declared.kind.Category.{Category};
 ghost use Rattle.go_grammar.specs.Trees.{Tree};
 ghost use Rattle.go_grammar.specs.Grammar.{Derives};
 ghost use Rattle.go_splice.specs.Places.{changed};
-ghost use Rattle.go_rewrite.specs.Rewriting.{Rewrite, edits, changes, new_tree, TextsFit, IsTail, NewTokens, IsRewriting, IsFileRewriting, NewFile};
+ghost use Rattle.go_rewrite.specs.Excerpts.{Excerpt};
+ghost use Rattle.go_rewrite.specs.Rewriting.{Rewrite, edits, changes, new_tree, IsRange, TextsFit, IsTail, NewTokens, IsRewriting, IsFileRewriting, NewFile};
 
 /// Where ranges of a text are replaced, by the numbers of their tokens, and a text is appended, the new text has the old tokens
 /// with those ranges replaced by the tokens that the new texts have alone, and behind them the tokens of what is appended.
@@ -27,4 +28,10 @@ pub fn rewritten_text()
 /// The same of the bytes of a file, to which nothing or a declaration is appended: the new bytes have this lexing and this tree.
 pub fn rewritten_file()
     ensures { (file : ℕ) (old new : List ℕ) (ts : List Token) (cs : List Span) (t : Tree) (rs : List Rewrite) (rest tail : List ℕ) (us : List Token) (added : Option Tree) → IsFileRewriting file old new ts cs t rs rest tail us added → NewFile file new ts t rs rest tail us added }
+{}
+
+/// The text from a token of a text up to the end of a later one has these tokens when it stands alone, comments inside
+/// included, and a semicolon at its end where its last token ends a statement; so it may be copied into another text.
+pub fn excerpts_stand()
+    ensures { (file : ℕ) (text before inner behind : List ℕ) (ts : List Token) (cs : List Span) (from upto : ℕ) → Lexes file text ts cs → text ≡ before ++ (inner ++ behind) → (range : IsRange ts from upto (width before) (width before + width inner)) → Excerpt file text ts from upto range.last inner }
 {}

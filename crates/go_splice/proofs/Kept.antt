@@ -18,11 +18,11 @@ use Rattle.go_splice.specs.Replacing.{Edge}
 use Rattle.go_splice.specs.Places.{Stays, carry, carries}
 use Rattle.go_splice.proofs.Results.{led, rule_led, led_words, Closed, closed_behind, not_yet, ends_closed}
 
-false_kept : (a b : Bool) → (b ≡ true → a ≡ true) → a ≡ false → b ≡ false
+pub false_kept : (a b : Bool) → (b ≡ true → a ≡ true) → a ≡ false → b ≡ false
 false_kept a true h e = let y : a ≡ true = h refl in cc
 false_kept a false h e = refl
 
-ends_edge : (c : Category) (k : Kind) (w w' : Option TokenKind) → (is_word w' token.LeftBrace ≡ true → is_word w token.LeftBrace ≡ true) → ends c k w ≡ true → ends c k w' ≡ true
+pub ends_edge : (c : Category) (k : Kind) (w w' : Option TokenKind) → (is_word w' token.LeftBrace ≡ true → is_word w token.LeftBrace ≡ true) → ends c k w ≡ true → ends c k w' ≡ true
 ends_edge c k w w' h e = go (is_type_place c) (is_type_literal k) (is_word w token.LeftBrace) (is_word w' token.LeftBrace) h e
   where
     go : (a b x y : Bool) → (y ≡ true → x ≡ true) → (if a then true else (if b then (if x then false else true) else true)) ≡ true → (if a then true else (if b then (if y then false else true) else true)) ≡ true

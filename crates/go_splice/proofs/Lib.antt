@@ -6,6 +6,7 @@ pub mod Changes
 pub mod Depths
 pub mod Examples
 pub mod Kept
+pub mod Mild
 pub mod Order
 pub mod Places
 pub mod Results

@@ -21,7 +21,7 @@ use Rattle.go_splice.proofs.Order.{derives_ordered, places_within, places_ascend
 use Rattle.go_splice.proofs.Places.{Text, became_text}
 use Rattle.go_splice.proofs.Sites.{sites_fit, sites_out}
 
-run_order : (ts : List TokenKind) (l : Items) (new : Trees) (a b : ℕ) → Run ts l new a b → a ≤ b
+pub run_order : (ts : List TokenKind) (l : Items) (new : Trees) (a b : ℕ) → Run ts l new a b → a ≤ b
 run_order ts l none a b r = absurd r
 run_order ts l (skip ps) a b r = absurd r
 run_order ts l (more p none) a b r = omega (arith, r.0, r.2, derives_order ts p (item l) r.1)

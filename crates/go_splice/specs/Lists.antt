@@ -1,12 +1,14 @@
 -- Parts of a tree by their numbers: the parts of each node in order inside it, the subtree at the end of a path, and so many
 -- adjoining items of a list.
-use Rattle.std.specs.Prelude.{◌≡◌, ℕ, zero, suc, ◌<◌, ◌≤◌, Bool, true, false, List, [], ◌∷◌, Option, Some, None}
+use Rattle.std.specs.Prelude.{◌≡◌, ℕ, zero, suc, ◌<◌, ◌≤◌, Bool, true, false, List, [], ◌∷◌, Option, Some, None, slice_get}
 use Rattle.go_tokens.specs.declared.token.TokenKind.{TokenKind}
+use Rattle.go_tokens.specs.declared.token.TokenKind.TheVariants as token
 use Rattle.go_grammar.specs.declared.kind.Category.{Category}
-use Rattle.go_grammar.specs.Rules.{Items, Rule, End, Then, Maybe, Unless, Many}
+use Rattle.go_grammar.specs.declared.kind.Category.TheVariants as category
+use Rattle.go_grammar.specs.Rules.{Items, Lines, Open, Rule, End, Then, Maybe, Unless, Many}
 use Rattle.go_grammar.specs.Trees.{Tree, node, Trees, none, more, skip, first, last, parts}
 use Rattle.go_grammar.specs.Grammar.{Derives}
-use Rattle.go_splice.specs.Replacing.{asked_at}
+use Rattle.go_splice.specs.Replacing.{moved, Edge, asked_at}
 use Rattle.go_splice.specs.Places.{has_items}
 
 abbrev mutual
@@ -62,3 +64,21 @@ run_at zero n ps = so_many (suc n) ps
 run_at (suc f) n none = none
 run_at (suc f) n (more p ps) = run_at f n ps
 run_at (suc f) n (skip ps) = run_at f n ps
+
+-- Every category but that of the clauses of a switch. A text of it depends on no closing brace behind it.
+abbrev pub no_clause : Category → Bool
+no_clause category.Clause = false
+no_clause c = true
+
+-- The tokens from i up to j also stand among the tokens us, from `to` on, and what is behind them there doesn't change them:
+-- it is no opening brace, and behind a closing parenthesis no word that begins a result, unless the old one is.
+pub record Elsewhere (ts us : List TokenKind) (i j to : ℕ) : Type 0 where
+  pub same : (n : ℕ) → i ≤ n → n < j → slice_get us (moved i to n) ≡ slice_get ts n
+  pub edge : Edge ts us j (moved i to j)
+
+-- the statements of a block, and those of a clause
+abbrev pub in_block : Items
+in_block = Lines true category.Statement token.Semicolon token.RightBrace
+
+abbrev pub in_clause : Items
+in_clause = Open category.Statement token.Semicolon

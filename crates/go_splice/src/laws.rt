@@ -4,14 +4,14 @@ ghost use Rattle.std.specs.Prelude.{◌≡◌, ◌+◌, ◌<◌, ◌≤◌, ℕ,
 ghost use Rattle.go_tokens.specs.declared.token.TokenKind.{TokenKind};
 ghost use Rattle.go_grammar.specs.declared.kind.Category.{Category};
 ghost use Rattle.go_grammar.specs.Grammar.{Derives, IsAt, IsFile, rule, agrees, count};
-ghost use Rattle.go_grammar.specs.Rules.{Items};
+ghost use Rattle.go_grammar.specs.Rules.{Items, item};
 ghost use Rattle.go_grammar.specs.Trees as trees;
 ghost use Rattle.go_grammar.specs.Trees.{Tree, Trees, node, first, last, depth};
 ghost use Rattle.go_grammar.specs.declared.kind.Kind.{Kind};
 ghost use Rattle.go_grammar.specs.declared.kind.Level.{Level};
 ghost use Rattle.go_grammar.specs.Categories.{place_of};
 ghost use Rattle.go_splice.specs.Replacing.{Edge, Seam, subtree_at, asked_at, replace, agree, Step, Replaces, AreReplaced, takes_level, moved, shifts, onto, items_after, Run};
-ghost use Rattle.go_splice.specs.Lists.{Subtree, items_at, has_run, run_at};
+ghost use Rattle.go_splice.specs.Lists.{Subtree, items_at, has_run, run_at, no_clause, Elsewhere, in_block, in_clause};
 ghost use Rattle.go_splice.specs.Sites as sites;
 ghost use Rattle.go_splice.specs.Sites.{Site, patch_of, local_range, run_range, site_ranges, alone, AllSit, AllWithin, all_clear};
 ghost use Rattle.go_splice.specs.Places.{Patch, put, carry, carries, become, range, places, Outside, Ascending, Stays, agreed, Fits, Change, changed, moved_by, ranges, Stand, with_declaration};
@@ -153,4 +153,21 @@ pub fn subtrees_stand()
 /// Adjoining items of a list are a run, from the first token of the first up to behind the last one of the last.
 pub fn items_stand()
     ensures { (ts : List TokenKind) (c : Category) (k : Kind) (a b : ℕ) (ps : Trees) (f n : ℕ) (l : Items) → Derives ts c (node k a b ps) → items_at f (rule (place_of c) k) ≡ Some l → has_run f n ps ≡ true → Run ts l (run_at f n ps) (run_range f n ps).from (run_range f n ps).upto }
+{}
+
+/// A text that is no clause stands also where the same tokens stand and another one is behind them, but for an opening brace and
+/// what a result begins with.
+pub fn text_stands_elsewhere()
+    ensures { (ts us : List TokenKind) (i j to : ℕ) → Elsewhere ts us i j to → (c : Category) (t : Tree) → no_clause c ≡ true → i ≤ first t → last t ≤ j → Derives ts c t → Derives us c (carry (moved i to) t) }
+{}
+
+/// The same for a run of items: so statements with a closing brace behind them stand before a semicolon too.
+pub fn run_stands_elsewhere()
+    ensures { (ts us : List TokenKind) (i j to : ℕ) → Elsewhere ts us i j to → (l : Items) (new : Trees) → no_clause (item l) ≡ true → Run ts l new i j → Run us l (carries (moved i to) new) to (moved i to j) }
+{}
+
+/// Statements of a block are statements of a clause, and the other way round.
+pub fn statements_stand_in_both()
+    ensures clause { (ts : List TokenKind) (new : Trees) (a b : ℕ) → Run ts in_block new a b → Run ts in_clause new a b }
+    ensures block { (ts : List TokenKind) (new : Trees) (a b : ℕ) → Run ts in_clause new a b → Run ts in_block new a b }
 {}

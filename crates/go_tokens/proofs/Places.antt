@@ -223,18 +223,18 @@ new_range file new stands = record {
     blanks_first (b ∷ bs) p ps h k = let parts = both (is_blank b) (list_all is_blank bs) h in or_right _ _ (and_both _ _ parts.0 (blanks_first bs p ps parts.1 k))
 
 -- The old range of an edit, among the pieces from a place on.
-record OldRange (ps : List (List ℕ)) (kept old rest : List ℕ) (last : Token) : Type 0 where
-  first_pieces : List (List ℕ)
-  range : Range
-  rest_pieces : List (List ℕ)
-  is : ps ≡ first_pieces ++ (pieces_of range ++ rest_pieces)
-  kept_is : join first_pieces ≡ kept
-  old_is : join (pieces_of range) ≡ old
-  rest_is : join rest_pieces ≡ rest
-  is_old : IsOld range
-  last_is : ends_statement_kind last.kind ≡ ends_statement range.last
+pub record OldRange (ps : List (List ℕ)) (kept old rest : List ℕ) (last : Token) : Type 0 where
+  pub first_pieces : List (List ℕ)
+  pub range : Range
+  pub rest_pieces : List (List ℕ)
+  pub is : ps ≡ first_pieces ++ (pieces_of range ++ rest_pieces)
+  pub kept_is : join first_pieces ≡ kept
+  pub old_is : join (pieces_of range) ≡ old
+  pub rest_is : join rest_pieces ≡ rest
+  pub is_old : IsOld range
+  pub last_is : ends_statement_kind last.kind ≡ ends_statement range.last
 
-old_range : (file : ℕ) (whole front ps : List (List ℕ)) (kept old rest : List ℕ) (at : ℕ) → Cut whole [] → whole ≡ front ++ ps → join ps ≡ kept ++ (old ++ rest) → at ≡ width (join front) → (spans : Spans (tokens file 0 whole true) (at + width kept) (at + width kept + width old)) → OldRange ps kept old rest spans.last
+pub old_range : (file : ℕ) (whole front ps : List (List ℕ)) (kept old rest : List ℕ) (at : ℕ) → Cut whole [] → whole ≡ front ++ ps → join ps ≡ kept ++ (old ++ rest) → at ≡ width (join front) → (spans : Spans (tokens file 0 whole true) (at + width kept) (at + width kept + width old)) → OldRange ps kept old rest spans.last
 old_range file whole front ps kept old rest at c w j a spans = record {
   first_pieces = m1;
   range = record { before = m2; last = l.piece; blanks = [] };
