@@ -72,6 +72,10 @@ CountsRun status f f2 s s2 k k2 =
     ⊎ ((status ≡ 5) × (f2 ≡ f) × Rose s s2 × (k2 ≡ k))
     ⊎ ((status ≡ 6) × (f2 ≡ f) × (s2 ≡ s) × Rose k k2)
 
+-- a status that a run ends with
+abbrev pub IsStatus : ℕ → Type 0
+IsStatus status = (status ≡ 0) ⊎ (status ≡ 2) ⊎ (status ≡ 3) ⊎ (status ≡ 4) ⊎ (status ≡ 5) ⊎ (status ≡ 6) ⊎ (status ≡ 8)
+
 -- What the words tell of a status: where they are not taken it is 2, memory and the sink aside; else it is not 2.
 abbrev pub FitsWords : Option (List ℕ) → ℕ → Type 0
 FitsWords None status = (status ≡ 2) ⊎ (status ≡ 6) ⊎ (status ≡ 8)

@@ -5,7 +5,7 @@ ghost use Rattle.std.specs.Vec.Iter.{into_iter_items};
 ghost use Rattle.std.specs.IoError.{error_kind};
 ghost use Rattle.std.specs.Process.{exit_status};
 ghost use Rattle.clone_serve.specs.Arguments.{words_behind_name};
-ghost use Rattle.clone_serve.specs.Serving.{due_status, FitsScript, IsWhole, Writes, dir_of, texts_of, CountsRun, FitsWords};
+ghost use Rattle.clone_serve.specs.Serving.{due_status, FitsScript, IsWhole, Writes, dir_of, texts_of, CountsRun, FitsWords, IsStatus};
 
 use crate::serve::serve;
 use port_io::{DirFolder, FileSink, FileSource, Folder, Sink, Source};
@@ -19,6 +19,7 @@ use std::{env, io};
 /// The status where memory ran out.
 const NO_MEMORY: u8 = 8;
 
+/// The arguments behind the first.
 fn behind_first(alloc: Global, args: Args) -> Result<Vec<String>, AllocError>
     ensures { IfOk result (λ words. words.items ≡ drop 1 (into_iter_items args)) }
 {
@@ -65,7 +66,9 @@ pub fn serve_arguments<F: Folder, S: Source, K: Sink>(
 }
 
 /// Runs the program over the folders of the file system, standard input and standard output.
-pub fn run<R: Env + Files + Input + Print + AllocGlobal + Copy>(rt: R) -> ExitCode {
+pub fn run<R: Env + Files + Input + Print + AllocGlobal + Copy>(rt: R) -> ExitCode
+    ensures { IsStatus (exit_status result) }
+{
     let mut folder = DirFolder::new(rt);
     let mut script = FileSource::new(rt.reader());
     let mut out = FileSink::new(io::writer(&rt));

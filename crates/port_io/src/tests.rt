@@ -1,5 +1,7 @@
 // The adapters over std: no clause says what a file system holds, nor that a call can succeed.
 
+ghost use Rattle.std.specs.Prelude.{◌≡◌, IsSome};
+
 use crate::{DirFolder, FileSink, FileSource, Folder, FolderError, Sink, SinkError, Source};
 use go_base::Name;
 use std::io::{ErrorKind, Write};
@@ -40,45 +42,45 @@ fn passes_on_what_streams_do(rt: HostRuntime) -> Result<(), Fail> {
     Ok(())
 }
 
-/// The names in a folder, in byte order.
-fn names_in<F: Folder>(folder: &mut F, dir: &str) -> Result<Vec<Name>, FolderError> {
-    folder.select(dir)?;
+/// The names in the chosen folder, in byte order.
+fn sorted_names<F: Folder>(folder: &mut F) -> Result<Vec<Name>, FolderError>
+    requires { IsSome (F.chosen folder.old) }
+    ensures { F.chosen folder.new ≡ F.chosen folder.old }
+{
     let mut names = folder.names()?;
     names.sort()?;
     Ok(names)
 }
 
-/// Puts a file into a folder of the file system, and reads it back through the adapter.
-fn put_and_read(rt: &HostRuntime, dir: &str, name: &Name) -> Result<Vec<u8>, Fail> {
+#[test]
+fn fails_at_what_is_missing(rt: HostRuntime) -> Result<(), Fail> {
+    let name = Name::of(rt.alloc(), b"a.go")?;
     let mut folder = DirFolder::new(rt.clone()?);
-    folder.select(dir)?;
-    folder.write(name, b"package p\n")?;
-    let bytes = folder.read(name)?;
-    Ok(Vec::from_slice(rt.alloc(), bytes.as_slice())?)
+    folder.select("port_io_missing")?;
+    assert_eq!(rt; folder.names().err(), Some(FolderError::Failed));
+    assert_eq!(rt; folder.read(&name).err(), Some(FolderError::Failed));
+    assert_eq!(rt; folder.write(&name, b""), Err(FolderError::Failed));
+    Ok(())
 }
 
 #[test]
 fn reaches_the_file_system(rt: HostRuntime) -> Result<(), Fail> {
-    let alloc = rt.alloc();
-    let name = Name::of(alloc, b"a.go")?;
+    let name = Name::of(rt.alloc(), b"a.go")?;
+    // A folder is no plain file.
+    fs::create_dir_all(&rt, "port_io_files/inner.go")?;
     let mut folder = DirFolder::new(rt.clone()?);
-    // The folder is missing.
-    assert_eq!(rt;
-        names_in(&mut folder, "port_io_test").err(),
-        Some(FolderError::Failed)
-    );
-    fs::create_dir(&rt, "port_io_test")?;
-    // This is no plain file.
-    fs::create_dir(&rt, "port_io_test/inner.go")?;
-    for dir in ["port_io_test", "port_io_test/"] {
-        let bytes = put_and_read(&rt, dir, &name)?;
-        assert_eq!(rt; bytes.as_slice(), b"package p\n".as_slice());
-        let names = names_in(&mut folder, dir)?;
-        assert_eq!(rt; names.as_slice(), [name.clone()?].as_slice());
+    for dir in ["port_io_files", "port_io_files/"] {
+        folder.select(dir)?;
+        folder.write(&name, dir.as_bytes())?;
+        let text = fs::read_to_string(&rt, "port_io_files/a.go")?;
+        assert_eq!(rt; text.as_str(), dir);
+        assert_eq!(rt; folder.read(&name)?.as_slice(), dir.as_bytes());
+        assert_eq!(rt;
+            sorted_names(&mut folder)?.as_slice(),
+            [name.clone()?].as_slice()
+        );
     }
-    let text = fs::read_to_string(&rt, "port_io_test/a.go")?;
-    assert_eq!(rt; text.as_str(), "package p\n");
-    fs::remove_dir_all(&rt, "port_io_test")?;
+    fs::remove_dir_all(&rt, "port_io_files")?;
     Ok(())
 }
 
@@ -97,7 +99,9 @@ fn lists_many_files(rt: HostRuntime) -> Result<(), Fail> {
         expected.push(Name::of(alloc, name.as_bytes())?)?;
     }
     expected.sort()?;
-    let names = names_in(&mut DirFolder::new(rt.clone()?), "port_io_many")?;
+    let mut folder = DirFolder::new(rt.clone()?);
+    folder.select("port_io_many")?;
+    let names = sorted_names(&mut folder)?;
     fs::remove_dir_all(&rt, "port_io_many")?;
     assert_eq!(rt; names.as_slice(), expected.as_slice());
     Ok(())
