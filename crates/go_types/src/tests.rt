@@ -201,7 +201,6 @@ fn doubled_structs_of_a_type_that_is_defined_last(rt: HostRuntime) -> Result<(),
     let named = types.declare()?;
     let last = doubled(&rt, alloc, &mut types, named)?;
     define(&rt, &mut types, named, numbers);
-    types.settle()?;
     assert!(rt; comparable(&rt, &types, last));
     assert_eq!(rt; scalars(&rt, &types, last), u64::MAX);
     Ok(())
@@ -267,7 +266,6 @@ fn a_chain_of_declared_types_backwards(rt: HostRuntime) -> Result<(), Fail> {
     let int = number(&rt, &mut types, Shape::Int(Kind::Int))?;
     let chain = declared_before(&rt, alloc, &mut types)?;
     let first = define_backwards(&rt, &mut types, &chain, int);
-    types.settle()?;
     assert_eq!(rt; scalars(&rt, &types, first), 1);
     Ok(())
 }
@@ -288,7 +286,6 @@ fn a_chain_of_arrays_of_a_type_that_is_defined_last(rt: HostRuntime) -> Result<(
     let named = types.declare()?;
     let last = arrays_of(&rt, &mut types, named)?;
     define(&rt, &mut types, named, int);
-    types.settle()?;
     assert_eq!(rt; scalars(&rt, &types, last), 1);
     Ok(())
 }
