@@ -20,11 +20,11 @@ use Rattle.go_types.proofs.Judgements.{right_found}
 pub array_waits : (t : Table) (verdicts : List (Option Verdict)) (k e : ℕ) → slice_get verdicts e ≡ Some None → Awaits t verdicts (shape.Array k e) e
 array_waits t verdicts k e is = record { place = 0; held_is = refl; unknown = is }
 
-pub struct_waits : (t : Table) (verdicts : List (Option Verdict)) (fs : List Field) (part : ℕ) → IsUnknownField verdicts fs part → Awaits t verdicts (shape.Struct fs) part
-struct_waits t verdicts fs part h = record {
-  place = h.place;
-  held_is = subst (λ p. slice_get (map (λ f. f.ty) fs) h.place ≡ Some p) h.type_is (type_of_field fs h.place h.field h.field_is);
-  unknown = h.unknown;
+pub struct_waits : (t : Table) (verdicts : List (Option Verdict)) (fs : List Field) (place part : ℕ) (h : IsUnknownField verdicts fs place) → part ≡ h.field.ty → Awaits t verdicts (shape.Struct fs) part
+struct_waits t verdicts fs place part h e = record {
+  place = place;
+  held_is = subst (λ p. slice_get (map (λ f. f.ty) fs) place ≡ Some p) (sym e) (type_of_field fs place h.field h.field_is);
+  unknown = subst (λ p. slice_get verdicts p ≡ Some None) (sym e) h.unknown;
 }
 
 get_map : {A B : Type 0} (f : A → B) (xs : List A) (i : ℕ) (x : A) → slice_get xs i ≡ Some x → slice_get (map f xs) i ≡ Some (f x)
@@ -37,10 +37,10 @@ pub open_told : (shapes : List Shape) (definitions : List (Option Definition)) (
 open_told shapes definitions n e = get_map (option_map (λ d. d.right)) definitions n None e
 
 -- a declared type with a right side
-pub right_told : (t : Table) (verdicts : List (Option Verdict)) (n r : ℕ) (f : Finding) → HasRightId t n r → AreVerdicts t verdicts → ((v : Verdict) → f ≡ finding.Known v → slice_get verdicts r ≡ Some (Some v)) → ((part : ℕ) → f ≡ finding.Waits part → (part ≡ r) × (slice_get verdicts r ≡ Some None)) → (f ≡ finding.Open → ⊥) → IsFinding t verdicts (shape.Named n) f
+pub right_told : (t : Table) (verdicts : List (Option Verdict)) (n r : ℕ) (f : Finding) → HasRightId t n r → AreVerdicts t verdicts → ((v : Verdict) → f ≡ finding.Known v → slice_get verdicts r ≡ Some (Some v)) → ((part place : ℕ) → f ≡ finding.Waits part place → (part ≡ r) × (slice_get verdicts r ≡ Some None)) → (f ≡ finding.Open → ⊥) → IsFinding t verdicts (shape.Named n) f
 right_told t verdicts n r (finding.Known v) h are known waits closed = right_found t n r v h (are r v (known v refl))
-right_told t verdicts n r (finding.Waits part) h are known waits closed =
-    let w = waits part refl in
+right_told t verdicts n r (finding.Waits part place) h are known waits closed =
+    let w = waits part place refl in
     record { place = 0; held_is = right_listed (slice_get t.rights n) part (subst (λ p. slice_get t.rights n ≡ Some (Some p)) (sym w.0) h); unknown = subst (λ p. slice_get verdicts p ≡ Some None) (sym w.0) w.1 }
 right_told t verdicts n r finding.Open h are known waits closed = absurd (closed refl)
 

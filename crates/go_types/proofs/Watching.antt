@@ -295,17 +295,17 @@ held_same shapes others definitions (shape.Named n) = refl
 
 found_verdict : (t : Table) (verdicts : List (Option Verdict)) (s : Shape) (f : Finding) → IsFinding t verdicts s f → IfSome (verdict_of f) (IsShapeVerdict t s)
 found_verdict t verdicts s (finding.Known v) h = h
-found_verdict t verdicts s (finding.Waits p) h = tt
+found_verdict t verdicts s (finding.Waits p k) h = tt
 found_verdict t verdicts s finding.Open h = tt
 
 found_open : (shapes : List Shape) (definitions : List (Option Definition)) (verdicts : List (Option Verdict)) (s : Shape) (f : Finding) → IsFinding (table_of shapes definitions) verdicts s f → awaited_by f ≡ None → verdict_of f ≡ None → IsOpen (table_of (shapes ++ s ∷ []) definitions) (length shapes)
 found_open shapes definitions verdicts s (finding.Known v) h a b = cc
-found_open shapes definitions verdicts s (finding.Waits p) h a b = cc
+found_open shapes definitions verdicts s (finding.Waits p k) h a b = cc
 found_open shapes definitions verdicts s finding.Open h a b = (h.0, get_last shapes s ∙ ap Some h.1, h.2)
 
 pub found_held : (shapes : List Shape) (definitions : List (Option Definition)) (verdicts : List (Option Verdict)) (s : Shape) (f : Finding) → IsFinding (table_of shapes definitions) verdicts s f → (p : ℕ) → awaited_by f ≡ Some p → Holds (table_of (shapes ++ s ∷ []) definitions) (length shapes) p × (slice_get verdicts p ≡ Some None)
 found_held shapes definitions verdicts s (finding.Known v) h p e = cc
-found_held shapes definitions verdicts s (finding.Waits q) h p e =
+found_held shapes definitions verdicts s (finding.Waits q k) h p e =
     let same : q ≡ p = cc in
     let holds : Holds (table_of (shapes ++ s ∷ []) definitions) (length shapes) q = record { its_shape = s; shape_is = get_last shapes s; place = h.place; held_is = ap (λ x. slice_get x h.place) (held_same (shapes ++ s ∷ []) shapes definitions s) ∙ h.held_is } in
     (subst (Holds (table_of (shapes ++ s ∷ []) definitions) (length shapes)) same holds, subst (λ r. slice_get verdicts r ≡ Some None) same h.unknown)

@@ -18,27 +18,25 @@ pub record Awaits (t : Table) (verdicts : List (Option Verdict)) (s : Shape) (pa
 
 abbrev pub IsFinding : Table → List (Option Verdict) → Shape → Finding → Type 0
 IsFinding t verdicts s (finding.Known v) = IsShapeVerdict t s v
-IsFinding t verdicts s (finding.Waits part) = Awaits t verdicts s part
+IsFinding t verdicts s (finding.Waits part place) = Awaits t verdicts s part
 IsFinding t verdicts s finding.Open = (n : ℕ) × (s ≡ shape.Named n) × (slice_get t.rights n ≡ Some None)
 
 -- what is to be said of the type, and what it waits for
 abbrev pub verdict_of : Finding → Option Verdict
 verdict_of (finding.Known v) = Some v
-verdict_of (finding.Waits part) = None
+verdict_of (finding.Waits part place) = None
 verdict_of finding.Open = None
 
 abbrev pub awaited_by : Finding → Option ℕ
 awaited_by (finding.Known v) = None
-awaited_by (finding.Waits part) = Some part
+awaited_by (finding.Waits part place) = Some part
 awaited_by finding.Open = None
 
--- a field of whose type nothing is known
-pub record IsUnknownField (verdicts : List (Option Verdict)) (fs : List Field) (part : ℕ) : Type 0 where
-  pub place : ℕ
+-- the place of a field of whose type nothing is known
+pub record IsUnknownField (verdicts : List (Option Verdict)) (fs : List Field) (place : ℕ) : Type 0 where
   pub field : Field
   pub field_is : slice_get fs place ≡ Some field
-  pub type_is : field.ty ≡ part
-  pub unknown : slice_get verdicts part ≡ Some None
+  pub unknown : slice_get verdicts field.ty ≡ Some None
 
 -- a type that waits for one of which something is known
 abbrev pub IsStaleAt : List (Option Verdict) → List (Option ℕ) → ℕ → Type 0

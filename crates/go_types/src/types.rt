@@ -124,7 +124,7 @@ impl Types {
         if let Some(number) = self.number_of(named) {
             self.definitions[number] = Some(Definition { right, underlying });
             match known(&self.verdicts, right) {
-                None => self.waits.wait(named, right),
+                None => self.waits.wait(named, right, 0),
                 Some(verdict) => learn(
                     &self.shapes,
                     &self.definitions,
@@ -158,7 +158,7 @@ impl Types {
         ensures answer { IfOk result (IsInternedIn self.old self.new shape.now) }
         ensures err { OnErr result (self.new ≡ self.old) }
     {
-        let found = find_out(&self.definitions, &self.verdicts, shape);
+        let found = find_out(&self.definitions, &self.verdicts, shape, 0);
         let place = add(
             self.alloc,
             &mut self.shapes,
@@ -404,8 +404,8 @@ fn push(
     verdicts.push(found.verdict())?;
     match waits.push() {
         Ok(()) => {
-            if let Finding::Waits(part) = found {
-                waits.wait(last, part);
+            if let Finding::Waits { part, place } = found {
+                waits.wait(last, part, place);
             }
             Ok(())
         }

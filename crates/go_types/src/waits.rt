@@ -18,12 +18,13 @@ pub struct Waits {
     links: Vec<Link>,
 }
 
-/// A list of those that wait for a type: the first one, and the next one behind a type that waits.
-/// The lists only say where to look.
+/// A list of those that wait for a type: the first one, and the next one behind a type that waits,
+/// with the place of what it waits for among its parts. The lists only say where to look.
 #[derive(Clone, Copy, Debug)]
 struct Link {
     first: Option<TypeId>,
     next: Option<TypeId>,
+    place: usize,
 }
 
 impl Model for Waits {
@@ -59,6 +60,7 @@ impl Waits {
         self.links.push(Link {
             first: None,
             next: None,
+            place: 0,
         })?;
         self.counts.push(0)?;
         match self.awaited.push(None) {
@@ -93,6 +95,14 @@ impl Waits {
         self.counts[part as usize]
     }
 
+    /// At which place among its parts that stands for which the type waits, or waited last.
+    pub fn place(&self, a: TypeId) -> usize {
+        match self.links.get(a as usize) {
+            Some(link) => link.place,
+            None => 0,
+        }
+    }
+
     /// The type waits no longer.
     pub fn stop(&mut self, a: TypeId)
         requires { a < length self.old }
@@ -101,15 +111,15 @@ impl Waits {
         leave(&mut self.awaited, &mut self.counts, a);
     }
 
-    /// The type waits for this one, and for no other.
-    pub fn wait(&mut self, a: TypeId, part: TypeId)
+    /// The type waits for this one, and for no other. It stands at this place among its parts.
+    pub fn wait(&mut self, a: TypeId, part: TypeId, place: usize)
         requires place { a < length self.old }
         requires part { part < length self.old }
         ensures { self.new ≡ slice_set self.old a (Some part) }
     {
         leave(&mut self.awaited, &mut self.counts, a);
         join(&mut self.awaited, &mut self.counts, a, part);
-        put_first(&mut self.links, a, part);
+        put_first(&mut self.links, a, part, place);
     }
 
     /// A type that waits for this one, if one is at hand.
@@ -176,13 +186,14 @@ fn leave_from(awaited: &mut [Option<TypeId>], counts: &mut [u64], count: usize)
 }
 
 /// Puts a type at the front of the list of those that wait for another one.
-fn put_first(links: &mut [Link], a: TypeId, part: TypeId) {
+fn put_first(links: &mut [Link], a: TypeId, part: TypeId, place: usize) {
     let first = match links.get(part as usize) {
         Some(link) => link.first,
         None => None,
     };
     if let Some(link) = links.get_mut(a as usize) {
         link.next = first;
+        link.place = place;
     }
     if let Some(link) = links.get_mut(part as usize) {
         link.first = Some(a);

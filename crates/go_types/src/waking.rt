@@ -74,7 +74,12 @@ fn visit(
             near,
         };
     }
-    match find_out(definitions, verdicts, shapes.get(a as usize)) {
+    match find_out(
+        definitions,
+        verdicts,
+        shapes.get(a as usize),
+        waits.place(a),
+    ) {
         Finding::Known(verdict) => {
             keep(verdicts, a, verdict);
             Progress {
@@ -82,8 +87,8 @@ fn visit(
                 near: a,
             }
         }
-        Finding::Waits(part) => {
-            waits.wait(a, part);
+        Finding::Waits { part, place } => {
+            waits.wait(a, part, place);
             Progress {
                 stale: progress.stale.saturating_sub(1),
                 near: progress.near,

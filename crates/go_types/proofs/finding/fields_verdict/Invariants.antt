@@ -5,5 +5,5 @@ use Rattle.go_types.specs.Verdicts.{AreVerdicts, IsFieldsVerdict}
 use Rattle.go_types.proofs.finding.fields_verdict.Given as goal
 
 -- the verdict is that of the fields passed so far
-abbrev pub invariant-loop-field : goal.invariant-loop-field
-invariant-loop-field l = (shapes : List Shape) → AreVerdicts (table_of shapes l.definitions) l.verdicts → IsFieldsVerdict (table_of shapes l.definitions) l.fields l.field-index l.verdict
+abbrev pub invariant-loop-place : goal.invariant-loop-place
+invariant-loop-place l = (shapes : List Shape) → AreVerdicts (table_of shapes l.definitions) l.verdicts → IsFieldsVerdict (table_of shapes l.definitions) l.fields l.place l.verdict
