@@ -78,6 +78,7 @@ all = record {
   three_structs = of_right 2 (array 3 (declared 3)) 6 refl (of_array 3 (declared 3) 2 (of_right 3 two_fields 2 refl two_scalars));
   empty_arrays = of_array 5 (array 0 int) 0 (of_array 0 int 1 (of_integer kind.Int));
   no_fields = of_structure [] none 0 of_none;
+  hollow_structs = of_array 4 (structure (named 97 ∷ named 98 ∷ []) (row (array 0 text ∷ array 0 text ∷ []))) 1 (of_structure (named 97 ∷ named 98 ∷ []) (row (array 0 text ∷ array 0 text ∷ [])) 0 (of_more (array 0 text) (row (array 0 text ∷ [])) 0 0 (of_array 0 text 1 of_text) (of_more (array 0 text) none 0 0 (of_array 0 text 1 of_text) of_none)));
   struct_type = struct_number;
   declared_type = declared_number;
 }

@@ -68,10 +68,10 @@ longer_kept shapes definitions new_definitions verdicts s o kept ok more h = rec
               shape_told (table_of (shapes ++ s ∷ []) new_definitions) i s v last (shape_verdict_longer shapes (shapes ++ s ∷ []) definitions new_definitions left more s v found)
         ]
 
-same_taken : {X : Type 0} {Y : Type 0} (xs : List X) (ys : List Y) (x : X) → length xs ≡ length ys → take (length ys) (xs ++ x ∷ []) ≡ xs
+pub same_taken : {X : Type 0} {Y : Type 0} (xs : List X) (ys : List Y) (x : X) → length xs ≡ length ys → take (length ys) (xs ++ x ∷ []) ≡ xs
 same_taken xs ys x e = ap (λ n. take n (xs ++ x ∷ [])) (sym e) ∙ (take_longer xs (x ∷ []) (length xs) (omega arith) ∙ take_whole xs)
 
-all_taken : {X : Type 0} {Y : Type 0} (xs : List X) (ys : List Y) (x : X) (y : Y) → length xs ≡ length ys → take (length (ys ++ y ∷ [])) (xs ++ x ∷ []) ≡ xs ++ x ∷ []
+pub all_taken : {X : Type 0} {Y : Type 0} (xs : List X) (ys : List Y) (x : X) (y : Y) → length xs ≡ length ys → take (length (ys ++ y ∷ [])) (xs ++ x ∷ []) ≡ xs ++ x ∷ []
 all_taken xs ys x y e = ap (λ n. take n (xs ++ x ∷ [])) (length_longer ys y ∙ (ap suc (sym e) ∙ sym (length_longer xs x))) ∙ take_whole (xs ++ x ∷ [])
 
 pub interned_kept : (shapes new_shapes : List Shape) (definitions : List (Option Definition)) (verdicts : List (Option Verdict)) (s : Shape) (i : ℕ) (o : Option Verdict) → IsKept shapes definitions verdicts → HasPartsBelow (length shapes) s → WasDeclared (table_of shapes definitions) s → IsInterned shapes new_shapes s i → IfSome o (IsShapeVerdict (table_of shapes definitions) s) → IsKept new_shapes definitions (take (length new_shapes) (verdicts ++ o ∷ []))
@@ -139,20 +139,20 @@ found_kept shapes definitions verdicts a s o kept is h = record {
 -- ---- the first types
 
 module _ (shapes : List Shape) (definitions : List (Option Definition)) (verdicts : List (Option Verdict)) (count k : ℕ) (kept : IsKept shapes definitions verdicts) (within : count ≤ length shapes) (k_is : k ≡ count_by is_declaration (take count shapes)) (closed : IsClosedBelow count (table_of shapes definitions)) where
-  abbrev whole : Table
+  abbrev pub whole : Table
   whole = table_of shapes definitions
 
   abbrev first : Table
   first = table_of (take count shapes) (take k definitions)
 
   -- a shape that stands below the cut
-  abbrev StandsBelow : Shape → Type 0
+  abbrev pub StandsBelow : Shape → Type 0
   StandsBelow s = (i : ℕ) × (i < count) × HasShape whole i s
 
   stays_below : (i : ℕ) (s : Shape) → i < count → HasShape whole i s → HasShape first i s × StandsBelow s
   stays_below i s l e = (take_get count shapes i s e l, (i, l, e))
 
-  part_below : (s : Shape) (l j : ℕ) → StandsBelow s → slice_get (held whole s) l ≡ Some j → j < count
+  pub part_below : (s : Shape) (l j : ℕ) → StandsBelow s → slice_get (held whole s) l ≡ Some j → j < count
   part_below s l j b e =
       elim (declared_or_not s) [
         | inl d ↦ closed b.0 d.0 j b.1 (b.2 ∙ ap Some d.1) (listed_right (slice_get whole.rights d.0) l j (ap (λ x. slice_get (held whole x) l) (sym d.1) ∙ e))

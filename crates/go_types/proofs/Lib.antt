@@ -17,5 +17,9 @@ pub mod Settling
 pub mod Judging
 pub mod Counting
 pub mod Keeping
-pub mod Finding
+pub mod Judgements
 pub mod Examples
+pub mod Waiters
+pub mod Finds
+pub mod Awakening
+pub mod Watching

@@ -6,7 +6,7 @@ use Rattle.go_types.specs.declared.shape.Shape.TheVariants as shape
 use Rattle.go_types.specs.declared.types.Definition.{Definition}
 use Rattle.go_types.specs.declared.verdict.Verdict.{Verdict}
 use Rattle.go_types.specs.Shapes.{IsInterned}
-use Rattle.go_types.specs.Tables.{Table, IsTable, HasShape, HasRightId, HasPartsBelow, is_declaration}
+use Rattle.go_types.specs.Tables.{Table, IsTable, HasShape, HasRightId, is_declaration}
 use Rattle.go_types.specs.Verdicts.{AreVerdicts}
 
 abbrev pub empty : Table

@@ -57,6 +57,7 @@ pub record Examples : Type 0 where
   pub three_structs : Scalars rights (declared 2) 6
   pub empty_arrays : Scalars rights (array 5 (array 0 int)) 5
   pub no_fields : Scalars rights (structure [] none) 1
+  pub hollow_structs : Scalars rights (array 4 (structure (named 97 ∷ named 98 ∷ []) (row (array 0 text ∷ array 0 text ∷ [])))) 4
   -- the types of numbers
   pub struct_type : type_of shapes 2 ≡ structure (named 97 ∷ named 98 ∷ []) (row (int ∷ slice int ∷ []))
   pub declared_type : type_of shapes 3 ≡ declared 0

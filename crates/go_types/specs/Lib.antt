@@ -6,3 +6,6 @@ pub mod Shapes
 pub mod Verdicts
 pub mod Changes
 pub mod Examples
+pub mod Waiting
+pub mod Findings
+pub mod Kept

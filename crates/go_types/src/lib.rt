@@ -6,6 +6,7 @@
 //! right sides of the declared types (specs/Trees.antt, Relations.antt and Tables.antt).
 #![tactic(auto)]
 
+mod finding;
 mod index;
 mod keys;
 pub mod laws;
@@ -15,6 +16,7 @@ mod tests;
 mod types;
 mod verdict;
 mod waits;
+mod waking;
 
 pub use shape::{Field, Fields, Shape, TypeId, TypeIds};
 pub use types::Types;

@@ -1,6 +1,6 @@
-//! Tests: each public call with ample memory, counts of scalars worked out by hand, and long chains
-//! of types in both orders.
-use crate::shape::{Field, Fields, Shape, TypeId, TypeIds};
+//! Tests: long chains of types, and types that hold another one many times over, are told of at
+//! once, whether or not they are settled, and in whichever order they are defined.
+use crate::shape::{Field, Fields, Shape, TypeId};
 use crate::types::Types;
 use go_base::Bytes;
 use go_ints::Kind;
@@ -12,57 +12,6 @@ use std::test::Fail;
 fn number(rt: &impl Abort, types: &mut Types, shape: Shape) -> Result<TypeId, Fail> {
     assert!(rt; types.can_intern(&shape));
     Ok(types.intern(&shape)?)
-}
-
-#[test]
-fn slices_and_a_declared_type(rt: HostRuntime) -> Result<(), Fail> {
-    let mut types = Types::new(rt.alloc());
-    let int = number(&rt, &mut types, Shape::Int(Kind::Int))?;
-    let ints = number(&rt, &mut types, Shape::Slice { elem: int })?;
-    assert_eq!(rt; number(&rt, &mut types, Shape::Slice { elem: int })?, ints);
-    let named = types.declare()?;
-    assert!(rt; ints < types.count());
-    assert!(rt; named < types.count());
-    assert!(rt; types.is_open(named));
-    assert!(rt; types.can_define(named, ints));
-    types.define(named, ints);
-    assert!(rt; types.is_settled(named));
-    assert!(rt; types.is_settled(ints));
-    assert_eq!(rt; types.underlying(named), ints);
-    assert!(rt; types.assignable(ints, named));
-    assert!(rt; !types.identical(ints, named));
-    Ok(())
-}
-
-#[test]
-fn a_struct_of_a_function(rt: HostRuntime) -> Result<(), Fail> {
-    let alloc = rt.alloc();
-    let mut types = Types::new(alloc);
-    let bool = number(&rt, &mut types, Shape::Bool)?;
-    let params = TypeIds::of(vec![in alloc; bool]?);
-    let results = TypeIds::of(vec![in alloc]?);
-    assert_eq!(rt; params.as_slice().len(), 1);
-    let func = number(&rt, &mut types, Shape::Func { params, results })?;
-    let name = Bytes::from_slice(alloc, b"f")?;
-    let fields = Fields::of(vec![in alloc; Field { name, ty: func }]?);
-    assert_eq!(rt; fields.as_slice().len(), 1);
-    let record = number(&rt, &mut types, Shape::Struct { fields })?;
-    assert!(rt; record < types.count());
-    assert!(rt; types.is_settled(record));
-    assert!(rt; !types.comparable(record));
-    assert!(rt; !types.shape(record).is_named());
-    Ok(())
-}
-
-#[test]
-fn a_table_is_cut(rt: HostRuntime) -> Result<(), Fail> {
-    let mut types = Types::new(rt.alloc());
-    types.declare()?;
-    types.cut(0);
-    assert_eq!(rt; types.count(), 0);
-    types.declare()?;
-    assert_eq!(rt; types.count(), 1);
-    Ok(())
 }
 
 /// The type `[length]elem`.
@@ -90,18 +39,18 @@ fn pair(
     number(rt, types, Shape::Struct { fields })
 }
 
-/// A struct type without fields.
-fn no_fields(rt: &impl Abort, alloc: Global, types: &mut Types) -> Result<TypeId, Fail> {
-    let fields = Fields::of(vec![in alloc]?);
-    number(rt, types, Shape::Struct { fields })
-}
-
 /// Gives a declared type a settled right side.
 fn define(rt: &impl Abort, types: &mut Types, named: TypeId, right: TypeId) {
     assert!(rt; named < types.count());
     assert!(rt; right < types.count());
     assert!(rt; types.can_define(named, right));
     types.define(named, right);
+}
+
+/// Whether a type is settled.
+fn is_settled(rt: &impl Abort, types: &Types, a: TypeId) -> bool {
+    assert!(rt; a < types.count());
+    types.is_settled(a)
 }
 
 /// The scalars of a settled type.
@@ -116,53 +65,6 @@ fn comparable(rt: &impl Abort, types: &Types, a: TypeId) -> bool {
     assert!(rt; a < types.count());
     assert!(rt; types.is_settled(a));
     types.comparable(a)
-}
-
-#[test]
-fn scalars_of_empty_arrays(rt: HostRuntime) -> Result<(), Fail> {
-    let mut types = Types::new(rt.alloc());
-    let int = number(&rt, &mut types, Shape::Int(Kind::Int))?;
-    let none = array(&rt, &mut types, 0, int)?;
-    assert_eq!(rt; scalars(&rt, &types, none), 0);
-    let five = array(&rt, &mut types, 5, none)?;
-    assert_eq!(rt; scalars(&rt, &types, five), 5);
-    Ok(())
-}
-
-#[test]
-fn scalars_of_no_fields(rt: HostRuntime) -> Result<(), Fail> {
-    let alloc = rt.alloc();
-    let mut types = Types::new(alloc);
-    let empty = no_fields(&rt, alloc, &mut types)?;
-    assert_eq!(rt; scalars(&rt, &types, empty), 1);
-    assert!(rt; comparable(&rt, &types, empty));
-    Ok(())
-}
-
-/// `[3]struct { a int; b string }`
-#[test]
-fn scalars_of_three_structs(rt: HostRuntime) -> Result<(), Fail> {
-    let alloc = rt.alloc();
-    let mut types = Types::new(alloc);
-    let int = number(&rt, &mut types, Shape::Int(Kind::Int))?;
-    let text = number(&rt, &mut types, Shape::Text)?;
-    let both = pair(&rt, alloc, &mut types, int, text)?;
-    let three = array(&rt, &mut types, 3, both)?;
-    assert_eq!(rt; scalars(&rt, &types, three), 6);
-    Ok(())
-}
-
-/// `[4]struct { a [0]string; b [0]string }`
-#[test]
-fn scalars_of_hollow_structs(rt: HostRuntime) -> Result<(), Fail> {
-    let alloc = rt.alloc();
-    let mut types = Types::new(alloc);
-    let text = number(&rt, &mut types, Shape::Text)?;
-    let none = array(&rt, &mut types, 0, text)?;
-    let hollow = pair(&rt, alloc, &mut types, none, none)?;
-    let four = array(&rt, &mut types, 4, hollow)?;
-    assert_eq!(rt; scalars(&rt, &types, four), 4);
-    Ok(())
 }
 
 /// Structs that each hold the one before twice, 60 deep, the first of which holds this type.
@@ -200,8 +102,8 @@ fn doubled_structs_of_a_type_that_is_defined_last(rt: HostRuntime) -> Result<(),
     let numbers = array(&rt, &mut types, 17, int)?;
     let named = types.declare()?;
     let last = doubled(&rt, alloc, &mut types, named)?;
+    assert!(rt; !is_settled(&rt, &types, last));
     define(&rt, &mut types, named, numbers);
-    types.settle()?;
     assert!(rt; comparable(&rt, &types, last));
     assert_eq!(rt; scalars(&rt, &types, last), u64::MAX);
     Ok(())
@@ -209,26 +111,6 @@ fn doubled_structs_of_a_type_that_is_defined_last(rt: HostRuntime) -> Result<(),
 
 /// The number of types of a chain.
 const MANY: u64 = 20_000;
-
-/// Declared types, each of which has the one before as its right side.
-fn declared_chain(rt: &impl Abort, types: &mut Types, first: TypeId) -> Result<TypeId, Fail> {
-    let mut last = first;
-    for _ in 0..MANY {
-        let named = types.declare()?;
-        define(rt, types, named, last);
-        last = named;
-    }
-    Ok(last)
-}
-
-#[test]
-fn a_chain_of_declared_types_in_order(rt: HostRuntime) -> Result<(), Fail> {
-    let mut types = Types::new(rt.alloc());
-    let int = number(&rt, &mut types, Shape::Int(Kind::Int))?;
-    let last = declared_chain(&rt, &mut types, int)?;
-    assert_eq!(rt; scalars(&rt, &types, last), 1);
-    Ok(())
-}
 
 /// Declared types, and the array types that are to be the right sides of those before them.
 #[derive(Drop)]
@@ -267,7 +149,6 @@ fn a_chain_of_declared_types_backwards(rt: HostRuntime) -> Result<(), Fail> {
     let int = number(&rt, &mut types, Shape::Int(Kind::Int))?;
     let chain = declared_before(&rt, alloc, &mut types)?;
     let first = define_backwards(&rt, &mut types, &chain, int);
-    types.settle()?;
     assert_eq!(rt; scalars(&rt, &types, first), 1);
     Ok(())
 }
@@ -287,8 +168,48 @@ fn a_chain_of_arrays_of_a_type_that_is_defined_last(rt: HostRuntime) -> Result<(
     let int = number(&rt, &mut types, Shape::Int(Kind::Int))?;
     let named = types.declare()?;
     let last = arrays_of(&rt, &mut types, named)?;
+    assert!(rt; !is_settled(&rt, &types, last));
     define(&rt, &mut types, named, int);
-    types.settle()?;
     assert_eq!(rt; scalars(&rt, &types, last), 1);
+    Ok(())
+}
+
+/// Declared types.
+fn declare_many(alloc: Global, types: &mut Types) -> Result<Vec<TypeId>, Fail> {
+    let mut named = Vec::new(alloc);
+    for _ in 0..MANY {
+        named.push(types.declare()?)?;
+    }
+    Ok(named)
+}
+
+/// A struct type with a field of each of these types.
+fn wide(
+    rt: &impl Abort,
+    alloc: Global,
+    types: &mut Types,
+    named: &[TypeId],
+) -> Result<TypeId, Fail> {
+    let mut fields = Vec::new(alloc);
+    for ty in named {
+        let name = Bytes::from_slice(alloc, &ty.to_le_bytes())?;
+        fields.push(Field { name, ty: *ty })?;
+    }
+    let fields = Fields::of(fields);
+    number(rt, types, Shape::Struct { fields })
+}
+
+#[test]
+fn a_wide_struct_of_types_that_are_defined_later(rt: HostRuntime) -> Result<(), Fail> {
+    let alloc = rt.alloc();
+    let mut types = Types::new(alloc);
+    let int = number(&rt, &mut types, Shape::Int(Kind::Int))?;
+    let named = declare_many(alloc, &mut types)?;
+    let all = wide(&rt, alloc, &mut types, &named)?;
+    assert!(rt; !is_settled(&rt, &types, all));
+    for ty in &named {
+        define(&rt, &mut types, *ty, int);
+    }
+    assert_eq!(rt; scalars(&rt, &types, all), MANY);
     Ok(())
 }

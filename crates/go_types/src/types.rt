@@ -7,12 +7,15 @@ ghost use Rattle.go_types.specs.Relations.{Underlying, Assignable, Comparable, S
 ghost use Rattle.go_types.specs.Tables.{Table, IsTable, HasShape, HasRightId, HasPartsBelow, WasDeclared, IsDefined, IsSettled, NoneContainsItself, is_declaration, type_of, rights_of};
 ghost use Rattle.go_types.specs.Changes.{empty, IsDeclared, IsOpen, defined, IsInternedIn, IsClosedBelow, first_types, declaration, Leads};
 ghost use Rattle.go_types.specs.Shapes.{IsInterned};
-ghost use Rattle.go_types.specs.Verdicts.{IsVerdict, IsShapeVerdict, IsFieldsVerdict};
+ghost use Rattle.go_types.specs.Verdicts.{IsVerdict};
+ghost use Rattle.go_types.specs.Findings.{verdict_of, awaited_by};
 
+use crate::finding::{Finding, find_out, known};
 use crate::index::Index;
-use crate::shape::{Field, Shape, TypeId};
+use crate::shape::{Shape, TypeId};
 use crate::verdict::Verdict;
 use crate::waits::Waits;
+use crate::waking::learn;
 use go_base::Memory;
 use std::alloc::Global;
 use std::marker::Model;
@@ -23,15 +26,17 @@ pub struct Types {
     alloc: Global,
     shapes: Index,
     definitions: Vec<Option<Definition>>,
-    /// What is known of each type, for settled types alone.
+    /// What is known of each type, exactly for settled types.
     verdicts: Vec<Option<Verdict>>,
+    /// What the others wait for.
+    waits: Waits,
 }
 
 /// What a declared type was given.
 #[derive(Clone, Copy, Debug)]
 pub struct Definition {
-    right: TypeId,
-    underlying: TypeId,
+    pub right: TypeId,
+    pub underlying: TypeId,
 }
 
 impl Model for Types {
@@ -41,11 +46,12 @@ impl Model for Types {
 
     ghost Value = { Table };
 
-    ghost use Rattle.go_types.specs.Changes.{table_of, IsKept};
+    ghost use Rattle.go_types.specs.Changes.{table_of};
+    ghost use Rattle.go_types.specs.Kept.{IsComplete};
 
     ghost view = { λ t. table_of t.shapes t.definitions.items };
 
-    ghost invariant = { λ t. IsKept t.shapes t.definitions.items t.verdicts.items };
+    ghost invariant = { λ t. IsComplete t.shapes t.definitions.items t.verdicts.items t.waits };
 }
 
 // `let _table` reads the table before its numbers are compared: what is true of every table is then
@@ -60,6 +66,7 @@ impl Types {
             shapes: Index::new(alloc),
             definitions: Vec::new(alloc),
             verdicts: Vec::new(alloc),
+            waits: Waits::new(alloc),
         }
     }
 
@@ -93,8 +100,9 @@ impl Types {
             self.alloc,
             &mut self.shapes,
             &mut self.verdicts,
+            &mut self.waits,
             &shape,
-            None,
+            Finding::Open,
         ) {
             Ok(place) => Ok(place as u64),
             Err(error) => {
@@ -112,11 +120,20 @@ impl Types {
         requires finite { NoneContainsItself (defined self.old named right) }
         ensures { self.new ≡ defined self.old named right }
     {
-        self.look_at(right);
         let underlying = self.underlying_id(right);
         if let Some(number) = self.number_of(named) {
             self.definitions[number] = Some(Definition { right, underlying });
-            self.verdicts[named as usize] = self.verdicts[right as usize];
+            match known(&self.verdicts, right) {
+                None => self.waits.wait(named, right, 0),
+                Some(verdict) => learn(
+                    &self.shapes,
+                    &self.definitions,
+                    &mut self.verdicts,
+                    &mut self.waits,
+                    named,
+                    verdict,
+                ),
+            }
         }
     }
 
@@ -141,13 +158,14 @@ impl Types {
         ensures answer { IfOk result (IsInternedIn self.old self.new shape.now) }
         ensures err { OnErr result (self.new ≡ self.old) }
     {
-        let verdict = self.shape_verdict(shape);
+        let found = find_out(&self.definitions, &self.verdicts, shape, 0);
         let place = add(
             self.alloc,
             &mut self.shapes,
             &mut self.verdicts,
+            &mut self.waits,
             shape,
-            verdict,
+            found,
         )?;
         Ok(place as u64)
     }
@@ -180,6 +198,7 @@ impl Types {
         self.shapes.truncate(count as usize);
         self.definitions.truncate(declared);
         self.verdicts.truncate(count as usize);
+        self.waits.truncate(count as usize);
     }
 
     /// Whether two types are identical (Go specification, "Type identity").
@@ -262,153 +281,13 @@ impl Types {
         }
     }
 
-    /// Finds out about the settled types of which nothing is kept, because they were made before
-    /// their declared parts were defined. `comparable`, `scalars` and `is_settled` then answer of
-    /// them at once. The time is linear in the size of the table. After `Memory` fewer may be found.
-    pub fn settle(&mut self) -> Result<(), Memory>
-        ensures { self.new ≡ self.old }
-    {
-        let mut waits = self.waits()?;
-        // Each type is ready once at most.
-        for place in 0..self.shapes.len() {
-            match waits.ready(place) {
-                Some(a) if a < self.count() => {
-                    if self.keep_verdict(a) {
-                        waits.wake(a)?;
-                    }
-                }
-                _ => break,
-            }
-        }
-        Ok(())
-    }
-
-    /// Finds out about a type of which nothing is kept from what is kept of its parts.
-    fn look_at(&mut self, a: TypeId)
-        requires { a < length self.old.shapes }
-        ensures { self.new ≡ self.old }
-    {
-        if self.is_unknown(a) {
-            self.keep_verdict(a);
-        }
-    }
-
-    /// Finds out about a type from what is kept of its parts, and whether that did.
-    fn keep_verdict(&mut self, a: TypeId) -> bool
-        requires { a < length self.old.shapes }
-        ensures { self.new ≡ self.old }
-    {
-        let verdict = self.shape_verdict(self.shape(a));
-        self.verdicts[a as usize] = verdict;
-        verdict.is_some()
-    }
-
-    /// The types of which nothing is kept, with what they wait for.
-    fn waits(&self) -> Result<Waits, Memory> {
-        let mut waits = Waits::new(self.alloc, self.shapes.len())?;
-        for a in 0..self.count() {
-            if self.is_unknown(a) {
-                self.wait_for_parts(a, &mut waits)?;
-            }
-        }
-        Ok(waits)
-    }
-
-    /// Lets a type wait for those of its parts of which nothing is kept.
-    fn wait_for_parts(&self, a: TypeId, waits: &mut Waits) -> Result<(), Memory>
-        requires { a < length self.now.shapes }
-    {
-        match self.shape(a) {
-            Shape::Array { elem, .. } => self.wait_for(a, *elem, waits)?,
-            Shape::Struct { fields } => {
-                for field in fields.as_slice() {
-                    self.wait_for(a, field.ty, waits)?;
-                }
-            }
-            Shape::Named { number } => {
-                if let Some(Some(definition)) = self.definitions.get(*number as usize) {
-                    self.wait_for(a, definition.right, waits)?;
-                }
-            }
-            _ => (),
-        }
-        waits.begin(a)
-    }
-
-    /// Lets a type wait for a part, if nothing is kept of that.
-    fn wait_for(&self, a: TypeId, part: TypeId, waits: &mut Waits) -> Result<(), Memory> {
-        if self.is_unknown(part) {
-            waits.add(a, part)?;
-        }
-        Ok(())
-    }
-
-    /// Whether nothing is kept of a type.
-    fn is_unknown(&self, a: TypeId) -> bool {
-        matches!(self.verdicts.get(a as usize), Some(None))
-    }
-
-    /// What is kept of a type.
-    fn kept(&self, a: TypeId) -> Option<Verdict>
-        requires { a < length self.now.shapes }
-        ensures { IfSome result (IsVerdict self.now a) }
-    {
-        self.verdicts[a as usize]
-    }
-
-    /// What is to be said of a type of this shape by what is kept of its parts.
-    fn shape_verdict(&self, shape: &Shape) -> Option<Verdict>
-        requires parts { HasPartsBelow (length self.now.shapes) shape.now }
-        requires declared { WasDeclared self.now shape.now }
-        ensures { IfSome result (IsShapeVerdict self.now shape.now) }
-    {
-        let _table = &self.shapes;
-        match shape {
-            Shape::Array { length, elem } => Some(self.kept(*elem)?.of_array(*length)),
-            Shape::Struct { fields } => {
-                Some(self.fields_verdict(fields.as_slice())?.of_struct())
-            }
-            Shape::Named { number } => self.kept(self.right_of(*number as usize)?),
-            _ => Some(Verdict::plain(shape.plain()?)),
-        }
-    }
-
-    /// What is to be said of fields together by what is kept of their types.
-    fn fields_verdict(&self, fields: &[Field]) -> Option<Verdict>
-        requires { (k : ℕ) (x : Field) → slice_get fields.now k ≡ Some x → x.ty < length self.now.shapes }
-        ensures { IfSome result (IsFieldsVerdict self.now fields.now (length fields.now)) }
-    {
-        let mut verdict = Verdict::no_fields();
-        for field in fields {
-            verdict = verdict.with(self.kept(field.ty)?);
-        }
-        Some(verdict)
-    }
-
-    /// What is kept of a type, or else found out from all that it contains; nothing where it isn't
-    /// settled.
+    /// What is to be said of a type, if it is settled.
     fn verdict(&self, a: TypeId) -> Option<Verdict>
         requires { a < length self.now.shapes }
         ensures found { IfSome result (IsVerdict self.now a) }
         ensures unsettled { IfNone result (IsSettled self.now a → ⊥) }
     {
-        let kept = self.kept(a);
-        if kept.is_some() {
-            return kept;
-        }
-        let _table = &self.shapes;
-        match self.shape(a) {
-            Shape::Array { length, elem } => Some(self.verdict(*elem)?.of_array(*length)),
-            Shape::Struct { fields } => {
-                let mut verdict = Verdict::no_fields();
-                for field in fields.as_slice() {
-                    verdict = verdict.with(self.verdict(field.ty)?);
-                }
-                Some(verdict.of_struct())
-            }
-            Shape::Named { number } => self.verdict(self.right_of(*number as usize)?),
-            shape => Some(Verdict::plain(shape.plain()?)),
-        }
+        known(&self.verdicts, a)
     }
 
     /// Whether the type is a declared one that has no right side.
@@ -484,22 +363,55 @@ impl Types {
     }
 }
 
-/// Gives a shape its number, and keeps what is known of its type if it wasn't there. After `Memory`
-/// both are unchanged.
+/// Gives a shape its number, and keeps what is found out about its type if it wasn't there. After
+/// `Memory` all are unchanged.
 fn add(
     alloc: Global,
     shapes: &mut Index,
     verdicts: &mut Vec<Option<Verdict>>,
+    waits: &mut Waits,
     shape: &Shape,
-    verdict: Option<Verdict>,
+    found: Finding,
 ) -> Result<usize, Memory>
-    requires { length verdicts.old.items ≡ length shapes.old }
+    requires verdicts { length verdicts.old.items ≡ length shapes.old }
+    requires waits { length waits.old ≡ length shapes.old }
+    requires within { (i p : ℕ) → slice_get waits.old i ≡ Some (Some p) → p < length waits.old }
+    requires part { (p : ℕ) → awaited_by found ≡ Some p → p < length waits.old }
     ensures number { IfOk result (IsInterned shapes.old shapes.new shape.now) }
-    ensures kept { OnOk result (verdicts.new.items ≡ take (length shapes.new) (verdicts.old.items ++ verdict ∷ [])) }
-    ensures err { OnErr result ((shapes.new ≡ shapes.old) × (verdicts.new.items ≡ verdicts.old.items)) }
+    ensures verdicts { OnOk result (verdicts.new.items ≡ take (length shapes.new) (verdicts.old.items ++ verdict_of found ∷ [])) }
+    ensures waits { OnOk result (waits.new ≡ take (length shapes.new) (waits.old ++ awaited_by found ∷ [])) }
+    ensures err { OnErr result ((shapes.new ≡ shapes.old) × (verdicts.new.items ≡ verdicts.old.items) × (waits.new ≡ waits.old)) }
 {
-    verdicts.push(verdict)?;
+    push(verdicts, waits, found)?;
     let place = shapes.intern(alloc, shape);
     verdicts.truncate(shapes.len());
+    waits.truncate(shapes.len());
     place
+}
+
+/// Keeps what is found out about one more type. After `Memory` both are unchanged.
+fn push(
+    verdicts: &mut Vec<Option<Verdict>>,
+    waits: &mut Waits,
+    found: Finding,
+) -> Result<(), Memory>
+    requires part { (p : ℕ) → awaited_by found ≡ Some p → p < length waits.old }
+    ensures verdicts { OnOk result (verdicts.new.items ≡ verdicts.old.items ++ verdict_of found ∷ []) }
+    ensures waits { OnOk result (waits.new ≡ waits.old ++ awaited_by found ∷ []) }
+    ensures err { OnErr result ((verdicts.new.items ≡ verdicts.old.items) × (waits.new ≡ waits.old)) }
+{
+    let last = waits.len();
+    verdicts.push(found.verdict())?;
+    match waits.push() {
+        Ok(()) => {
+            if let Finding::Waits { part, place } = found {
+                waits.wait(last, part, place);
+            }
+            Ok(())
+        }
+        Err(error) => {
+            verdicts.pop();
+            Err(error)
+        }
+    }
 }

@@ -9,12 +9,12 @@ use Rattle.go_types.proofs.types.Types.assignable.Goals.{then-is_named, else-is_
 
 pub returns-then-from-to : goal.returns-then-from-to
 returns-then-from-to c =
-    let ok : IsTable c.args.self.now = subst IsTable c.self.view_is c.self.invariant.resolved.table in
+    let ok : IsTable c.args.self.now = subst IsTable c.self.view_is c.self.invariant.kept.resolved.table in
     (λ h. assignable_same c.args.self.now ok c.args.from c.args.to c.requires.from_known c.requires.to_known c.if-from-to.true, λ h. eq-eqb c.args.from c.args.to c.if-from-to.true)
 
 pub returns-else-underlying_id : goal.returns-else-underlying_id
 returns-else-underlying_id c =
-    let ok : IsTable c.args.self.now = subst IsTable c.self.view_is c.self.invariant.resolved.table in (
+    let ok : IsTable c.args.self.now = subst IsTable c.self.view_is c.self.invariant.kept.resolved.table in (
       λ h. absurd (c.if-underlying_id.false (eqb-true c.underlying_id.result c.underlying_id-else-from-to.result h)),
       λ h. absurd (c.if-underlying_id.false (only_by_form c.args.self.now ok c.args.from c.args.to c.requires.from_known c.requires.to_known c.underlying_id.result c.underlying_id-else-from-to.result c.underlying_id.ensures.leads c.underlying_id-else-from-to.ensures.leads c.if-from-to.false h).0),
     )
@@ -32,7 +32,7 @@ false_from_not false e = refl
 
 pub returns-after-is_named : goal.returns-after-is_named
 returns-after-is_named c =
-    let ok : IsTable c.args.self.now = subst IsTable c.self.view_is c.self.invariant.resolved.table in (
+    let ok : IsTable c.args.self.now = subst IsTable c.self.view_is c.self.invariant.kept.resolved.table in (
       λ h. assignable_by_form c.args.self.now ok c.args.from c.args.to c.requires.from_known c.requires.to_known c.underlying_id.result c.underlying_id-else-from-to.result c.underlying_id.ensures.leads c.underlying_id-else-from-to.ensures.leads c.if-underlying_id.true (sym (both c) ∙ false_from_not c.if-is_named.result h),
       λ h. ap not (both c ∙ (only_by_form c.args.self.now ok c.args.from c.args.to c.requires.from_known c.requires.to_known c.underlying_id.result c.underlying_id-else-from-to.result c.underlying_id.ensures.leads c.underlying_id-else-from-to.ensures.leads c.if-from-to.false h).1),
     )

@@ -8,7 +8,7 @@ use Rattle.go_types.proofs.types.Types.is_open.Goals as goal
 
 pub right_of-requires : goal.right_of-requires
 right_of-requires c =
-    let ok : IsTable c.args.self.now = subst IsTable c.self.view_is c.self.invariant.resolved.table in
+    let ok : IsTable c.args.self.now = subst IsTable c.self.view_is c.self.invariant.kept.resolved.table in
     declared_within c.args.self.now ok c.args.a c.in-Some.number (declaration_shape (slice_get c.args.self.now.shapes c.args.a) c.in-Some.number (sym c.in-Some.ensures))
 
 none_there : (o : Option ℕ) (b : Bool) → is_some o ≡ not b → b ≡ true → o ≡ None

@@ -14,7 +14,7 @@ lead c =
     let there = read_definition c.self.inside.shapes c.self.inside.definitions.items c.in-Some.number right.0 c.index.result.now c.in-Some-index.definition (subst (λ (t : Table). HasRightId t c.in-Some.number right.0) (sym c.self.view_is) right.1) c.index.ensures c.in-Some-index.is in
     let named = ap (λ (t : Table). declaration (slice_get t.shapes c.args.a)) c.self.view_is ∙ sym c.in-Some.ensures in
     subst (λ (t : Table). Leads t c.args.a c.in-Some-index.definition.underlying × (c.in-Some-index.definition.underlying < length t.shapes)) c.self.view_is
-    (definition_leads c.self.inside.shapes c.self.inside.definitions.items c.self.invariant.resolved c.args.a c.in-Some.number c.in-Some-index.definition named there)
+    (definition_leads c.self.inside.shapes c.self.inside.definitions.items c.self.invariant.kept.resolved c.args.a c.in-Some.number c.in-Some-index.definition named there)
 
 pub returns-in-Some-index-clause-within : goal.returns-in-Some-index-clause-within
 returns-in-Some-index-clause-within c = (lead c).1
