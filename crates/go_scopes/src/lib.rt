@@ -14,6 +14,7 @@ mod failure;
 mod file_rule;
 mod lookups;
 mod members;
+pub mod names;
 mod redeclared;
 pub mod resolve;
 #[cfg(test)]

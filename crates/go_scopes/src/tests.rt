@@ -1,6 +1,7 @@
 //! Worked packages.
 
 use crate::error::ResolveError;
+use crate::names::names_of;
 use crate::resolve::{resolve, units_of};
 use go_cycles::order::order_of;
 use go_lookup::found::{all_found, new_among};
@@ -352,6 +353,49 @@ fn shown(alloc: Global, text: &[u8]) -> Result<Vec<Option<bool>>, Fail> {
 fn cycles(rt: HostRuntime) -> Result<(), Fail> {
     for (text, wanted) in CYCLES {
         assert!(rt; shown(rt.alloc(), text)?.as_slice() == wanted);
+    }
+    Ok(())
+}
+
+/// Names, and what they mean at some tokens of the package above: at the first statement of `f`, at the second, and at that of
+/// `g`.
+const MEANT: [(u32, &[u8], Option<Object>); 9] = [
+    (19, b"b", None),
+    (
+        25,
+        b"b",
+        Some(Object::Local {
+            function: 0,
+            number: 1,
+        }),
+    ),
+    (48, b"b", None),
+    (19, b"int", Some(Object::Predeclared(Predeclared::Int))),
+    (
+        48,
+        b"int",
+        Some(Object::Local {
+            function: 1,
+            number: 0,
+        }),
+    ),
+    (48, b"true", Some(Object::Predeclared(Predeclared::True))),
+    (48, b"fmt", Some(Object::Import)),
+    (19, b"g", Some(Object::Package(2))),
+    (19, b"_", None),
+];
+
+#[test]
+fn meant(rt: HostRuntime) -> Result<(), Fail> {
+    let alloc = rt.alloc();
+    let mut files = Vec::new(alloc);
+    files.push(file(alloc, 0, PACKAGE)?)?;
+    if files.len() > 256 {
+        return Err("a package has at most 256 files".into());
+    }
+    let names = names_of(alloc, &files)?;
+    for (token, name, wanted) in MEANT {
+        assert!(rt; names.object_at(0, token, name) == wanted);
     }
     Ok(())
 }
