@@ -357,45 +357,34 @@ fn cycles(rt: HostRuntime) -> Result<(), Fail> {
     Ok(())
 }
 
-/// Names, and what they mean at some tokens of the package above: at the first statement of `f`, at the second, and at that of
-/// `g`.
-const MEANT: [(u32, &[u8], Option<Object>); 9] = [
-    (19, b"b", None),
-    (
-        25,
-        b"b",
-        Some(Object::Local {
-            function: 0,
-            number: 1,
-        }),
-    ),
-    (48, b"b", None),
-    (19, b"int", Some(Object::Predeclared(Predeclared::Int))),
-    (
-        48,
-        b"int",
-        Some(Object::Local {
-            function: 1,
-            number: 0,
-        }),
-    ),
-    (48, b"true", Some(Object::Predeclared(Predeclared::True))),
-    (48, b"fmt", Some(Object::Import)),
-    (19, b"g", Some(Object::Package(2))),
-    (19, b"_", None),
-];
+/// What the name means at a token of a package of one file.
+fn object_at<'a>(
+    alloc: Global,
+    files: &'a [File],
+    token: u32,
+    name: &'a [u8],
+) -> Result<Option<Object>, Fail> {
+    if files.len() > 256 {
+        return Err("a package has at most 256 files".into());
+    }
+    let names = names_of(alloc, files)?;
+    Ok(names.object_at(0, token, name))
+}
 
+/// What names mean at the first statement of `f` above, and at that of `g`.
 #[test]
 fn meant(rt: HostRuntime) -> Result<(), Fail> {
     let alloc = rt.alloc();
     let mut files = Vec::new(alloc);
     files.push(file(alloc, 0, PACKAGE)?)?;
-    if files.len() > 256 {
-        return Err("a package has at most 256 files".into());
-    }
-    let names = names_of(alloc, &files)?;
-    for (token, name, wanted) in MEANT {
-        assert!(rt; names.object_at(0, token, name) == wanted);
-    }
+    let local = Object::Local {
+        function: 1,
+        number: 0,
+    };
+    let int = Object::Predeclared(Predeclared::Int);
+    assert!(rt; object_at(alloc, &files, 48, b"int")? == Some(local));
+    assert!(rt; object_at(alloc, &files, 19, b"int")? == Some(int));
+    assert!(rt; object_at(alloc, &files, 19, b"b")? == None);
+    assert!(rt; object_at(alloc, &files, 19, b"g")? == Some(Object::Package(2)));
     Ok(())
 }
