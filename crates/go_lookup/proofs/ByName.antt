@@ -1,12 +1,11 @@
 -- The local meanings of a name, and the innermost of them.
-use Rattle.std.proofs.Common.{◌≡◌, ℕ, Bool, true, false, ◌&&◌, if◌then◌else◌, nat_eq, List, [], ◌∷◌, ◌++◌, Option, None, refl, sym, ap, ◌∙◌, arith}
+use Rattle.std.proofs.Common.{◌≡◌, ℕ, Bool, true, false, ◌&&◌, if◌then◌else◌, nat_eq, List, [], ◌∷◌, ◌++◌, Option, refl, sym, ap, ◌∙◌, arith}
 use Rattle.std.specs.Cmp.Lexicographic.{pointwise}
 use Rattle.std.proofs.lemmas.Bool.Decides.{nat_tests}
 use Rattle.go_tokens.specs.Spellings.{same_text}
 use Rattle.go_tree.specs.declared.object.Extent.{Extent}
-use Rattle.go_tree.specs.declared.object.Extent.TheVariants as extent
 use Rattle.go_tree.specs.Meanings.{Meaning, covers}
-use Rattle.go_names.specs.Scopes.{is_local, inner, over, inmost, locals_of}
+use Rattle.go_names.specs.Scopes.{is_local, inner, inmost, locals_of}
 use Rattle.go_lookup.specs.Named.{named_locals, over_covering, inmost_among}
 
 append_none : (xs : List Meaning) → xs ++ [] ≡ xs

@@ -1,13 +1,11 @@
-use Rattle.std.proofs.Common.{◌≡◌, ℕ, true, false, ◌&&◌, nat_eq, ◌∷◌, [], ◌++◌, List, Some, None, ◌∙◌, cond, sym, ap, refl, map, arith}
-use Rattle.std.specs.Borrow.{Bor}
-use Rattle.std.specs.Cmp.Lexicographic.{pointwise}
+use Rattle.std.proofs.Common.{◌≡◌, false, ◌&&◌, nat_eq, ◌∷◌, [], ◌++◌, List, Some, None, ◌∙◌, cond, sym, ap, refl, map}
 use Rattle.std.proofs.lemmas.List.{map-append}
 use Rattle.std.specs.HashMap.{get}
 use Rattle.go_tokens.specs.Spellings.{same_text}
 use Rattle.go_tree.specs.Meanings.{Meaning}
 use Rattle.go_names.specs.Scopes.{is_local}
 use Rattle.go_lookup.specs.Views.{meaning_view}
-use Rattle.go_lookup.specs.Named.{same_named, named_locals}
+use Rattle.go_lookup.specs.Named.{same_named}
 use Rattle.go_lookup.specs.Sorted.{items_of}
 use Rattle.go_lookup.proofs.Sorting.{not_local}
 use Rattle.go_lookup.proofs.Stacks.{one_text}
