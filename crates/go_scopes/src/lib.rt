@@ -16,6 +16,7 @@ mod lookups;
 mod members;
 pub mod names;
 mod redeclared;
+pub mod repeated;
 pub mod resolve;
 #[cfg(test)]
 mod tests;
