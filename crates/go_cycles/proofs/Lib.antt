@@ -1,4 +1,5 @@
 pub mod AllNeeded
+pub mod Below
 pub mod Circled
 pub mod Listed
 pub mod Ranked

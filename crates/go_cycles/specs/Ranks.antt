@@ -100,3 +100,12 @@ are_ranked m ranks (a ∷ asks) = is_source_ranked m ranks (source_of a.meaning)
 -- whether a declaration needs only ones of lower ranks than its own, in full and in part
 abbrev pub is_above : {S T : Type 0} → HashMap Place ℕ S → HashMap (ℕ × ℕ) Rank T → Found → Bool
 is_above m ranks d = nat_le 1 (rank_of ranks d.file d.it.name false) && nat_le (rank_of ranks d.file d.it.name false) (rank_of ranks d.file d.it.name true) && is_within m d false (rank_of ranks d.file d.it.name false - 1)
+
+abbrev pub is_source_above : {S T : Type 0} → HashMap Place ℕ S → HashMap (ℕ × ℕ) Rank T → Option Found → Bool
+is_source_above m ranks None = true
+is_source_above m ranks (Some d) = is_above m ranks d
+
+-- whether this holds of all that the names call for
+abbrev pub are_above : {S T : Type 0} → HashMap Place ℕ S → HashMap (ℕ × ℕ) Rank T → List Asked → Bool
+are_above m ranks [] = true
+are_above m ranks (a ∷ asks) = is_source_above m ranks (source_of a.meaning) && are_above m ranks asks

@@ -1,14 +1,15 @@
 //! The order of the declarations of a package by what needs what.
 
-ghost use Rattle.std.specs.Prelude.{◌≡◌, IfOk, IfSome, map};
+ghost use Rattle.std.specs.Prelude.{◌≡◌, List, IfOk, IfSome, map};
 ghost use Rattle.go_tree.specs.Needs.{needs_itself};
 ghost use Rattle.go_lookup.specs.Views.{found_view, asked_view};
-ghost use Rattle.go_cycles.specs.Order.{IsOrder};
+ghost use Rattle.go_tree.specs.Lookups as rules;
+ghost use Rattle.go_cycles.specs.Order.{IsOrder, rank_by, NeedsBelow};
 
 use crate::circle::circle;
 use crate::columns::are_alike;
 use crate::graph::{Graph, graph_of};
-use crate::ranks::{Bounds, Ranks, are_ranked, bounds, is_above};
+use crate::ranks::{Bounds, Ranks, are_above, are_ranked, bounds, is_above, rank_of};
 use crate::rounds::needs_itself;
 use crate::search::ranks;
 use crate::walk::is_circle;
@@ -25,6 +26,8 @@ pub struct Order {
     holds: bool,
     /// Whether the declarations of one name that the names call for are alike.
     alike: bool,
+    /// Whether all declarations that names call for need only ones of lower ranks.
+    ordered: bool,
     graph: Graph,
 }
 
@@ -41,11 +44,13 @@ pub fn order_of(
     let bounds = bounds(alloc, lookups, &ranks)?;
     let holds = are_ranked(&bounds, &ranks, lookups);
     let alike = are_alike(alloc, lookups, declared)?;
+    let ordered = are_above(&bounds, &ranks, lookups);
     Ok(Order {
         ranks,
         bounds,
         holds,
         alike,
+        ordered,
         graph,
     })
 }
@@ -71,6 +76,19 @@ impl Order {
             return Ok(Some(true));
         }
         Ok(None)
+    }
+
+    /// The rank of a declaration: all that it needs at once has lower ranks. So declarations that are sorted by their ranks stand
+    /// each behind those that it needs. None where a declaration needs itself.
+    pub fn rank(&self, d: &Found<'_>) -> Option<usize>
+        ensures rank { IfSome result (λ r. r ≡ rank_by self.now (found_view d.now)) }
+        ensures below { IfSome result (λ r. (asks : List rules.Asked) → IsOrder self.now asks → NeedsBelow self.now r asks (found_view d.now)) }
+    {
+        if self.ordered && is_above(&self.bounds, &self.ranks, d) {
+            Some(rank_of(&self.ranks, d, false))
+        } else {
+            None
+        }
     }
 
     /// Whether a declaration needs itself, by way of at most `rounds` others (Go specification: Type declarations, Package

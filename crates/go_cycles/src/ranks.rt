@@ -2,7 +2,7 @@
 
 ghost use Rattle.std.specs.Prelude.{◌≡◌, ◌≤◌, Bool, IfOk, OnOk, map};
 ghost use Rattle.std.specs.HashMap as hash;
-ghost use Rattle.go_cycles.specs.Ranks.{rank_of, bound_of, full_part, partial_part, is_within, HasRank, Grows, Covers, CoversAll, is_ranked, are_ranked, is_above};
+ghost use Rattle.go_cycles.specs.Ranks.{rank_of, bound_of, full_part, partial_part, is_within, HasRank, Grows, Covers, CoversAll, is_ranked, are_ranked, is_above, are_above};
 ghost use Rattle.go_lookup.specs.Views.{found_view, asked_view};
 
 use crate::needs::source_of;
@@ -191,4 +191,18 @@ pub fn is_above(bounds: &Bounds, ranks: &Ranks, d: &Found<'_>) -> bool
 {
     let own = rank_of(ranks, d, false);
     1 <= own && own <= rank_of(ranks, d, true) && is_within(bounds, d, false, own - 1)
+}
+
+/// Whether this holds of all that the names call for.
+pub fn are_above(bounds: &Bounds, ranks: &Ranks, lookups: &[Asked<'_>]) -> bool
+    ensures { result ≡ are_above bounds.now ranks.now (map asked_view lookups.now) }
+{
+    for a in lookups {
+        if let Some(d) = source_of(a.meaning) {
+            if !is_above(bounds, ranks, &d) {
+                return false;
+            }
+        }
+    }
+    true
 }

@@ -1,5 +1,5 @@
 -- Locals stand inside the functions that they are numbered with.
-use Rattle.std.proofs.Common.{◌≡◌, ℕ, zero, suc, ◌<◌, ◌≤◌, Bool, true, false, ◌&&◌, if◌then◌else◌, List, [], ◌∷◌, ◌++◌, Option, Some, None, refl, sym, ap, ◌∙◌, subst, arith}
+use Rattle.std.proofs.Common.{◌≡◌, ℕ, zero, suc, ◌<◌, ◌≤◌, Bool, true, false, ◌&&◌, if◌then◌else◌, List, [], ◌∷◌, ◌++◌, Some, None, refl, sym, ap, ◌∙◌, subst, arith}
 use Rattle.std.specs.Prelude.{slice_get, nat_eq, nat_le, nat_lt}
 use Rattle.std.proofs.lemmas.Bool.Decides.{nat_tests}
 use Rattle.go_tokens.specs.Tokens.{TokenList}
@@ -8,7 +8,6 @@ use Rattle.go_tree.specs.declared.context.Block.TheVariants as block
 use Rattle.go_tree.specs.declared.context.Entity.{Entity}
 use Rattle.go_tree.specs.declared.context.Entity.TheVariants as entity
 use Rattle.go_tree.specs.declared.context.Manner.{Manner}
-use Rattle.go_tree.specs.declared.context.Manner.TheVariants as manner
 use Rattle.go_tree.specs.declared.context.Scope.{Scope}
 use Rattle.go_tree.specs.declared.event.Declaration.{Declaration}
 use Rattle.go_tree.specs.declared.event.Event.{Event}

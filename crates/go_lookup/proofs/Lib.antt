@@ -1,5 +1,6 @@
 pub mod Ascii
 pub mod Behind
+pub mod ByName
 pub mod Housed
 pub mod Named
 pub mod Owned

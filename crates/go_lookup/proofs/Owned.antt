@@ -14,7 +14,7 @@ use Rattle.go_tree.specs.declared.object.Object.TheVariants as object
 use Rattle.go_tree.specs.Contexts.{is_package}
 use Rattle.go_tree.specs.Meanings.{Found, Meaning, Numbers, first_numbers, own_number, behind_shared, numbers_behind, numbered, is_function, word, bytes_at, found_in, found_from, found, is_new, new_among, declarations, declared_meaning, imports_fmt, imported_meaning, imported_from, meanings, own_object, object_at, token_object, token_objects, objects_from, objects}
 use Rattle.go_tree.specs.Meanings as names
-use Rattle.go_tree.specs.Uses.{UsesView, declared_by, declared_in_package, own_locals, function_locals, uses, object_in, object_of, local_in, declared_as, is_behind, are_behind, are_in_order}
+use Rattle.go_tree.specs.Uses.{declared_by, declared_in_package, own_locals, function_locals, uses, object_in, object_of, local_in, declared_as, is_behind, are_behind, are_in_order}
 use Rattle.go_names.specs.Orders.{AreInOrder}
 use Rattle.go_names.specs.Scopes.{AreOrderly}
 use Rattle.go_lookup.specs.Tables.{declared_object, AreCounted}

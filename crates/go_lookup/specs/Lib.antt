@@ -1,4 +1,5 @@
 pub mod Keys
+pub mod Named
 pub mod Sorted
 pub mod Stacks
 pub mod Tables

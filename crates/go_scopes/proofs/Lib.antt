@@ -4,4 +4,5 @@ pub mod LookupRules
 pub mod Orderly
 pub mod Seconds
 pub mod Statements
+pub mod Twice
 pub mod UsedSpots

@@ -22,7 +22,7 @@ use go_tree::event::{Event, Member};
 use std::alloc::Global;
 
 /// Whether the member may not stand behind others.
-fn is_duplicate<'a>(member: Member, group: u32, name: &'a [u8], before: &Members<'a>) -> bool
+pub fn is_duplicate<'a>(member: Member, group: u32, name: &'a [u8], before: &Members<'a>) -> bool
     ensures { (ts : TokenList) → (es : List Event) → Gathers before.now ts es → result ≡ is_duplicate member group name.now ts es }
 {
     match member {

@@ -14,7 +14,9 @@ mod failure;
 mod file_rule;
 mod lookups;
 mod members;
+pub mod names;
 mod redeclared;
+pub mod repeated;
 pub mod resolve;
 #[cfg(test)]
 mod tests;

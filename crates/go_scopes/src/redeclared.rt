@@ -26,7 +26,7 @@ use indexmap::{IndexMap, IndexSet};
 use std::alloc::Global;
 
 /// Whether the block has the name already.
-fn has_clash(d: &Found<'_>, names: &IndexMap<Key<'_>, bool>) -> bool
+pub fn has_clash(d: &Found<'_>, names: &IndexMap<Key<'_>, bool>) -> bool
     ensures { (before : List meanings.Found) → KnowsNames names.now before → result ≡ has_clash (found_view d.now) before }
 {
     match names.get(&key_of(d)).copied() {
@@ -53,7 +53,7 @@ fn second_declarations(
 }
 
 /// Whether a file imports `fmt`.
-fn has_import(alloc: Global, units: &[Unit<'_>]) -> Result<bool, Memory>
+pub fn has_import(alloc: Global, units: &[Unit<'_>]) -> Result<bool, Memory>
     ensures { IfOk result (λ b. b ≡ has_import (units_view units.now)) }
 {
     for unit in units {

@@ -1,7 +1,10 @@
 //! Worked packages.
 
 use crate::error::ResolveError;
+use crate::names::names_of;
+use crate::repeated::{NamePlace, redeclared_names, repeated_parameters};
 use crate::resolve::{resolve, units_of};
+use go_base::Span;
 use go_cycles::order::order_of;
 use go_lookup::found::{all_found, new_among};
 use go_lookup::look_up::look_up;
@@ -290,45 +293,57 @@ fn many_files(rt: HostRuntime) -> Result<(), Fail> {
     Ok(())
 }
 
+/// What is shown of a declaration: whether it needs itself, and whether it has a rank.
+type Shown = (Option<bool>, bool);
+
+/// It needs itself.
+const ITSELF: Shown = (Some(true), false);
+
+/// It doesn't, but another declaration of the package does.
+const OTHER: Shown = (Some(false), false);
+
+/// None of the package does.
+const NONE: Shown = (Some(false), true);
+
 /// Packages of a file, and which of their declarations need themselves.
-const CYCLES: [(&[u8], &[Option<bool>]); 9] = [
+const CYCLES: [(&[u8], &[Shown]); 9] = [
     (
         b"package p\ntype A struct { b B }\ntype B struct { c C }\ntype C struct { a A }",
-        &[Some(true), Some(true), Some(true)],
+        &[ITSELF, ITSELF, ITSELF],
     ),
     (
         b"package p\ntype A struct { b B }\ntype B struct { c C }\ntype C int",
-        &[Some(false), Some(false), Some(false)],
+        &[NONE, NONE, NONE],
     ),
-    (b"package p\ntype A []A", &[Some(false)]),
-    (b"package p\ntype A [len(A{})]int", &[Some(true)]),
+    (b"package p\ntype A []A", &[NONE]),
+    (b"package p\ntype A [len(A{})]int", &[ITSELF]),
     (
         b"package p\ntype A struct { b B }\ntype B []A",
-        &[Some(false), Some(false)],
+        &[NONE, NONE],
     ),
     // An array's length needs all that the type's right side names.
     (
         b"package p\ntype A [len(B{})]int\ntype B []A",
-        &[Some(true), Some(false)],
+        &[ITSELF, OTHER],
     ),
     // What leads to a circle isn't on it.
     (
         b"package p\ntype A struct { b B }\ntype B struct { c C }\ntype C struct { b B }",
-        &[Some(false), Some(true), Some(true)],
+        &[OTHER, ITSELF, ITSELF],
     ),
     (
         b"package p\ntype A [len(B{})]int\ntype B []C\ntype C []B",
-        &[Some(false), Some(false), Some(false)],
+        &[NONE, NONE, NONE],
     ),
     // Each constant needs its own value.
     (
         b"package p\nconst a, b = b, 1\nfunc f(x [a]int) { f(x) }",
-        &[Some(false), Some(false), Some(false), Some(false)],
+        &[NONE, NONE, NONE, NONE],
     ),
 ];
 
 /// What the ranks and the circles show of each declaration of a file.
-fn shown(alloc: Global, text: &[u8]) -> Result<Vec<Option<bool>>, Fail> {
+fn shown(alloc: Global, text: &[u8]) -> Result<Vec<Shown>, Fail> {
     let mut files = Vec::new(alloc);
     files.push(file(alloc, 0, text)?)?;
     let units = units_of(alloc, &files)?;
@@ -341,17 +356,80 @@ fn shown(alloc: Global, text: &[u8]) -> Result<Vec<Option<bool>>, Fail> {
     let rounds = declared.len().saturating_mul(2);
     let mut shown = Vec::new(alloc);
     for d in &declared {
-        shown.push(order.shown(alloc, &asked, rounds, d)?)?;
+        let itself = order.shown(alloc, &asked, rounds, d)?;
+        shown.push((itself, order.rank(d).is_some()))?;
     }
     Ok(shown)
 }
 
 /// The ranks show of each declaration that it doesn't need itself, or else a circle that it does, so that the rounds of the
-/// definition are never needed.
+/// definition are never needed. Where none needs itself, each has a rank.
 #[test]
 fn cycles(rt: HostRuntime) -> Result<(), Fail> {
     for (text, wanted) in CYCLES {
         assert!(rt; shown(rt.alloc(), text)?.as_slice() == wanted);
     }
+    Ok(())
+}
+
+/// What the name means at a token of a package of one file.
+fn object_at<'a>(
+    alloc: Global,
+    files: &'a [File],
+    token: u32,
+    name: &'a [u8],
+) -> Result<Option<Object>, Fail> {
+    if files.len() > 256 {
+        return Err("a package has at most 256 files".into());
+    }
+    let names = names_of(alloc, files)?;
+    Ok(names.object_at(0, token, name))
+}
+
+/// What names mean at the first statement of `f` above, and at that of `g`.
+#[test]
+fn meant(rt: HostRuntime) -> Result<(), Fail> {
+    let alloc = rt.alloc();
+    let mut files = Vec::new(alloc);
+    files.push(file(alloc, 0, PACKAGE)?)?;
+    let local = Object::Local {
+        function: 1,
+        number: 0,
+    };
+    let int = Object::Predeclared(Predeclared::Int);
+    assert!(rt; object_at(alloc, &files, 48, b"int")? == Some(local));
+    assert!(rt; object_at(alloc, &files, 19, b"int")? == Some(int));
+    assert!(rt; object_at(alloc, &files, 19, b"b")? == None);
+    assert!(rt; object_at(alloc, &files, 19, b"g")? == Some(Object::Package(2)));
+    Ok(())
+}
+
+/// Where a name of the file 0 stands: its token and its first byte.
+fn letter(token: u32, start: u32) -> NamePlace {
+    NamePlace {
+        file: 0,
+        token,
+        place: Span {
+            file: 0,
+            start,
+            end: start.saturating_add(1),
+        },
+    }
+}
+
+/// A variable and a parameter that stand twice.
+#[test]
+fn repeated(rt: HostRuntime) -> Result<(), Fail> {
+    let alloc = rt.alloc();
+    let mut files = Vec::new(alloc);
+    let text = b"package p\nvar x, x int\nfunc f(a, a int) { f(a, a) }";
+    files.push(file(alloc, 0, text)?)?;
+    if files.len() > 256 {
+        return Err("a package has at most 256 files".into());
+    }
+    let names = redeclared_names(alloc, &files)?;
+    assert!(rt; names.first() == Some(&letter(6, 17)) && names.len() == 1);
+    let parameters = repeated_parameters(alloc, &files)?;
+    assert!(rt; parameters.first() == Some(&letter(14, 33)) && parameters.len() == 1);
     Ok(())
 }

@@ -13,6 +13,7 @@ pub mod Meanings
 pub mod Needs
 pub mod Predeclared
 pub mod Redeclared
+pub mod Repeated
 pub mod Spans
 pub mod Uses
 pub mod Views
