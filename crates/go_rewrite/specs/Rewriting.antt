@@ -13,7 +13,7 @@ use Rattle.go_tokens.specs.Tokens.{kinds}
 use Rattle.go_tokens.specs.Encoding.{IsText}
 use Rattle.go_tokens.specs.Files.{IsLexing}
 use Rattle.go_tokens.specs.Replacing.{Item, read, are_apart, is_at_line_end}
-use Rattle.go_tokens.specs.Editing.{Edits, Rest, Edit, old_text, new_text, IsWritten, Stands, EndsLine}
+use Rattle.go_tokens.specs.Editing.{Edits, Rest, Edit, old_text, new_text, IsWritten, Stands, stands_apart, EndsLine}
 use Rattle.go_grammar.specs.declared.kind.Category.{Category}
 use Rattle.go_grammar.specs.declared.kind.Category.TheVariants as category
 use Rattle.go_grammar.specs.Categories.{place_of}
@@ -102,14 +102,14 @@ pub record IsRange (ts : List Token) (from upto start end : ℕ) : Type 0 where
   pub ends : last.span.end ≡ end
 
 -- What is asked of the text of a range in a text with the tokens ts, where the text behind the range is first this and then
--- that. The new text stands alone, neighbours at a seam don't join, and where a line ends behind the range, a semicolon is
+-- that. The new text stands alone, neighbours at a seam don't join (a period behind a name doesn't), and where a line ends behind the range, a semicolon is
 -- inserted behind its new last token exactly where one is behind the old.
 pub record TextFits (file : ℕ) (ts : List Token) (at : ℕ) (r : Rewrite) (old_behind new_behind : List ℕ) : Type 0 where
   pub range : IsRange ts r.from r.upto (at + width r.kept) (at + width r.kept + width r.old)
   pub stands : Stands file r.new
   pub tokens : stands.tokens ≡ r.alone
   pub apart_before : are_apart r.kept (r.new ++ new_behind) ≡ true
-  pub apart_behind : are_apart r.new new_behind ≡ true
+  pub apart_behind : stands_apart file r.new stands new_behind ≡ true
   pub line : EndsLine old_behind → ends_statement_kind range.last.kind ≡ ends_statement_kind stands.spans.last.kind
 
 abbrev pub TextsFit : ℕ → List Token → ℕ → List Rewrite → List ℕ → List ℕ → Type 0
