@@ -1,4 +1,5 @@
 pub mod Agreeing
+pub mod Alike
 pub mod Appended
 pub mod Begins
 pub mod Chains

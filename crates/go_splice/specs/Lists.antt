@@ -8,8 +8,9 @@ use Rattle.go_grammar.specs.declared.kind.Category.TheVariants as category
 use Rattle.go_grammar.specs.Rules.{Items, Lines, Open, Rule, End, Then, Maybe, Unless, Many}
 use Rattle.go_grammar.specs.Trees.{Tree, node, Trees, none, more, skip, first, last, parts}
 use Rattle.go_grammar.specs.Grammar.{Derives}
-use Rattle.go_splice.specs.Replacing.{moved, Edge, asked_at}
+use Rattle.go_splice.specs.Replacing.{moved, Edge, subtree_at, asked_at}
 use Rattle.go_splice.specs.Places.{has_items}
+use Rattle.go_splice.specs.Sites.{whole, Site}
 
 abbrev mutual
   -- each node has a token, and its parts lie one behind the other inside it
@@ -82,3 +83,31 @@ in_block = Lines true category.Statement token.Semicolon token.RightBrace
 
 abbrev pub in_clause : Items
 in_clause = Open category.Statement token.Semicolon
+
+abbrev mutual
+  -- both trees have the same kinds at the same places
+  pub Alike : Tree → Tree → Type 0
+  Alike (node k a b ps) (node l c d qs) = (k ≡ l) × AlikeAll ps qs
+
+  pub AlikeAll : Trees → Trees → Type 0
+  AlikeAll none none = Unit {0}
+  AlikeAll none (more q qs) = ⊥
+  AlikeAll none (skip qs) = ⊥
+  AlikeAll (more p ps) none = ⊥
+  AlikeAll (more p ps) (more q qs) = Alike p q × AlikeAll ps qs
+  AlikeAll (more p ps) (skip qs) = ⊥
+  AlikeAll (skip ps) none = ⊥
+  AlikeAll (skip ps) (more q qs) = ⊥
+  AlikeAll (skip ps) (skip qs) = AlikeAll ps qs
+
+-- An alike tree stands in place of the one at the end of the path, as one name in place of another.
+pub record AlikeSite (t : Tree) (x : Site) : Type 0 where
+  pub old : Tree
+  pub new : Tree
+  pub stood : subtree_at x.path t ≡ Some old
+  pub is : x.change ≡ whole new
+  pub alike : Alike old new
+
+abbrev pub AllAlike : Tree → List Site → Type 0
+AllAlike t [] = Unit {0}
+AllAlike t (x ∷ xs) = AlikeSite t x × AllAlike t xs

@@ -11,7 +11,7 @@ ghost use Rattle.go_grammar.specs.declared.kind.Kind.{Kind};
 ghost use Rattle.go_grammar.specs.declared.kind.Level.{Level};
 ghost use Rattle.go_grammar.specs.Categories.{place_of};
 ghost use Rattle.go_splice.specs.Replacing.{Edge, Seam, subtree_at, asked_at, replace, agree, Step, Replaces, AreReplaced, takes_level, moved, shifts, onto, items_after, Run};
-ghost use Rattle.go_splice.specs.Lists.{Subtree, items_at, has_run, run_at, no_clause, Elsewhere, in_block, in_clause};
+ghost use Rattle.go_splice.specs.Lists.{Subtree, items_at, has_run, run_at, no_clause, Elsewhere, in_block, in_clause, AllAlike};
 ghost use Rattle.go_splice.specs.Sites as sites;
 ghost use Rattle.go_splice.specs.Sites.{Site, patch_of, local_range, run_range, site_ranges, alone, AllSit, AllWithin, all_clear};
 ghost use Rattle.go_splice.specs.Places.{Patch, put, carry, carries, become, range, places, Outside, Ascending, Stays, agreed, Fits, Change, changed, moved_by, ranges, Stand, with_declaration};
@@ -96,6 +96,11 @@ pub fn changed_sites_of_a_file()
 /// which it is not.
 pub fn clear_sites_agree()
     ensures { (ts : List TokenKind) (m : ℕ → ℕ) (c : Category) (t : Tree) (ss : List Site) → Derives ts c t → all_clear t ss ≡ true → agreed m t (patch_of ss) ≡ true }
+{}
+
+/// They also do where each tree that is replaced gets an alike one, as a name another name.
+pub fn alike_sites_agree()
+    ensures { (ts : List TokenKind) (m : ℕ → ℕ) (c : Category) (t : Tree) (ss : List Site) → Derives ts c t → AllAlike t ss → agreed m t (patch_of ss) ≡ true }
 {}
 
 /// They also do where all nodes of the new tree do.
