@@ -7,6 +7,7 @@ mod Excerpts
 mod Numbers
 mod Parts
 mod Rewritten
+mod Settled
 mod Testing
 mod Tokens
 mod Trees

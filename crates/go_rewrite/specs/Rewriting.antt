@@ -85,6 +85,11 @@ abbrev pub sites : (ℕ → ℕ) → List Rewrite → List Site
 sites m [] = []
 sites m (r ∷ rs) = record { path = r.path; change = settled (λ k. m r.from + k) r.change } ∷ sites m rs
 
+-- the same over the tokens of each new text alone
+abbrev pub sites_alone : List Rewrite → List Site
+sites_alone [] = []
+sites_alone (r ∷ rs) = record { path = r.path; change = r.change } ∷ sites_alone rs
+
 -- the new tree
 abbrev pub new_tree : List Rewrite → Tree → Tree
 new_tree rs t = become (move rs) t (patch_of (sites (move rs) rs))

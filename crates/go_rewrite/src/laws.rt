@@ -1,17 +1,20 @@
 // Laws of texts in which ranges are replaced.
 
-ghost use Rattle.std.specs.Prelude.{◌≡◌, ◌+◌, ◌++◌, ℕ, List, Option};
+ghost use Rattle.std.specs.Prelude.{◌≡◌, ◌+◌, ◌≤◌, ◌++◌, true, ℕ, List, Option};
 ghost use Rattle.go_base.specs.declared.Span.{Span};
 ghost use Rattle.go_tokens.specs.declared.token.Token.{Token};
+ghost use Rattle.go_tokens.specs.declared.token.TokenKind.{TokenKind};
 ghost use Rattle.go_tokens.specs.Tokens.{kinds};
 ghost use Rattle.go_tokens.specs.Lexing.{width, Lexes};
 ghost use Rattle.go_tokens.specs.Editing.{old_text};
 ghost use Rattle.go_grammar.specs.declared.kind.Category.{Category};
-ghost use Rattle.go_grammar.specs.Trees.{Tree};
+ghost use Rattle.go_grammar.specs.Trees.{Tree, depth};
 ghost use Rattle.go_grammar.specs.Grammar.{Derives};
 ghost use Rattle.go_splice.specs.Places.{changed};
+ghost use Rattle.go_splice.specs.Sites.{AllWithin, all_clear};
+ghost use Rattle.go_splice.specs.Lists.{AllAlike};
 ghost use Rattle.go_rewrite.specs.Excerpts.{Excerpt};
-ghost use Rattle.go_rewrite.specs.Rewriting.{Rewrite, edits, changes, new_tree, IsRange, TextsFit, IsTail, NewTokens, IsRewriting, IsFileRewriting, NewFile};
+ghost use Rattle.go_rewrite.specs.Rewriting.{Rewrite, edits, changes, sites_alone, new_tree, agreeing, IsRange, TextsFit, IsTail, NewTokens, IsRewriting, IsFileRewriting, NewFile};
 
 /// Where ranges of a text are replaced, by the numbers of their tokens, and a text is appended, the new text has the old tokens
 /// with those ranges replaced by the tokens that the new texts have alone, and behind them the tokens of what is appended.
@@ -34,4 +37,20 @@ pub fn rewritten_file()
 /// included, and a semicolon at its end where its last token ends a statement; so it may be copied into another text.
 pub fn excerpts_stand()
     ensures { (file : ℕ) (text before inner behind : List ℕ) (ts : List Token) (cs : List Span) (from upto : ℕ) → Lexes file text ts cs → text ≡ before ++ (inner ++ behind) → (range : IsRange ts from upto (width before) (width before + width inner)) → Excerpt file text ts from upto range.last inner }
+{}
+
+/// Nodes on the way agree with their parts where each new text is below nodes of which no more is asked, or below a part of
+/// which it is not.
+pub fn clear_rewrites_agree()
+    ensures { (ts : List TokenKind) (c : Category) (t : Tree) (rs : List Rewrite) → Derives ts c t → all_clear t (sites_alone rs) ≡ true → agreeing rs t ≡ true }
+{}
+
+/// They also do where each range gets an alike tree, as where names are replaced by names.
+pub fn alike_rewrites_agree()
+    ensures { (ts : List TokenKind) (c : Category) (t : Tree) (rs : List Rewrite) → Derives ts c t → AllAlike t (sites_alone rs) → agreeing rs t ≡ true }
+{}
+
+/// The new tree has at most `d` levels where the old one does and each new text does, with the nodes above it.
+pub fn rewrites_keep_a_depth()
+    ensures { (t : Tree) (rs : List Rewrite) (d : ℕ) → depth t ≤ d → AllWithin d t (sites_alone rs) → depth (new_tree rs t) ≤ d }
 {}
