@@ -5,6 +5,7 @@ pub mod Begins
 pub mod Chains
 pub mod Changes
 pub mod Depths
+pub mod Endings
 pub mod Examples
 pub mod Kept
 pub mod Mild

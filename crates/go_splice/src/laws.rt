@@ -11,6 +11,7 @@ ghost use Rattle.go_grammar.specs.declared.kind.Kind.{Kind};
 ghost use Rattle.go_grammar.specs.declared.kind.Level.{Level};
 ghost use Rattle.go_grammar.specs.Categories.{place_of};
 ghost use Rattle.go_splice.specs.Replacing.{Edge, Seam, subtree_at, asked_at, replace, agree, Step, Replaces, AreReplaced, takes_level, moved, shifts, onto, items_after, Run};
+ghost use Rattle.go_splice.specs.Endings.{ends_well, Ending};
 ghost use Rattle.go_splice.specs.Lists.{Subtree, items_at, has_run, run_at, no_clause, Elsewhere, in_block, in_clause, AllAlike};
 ghost use Rattle.go_splice.specs.Sites as sites;
 ghost use Rattle.go_splice.specs.Sites.{Site, patch_of, local_range, run_range, site_ranges, alone, AllSit, AllWithin, all_clear};
@@ -175,4 +176,11 @@ pub fn run_stands_elsewhere()
 pub fn statements_stand_in_both()
     ensures clause { (ts : List TokenKind) (new : Trees) (a b : ℕ) → Run ts in_block new a b → Run ts in_clause new a b }
     ensures block { (ts : List TokenKind) (new : Trees) (a b : ℕ) → Run ts in_clause new a b → Run ts in_block new a b }
+{}
+
+/// A statement, an expression and the like end with a token behind which a semicolon is inserted at a line's end; and so does a
+/// run of statements. So one may take the place of another at a line's end.
+pub fn texts_end_well()
+    ensures text { (ts : List TokenKind) (c : Category) (t : Tree) → ends_well c ≡ true → Derives ts c t → Ending ts (last t) }
+    ensures run { (ts : List TokenKind) (l : Items) (new : Trees) (a b : ℕ) → ends_well (item l) ≡ true → Run ts l new a b → Ending ts b }
 {}
