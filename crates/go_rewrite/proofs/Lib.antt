@@ -1,4 +1,5 @@
 mod Aligned
+mod Copied
 mod ExampleCalls
 mod ExampleHoles
 mod ExampleSwitch

@@ -1,5 +1,5 @@
 -- A part of a text, from one token to another, as a text of its own.
-use Rattle.std.specs.Prelude.{◌≡◌, ℕ, ◌-◌, if◌then◌else◌, List, [], ◌∷◌, ◌++◌, map, take, drop}
+use Rattle.std.specs.Prelude.{◌≡◌, ℕ, ◌-◌, Bool, not, ◌&&◌, slice_get, if◌then◌else◌, List, [], ◌∷◌, ◌++◌, map, take, drop}
 use Rattle.go_tokens.specs.declared.token.Token.{Token}
 use Rattle.go_tokens.specs.declared.token.TokenKind.{TokenKind}
 use Rattle.go_tokens.specs.declared.token.TokenKind.TheVariants as token
@@ -7,6 +7,8 @@ use Rattle.go_tokens.specs.Spellings.{ends_statement_kind}
 use Rattle.go_tokens.specs.Tokens.{kinds}
 use Rattle.go_tokens.specs.Replacing.{read}
 use Rattle.go_tokens.specs.Editing.{Stands}
+use Rattle.go_grammar.specs.Grammar.{result_words}
+use Rattle.go_grammar.specs.Words.{is_word, is_among}
 use Rattle.go_rewrite.specs.Rewriting.{own}
 
 -- The semicolon that is inserted at the end of a text that ends with this token.
@@ -23,3 +25,8 @@ pub record Excerpt (file : ℕ) (text : List ℕ) (ts : List Token) (from upto :
   pub texts : map (read inner) (own stands.tokens) ≡ take (upto - from) (drop from (map (read text) ts))
   pub kinds_are : kinds (own stands.tokens) ≡ take (upto - from) (drop from (kinds ts))
   pub all : kinds stands.tokens ≡ take (upto - from) (drop from (kinds ts)) ++ closing last
+
+-- Tokens of which the first is no opening brace and no word that a result begins with, or none: a text before them is not
+-- changed by them.
+abbrev pub is_plain : List TokenKind → Bool
+is_plain ws = not (is_word (slice_get ws 0) token.LeftBrace) && not (is_among (slice_get ws 0) result_words)

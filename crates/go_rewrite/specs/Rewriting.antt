@@ -191,6 +191,15 @@ pub record IsDeclaration (ws : List TokenKind) (d : Tree) : Type 0 where
   pub all : length ws ≡ suc (last d)
   pub shallow : depth d ≤ 100
 
+-- The tokens of a rewritten declaration, and its tree.
+pub record NewDeclaration (file : ℕ) (ts : List Token) (t : Tree) (rs : List Rewrite) (rest : List ℕ) : Type 0 where
+  pub tokens : List Token
+  pub comments : List Span
+  pub lexes : Lexes file (new_text (edits rs rest) []) tokens comments
+  pub texts : map (read (new_text (edits rs rest) [])) tokens ≡ rewritten rs (map (read (old_text (edits rs rest))) ts)
+  pub kinds_are : kinds tokens ≡ changed (changes rs) (kinds ts)
+  pub declaration : IsDeclaration (kinds tokens) (new_tree rs t)
+
 abbrev pub AddedFits : List TokenKind → Option Tree → Type 0
 AddedFits ws None = ws ≡ []
 AddedFits ws (Some d) = IsDeclaration ws d
