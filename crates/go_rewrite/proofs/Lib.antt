@@ -1,7 +1,10 @@
 mod Aligned
 mod Copied
 mod ExampleCalls
+mod ExampleFunction
 mod ExampleHoles
+mod ExampleNames
+mod ExampleParameter
 mod ExampleSwitch
 mod ExampleWindows
 mod Excerpts
