@@ -1,6 +1,7 @@
 mod Aligned
 mod Copied
 mod ExampleCalls
+mod ExampleExcerpt
 mod ExampleFunction
 mod ExampleHoles
 mod ExampleNames
