@@ -30,7 +30,8 @@ use Rattle.go_grammar.specs.Reader.{read}
 use Rattle.go_grammar.proofs.Sound.{read_stands}
 use Rattle.go_splice.specs.Replacing.{subtree_at}
 use Rattle.go_splice.specs.Sites.{Local, whole, items}
-use Rattle.go_rewrite.specs.Rewriting.{Rewrite, words, edits, sites_alone, TextFits, TreeFits, ItemsFit, IsTail, IsDeclaration, IsFileRewriting, NewFile}
+use Rattle.go_splice.specs.Places.{IsDeclaration}
+use Rattle.go_rewrite.specs.Rewriting.{Rewrite, words, edits, sites_alone, TextFits, TreeFits, ItemsFit, IsTail, IsFileRewriting, NewFile}
 use Rattle.go_rewrite.proofs.Tokens.{among_get}
 use Rattle.go_splice.specs.Lists.{AllAlike}
 use Rattle.go_rewrite.proofs.Rewritten.{new_file}

@@ -30,7 +30,8 @@ use Rattle.go_grammar.specs.Reader.{read}
 use Rattle.go_grammar.proofs.Sound.{read_stands}
 use Rattle.go_splice.specs.Replacing.{subtree_at}
 use Rattle.go_splice.specs.Sites.{Local, whole, items}
-use Rattle.go_rewrite.specs.Rewriting.{Rewrite, words, edits, TextFits, TreeFits, ItemsFit, IsTail, IsDeclaration, IsRewriting, NewDeclaration}
+use Rattle.go_splice.specs.Places.{IsDeclaration}
+use Rattle.go_rewrite.specs.Rewriting.{Rewrite, words, edits, TextFits, TreeFits, ItemsFit, IsTail, IsRewriting, NewDeclaration}
 use Rattle.go_rewrite.proofs.Tokens.{among_get}
 use Rattle.go_rewrite.proofs.Rewritten.{new_declaration}
 use Rattle.go_rewrite.proofs.Testing.{tree_in, token_in, written, statement_at, statements, statements_end, in_block, in_clause, statements_run, plain_edge, read_at, read_fits}

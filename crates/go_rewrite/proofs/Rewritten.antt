@@ -14,9 +14,9 @@ use Rattle.go_grammar.specs.declared.kind.Category.{Category}
 use Rattle.go_grammar.specs.declared.kind.Category.TheVariants as category
 use Rattle.go_grammar.specs.Trees.{Tree, depth}
 use Rattle.go_grammar.specs.Grammar.{Derives, IsFile}
-use Rattle.go_splice.specs.Places.{carry, changed, with_declaration}
+use Rattle.go_splice.specs.Places.{carry, changed, with_declaration, IsDeclaration}
 use Rattle.go_splice.proofs.Texts.{sites_changed, sites_ended, file_sites_changed, with_one_more}
-use Rattle.go_rewrite.specs.Rewriting.{Rewrite, edits, changes, rewritten, move, sites, new_tree, IsRewriting, IsTail, NewTokens, IsDeclaration, NewDeclaration, AddedFits, extended, IsFileRewriting, NewFile}
+use Rattle.go_rewrite.specs.Rewriting.{Rewrite, edits, changes, rewritten, move, sites, new_tree, IsRewriting, IsTail, NewTokens, NewDeclaration, AddedFits, extended, IsFileRewriting, NewFile}
 use Rattle.go_rewrite.proofs.Tokens.{found}
 use Rattle.go_rewrite.proofs.Trees.{sits, placed}
 

@@ -21,7 +21,7 @@ use Rattle.go_grammar.specs.Rules.{Items, Rule}
 use Rattle.go_grammar.specs.Trees.{Tree, node, Trees, first, last, depth}
 use Rattle.go_grammar.specs.Grammar.{rule, IsAt, Derives, IsFile}
 use Rattle.go_splice.specs.Replacing.{Edge, subtree_at, asked_at, Run}
-use Rattle.go_splice.specs.Places.{carry, carries, become, agreed, Change, changed, moved_by, range, with_declaration}
+use Rattle.go_splice.specs.Places.{carry, carries, become, agreed, Change, changed, moved_by, range, with_declaration, IsDeclaration}
 use Rattle.go_splice.specs.Sites.{Local, whole, items, Site, patch_of, local_range}
 use Rattle.go_splice.specs.Lists.{items_at, has_run}
 
@@ -183,14 +183,6 @@ pub record NewTokens (file : ℕ) (ts : List Token) (rs : List Rewrite) (rest ta
   pub texts : map (read (new_text (edits rs rest) tail)) tokens ≡ rewritten rs (map (read (old_text (edits rs rest))) ts) ++ map (read tail) us
   pub kinds_are : kinds tokens ≡ changed (changes rs) (kinds ts) ++ kinds us
 
--- The declaration that is appended to a file, if there is one: all tokens of the tail, with a semicolon behind it.
-pub record IsDeclaration (ws : List TokenKind) (d : Tree) : Type 0 where
-  pub derives : Derives ws category.Declaration d
-  pub begins : first d ≡ 0
-  pub closed : IsAt ws (last d) token.Semicolon
-  pub all : length ws ≡ suc (last d)
-  pub shallow : depth d ≤ 100
-
 -- The tokens of a rewritten declaration, and its tree.
 pub record NewDeclaration (file : ℕ) (ts : List Token) (t : Tree) (rs : List Rewrite) (rest : List ℕ) : Type 0 where
   pub tokens : List Token
@@ -200,6 +192,7 @@ pub record NewDeclaration (file : ℕ) (ts : List Token) (t : Tree) (rs : List R
   pub kinds_are : kinds tokens ≡ changed (changes rs) (kinds ts)
   pub declaration : IsDeclaration (kinds tokens) (new_tree rs t)
 
+-- the declaration that is appended to a file, if there is one: all tokens of the tail, a semicolon included
 abbrev pub AddedFits : List TokenKind → Option Tree → Type 0
 AddedFits ws None = ws ≡ []
 AddedFits ws (Some d) = IsDeclaration ws d

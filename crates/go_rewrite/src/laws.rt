@@ -12,11 +12,11 @@ ghost use Rattle.go_grammar.specs.Rules.{Items, item};
 ghost use Rattle.go_grammar.specs.Trees.{Tree, Trees, first, last, depth};
 ghost use Rattle.go_grammar.specs.Grammar.{Derives};
 ghost use Rattle.go_splice.specs.Replacing.{moved, Run};
-ghost use Rattle.go_splice.specs.Places.{carry, carries, changed};
+ghost use Rattle.go_splice.specs.Places.{carry, carries, changed, IsDeclaration};
 ghost use Rattle.go_splice.specs.Sites.{AllWithin, all_clear};
 ghost use Rattle.go_splice.specs.Lists.{no_clause, AllAlike};
 ghost use Rattle.go_rewrite.specs.Excerpts.{Excerpt, is_plain};
-ghost use Rattle.go_rewrite.specs.Rewriting.{Rewrite, own, edits, changes, sites_alone, new_tree, agreeing, IsRange, TextsFit, IsTail, NewTokens, IsRewriting, IsDeclaration, NewDeclaration, IsFileRewriting, NewFile};
+ghost use Rattle.go_rewrite.specs.Rewriting.{Rewrite, own, edits, changes, sites_alone, new_tree, agreeing, IsRange, TextsFit, IsTail, NewTokens, IsRewriting, NewDeclaration, IsFileRewriting, NewFile};
 
 /// Where ranges of a text are replaced, by the numbers of their tokens, and a text is appended, the new text has the old tokens
 /// with those ranges replaced by the tokens that the new texts have alone, and behind them the tokens of what is appended.

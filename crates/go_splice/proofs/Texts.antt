@@ -68,11 +68,6 @@ mutual
   depths_carry m (more p ps) = ap (λ n. max n (depths (carries m ps))) (depth_carry m p) ∙ ap (λ n. max (depth p) n) (depths_carry m ps)
   depths_carry m (skip ps) = depths_carry m ps
 
-pub places_ascending : (ts : List TokenKind) (xs : List Change) (c : Category) (t : Tree) (q : Patch) → Derives ts c t → ranges xs ≡ places t q → Ascending 0 (ranges xs) (length ts)
-places_ascending ts xs c t q h at =
-    let a : Ascending (first t) (places t q) (last t) = places_ascend q t (derives_ordered ts t c h) in
-    subst (λ rs. Ascending 0 rs (length ts)) (sym at) (ascending_widen (places t q) 0 (first t) (last t) (length ts) (omega arith) (lies_within ts c t h).1 a)
-
 -- the changes are in the places of the patch
 module _ (ts : List TokenKind) (xs : List Change) (c : Category) (t : Tree) (q : Patch) (h : Derives ts c t) (ascend : Ascending 0 (ranges xs) (length ts)) (among : (n : ℕ) → Outside n (places t q) → Outside n (ranges xs)) where
   apart : (i k : ℕ) → i ≤ k → (i ≡ k) ⊎ (i < k)
@@ -102,13 +97,6 @@ changed_is_file ts xs t q h ascend among f y low =
       ends = text.finishes ∙ ap (moved_by xs) h.ends ∙ change_end ts xs 0 ascend;
       shallow = low;
     }
-
--- where they are just these places
-pub places_changed : (ts : List TokenKind) (xs : List Change) (c : Category) (t : Tree) (q : Patch) → Derives ts c t → ranges xs ≡ places t q → Fits ts (changed xs ts) (moved_by xs) c t q → agreed (moved_by xs) t q ≡ true → Derives (changed xs ts) c (become (moved_by xs) t q)
-places_changed ts xs c t q h at f y = changed_derives ts xs c t q h (places_ascending ts xs c t q h at) (λ n. subst (Outside n) (sym at)) f y
-
-pub file_changed : (ts : List TokenKind) (xs : List Change) (t : Tree) (q : Patch) → IsFile ts t → ranges xs ≡ places t q → Fits ts (changed xs ts) (moved_by xs) category.File t q → agreed (moved_by xs) t q ≡ true → depth (become (moved_by xs) t q) ≤ 101 → IsFile (changed xs ts) (become (moved_by xs) t q)
-file_changed ts xs t q h at f y low = changed_is_file ts xs t q h (places_ascending ts xs category.File t q h.derives at) (λ n. subst (Outside n) (sym at)) f y low
 
 -- where each is found by a path
 pub sites_among : (ts us : List TokenKind) (m : ℕ → ℕ) (xs : List Change) (c : Category) (t : Tree) (ss : List Site) → Derives ts c t → ranges xs ≡ site_ranges t ss → Ascending 0 (ranges xs) (length ts) → AllSit ts us m c t ss → (n : ℕ) → Outside n (places t (patch_of ss)) → Outside n (ranges xs)
