@@ -38,7 +38,6 @@ use Rattle.go_rewrite.proofs.Copied.{copied_run}
 use Rattle.go_rewrite.specs.Rewriting.{own}
 use Rattle.go_rewrite.proofs.Testing.{tree_in, written}
 
-
 abbrev whole_text : List ℕ
 whole_text = codes "package main\n\nfunc f(a int) int {\n\tb := a + 1 // one more\n\tb = b * 2\n\treturn b\n}\n"
 
@@ -54,7 +53,6 @@ old_comments = span 0 46 11 ∷ []
 old_lexes : Lexes 0 whole_text old_tokens old_comments
 unfolding width span begun_by is_white is_letter is_digit is_in_word is_in_run is_exponent is_power is_sign is_x is_b is_o is_digit_of letter_base goes operators punctuation outside_operators keywords general_category value_in general_category_rows encode_utf8
 old_lexes = lexes_by_test 0 old_pieces refl
-
 
 abbrev file_kinds : List TokenKind
 file_kinds = kinds_of.Package ∷ kinds_of.Identifier ∷ kinds_of.Semicolon ∷ kinds_of.Func ∷ kinds_of.Identifier ∷ kinds_of.LeftParenthesis ∷ kinds_of.Identifier ∷ kinds_of.Identifier ∷ kinds_of.RightParenthesis ∷ kinds_of.Identifier ∷ kinds_of.LeftBrace ∷ kinds_of.Identifier ∷ kinds_of.Define ∷ kinds_of.Identifier ∷ kinds_of.Plus ∷ kinds_of.Integer ∷ kinds_of.Semicolon ∷ kinds_of.Identifier ∷ kinds_of.Assign ∷ kinds_of.Identifier ∷ kinds_of.Star ∷ kinds_of.Integer ∷ kinds_of.Semicolon ∷ kinds_of.Return ∷ kinds_of.Identifier ∷ kinds_of.Semicolon ∷ kinds_of.RightBrace ∷ kinds_of.Semicolon ∷ []
@@ -92,4 +90,3 @@ body_is =
 -- the two statements of the body
 copied : Run (kinds (own found.stands.tokens) ++ kinds_of.Semicolon ∷ []) in_block (carries (moved 11 0) (run_at 0 1 (parts body))) 0 (length (kinds (own found.stands.tokens)))
 copied = copied_run 0 whole_text old_tokens 11 22 (token 0 kinds_of.Integer 67 1) statements_text found in_block (run_at 0 1 (parts body)) (kinds_of.Semicolon ∷ []) (omega arith) refl (node_run file_kinds 0 1 (kind_of body) (first body) (last body) (parts body) category.Block in_block body_is refl refl) refl
-

@@ -36,7 +36,6 @@ use Rattle.go_rewrite.proofs.Tokens.{among_get}
 use Rattle.go_rewrite.proofs.Rewritten.{new_declaration}
 use Rattle.go_rewrite.proofs.Testing.{tree_in, token_in, written, statement_at, statements, statements_end, in_block, in_clause, statements_run, plain_edge, read_at, read_fits}
 
-
 abbrev old_text_is : List ℕ
 old_text_is = codes "\nfunc addmul(a int, p0 int) int {\naddmul()\nreturn b\n}\n"
 
@@ -53,7 +52,6 @@ old_lexes : Lexes 0 old_text_is old_tokens old_comments
 unfolding width span begun_by is_white is_letter is_digit is_in_word is_in_run is_exponent is_power is_sign is_x is_b is_o is_digit_of letter_base goes operators punctuation outside_operators keywords general_category value_in general_category_rows encode_utf8
 old_lexes = lexes_by_test 0 old_pieces refl
 
-
 abbrev file_kinds : List TokenKind
 file_kinds = kinds_of.Func ∷ kinds_of.Identifier ∷ kinds_of.LeftParenthesis ∷ kinds_of.Identifier ∷ kinds_of.Identifier ∷ kinds_of.Comma ∷ kinds_of.Identifier ∷ kinds_of.Identifier ∷ kinds_of.RightParenthesis ∷ kinds_of.Identifier ∷ kinds_of.LeftBrace ∷ kinds_of.Identifier ∷ kinds_of.LeftParenthesis ∷ kinds_of.RightParenthesis ∷ kinds_of.Semicolon ∷ kinds_of.Return ∷ kinds_of.Identifier ∷ kinds_of.Semicolon ∷ kinds_of.RightBrace ∷ kinds_of.Semicolon ∷ []
 
@@ -62,8 +60,6 @@ file_tree = tree_in (read 60 file_kinds 100 category.Declaration 0)
 
 file_is : IsDeclaration (kinds old_tokens) file_tree
 file_is = let r = read_stands file_kinds 60 100 category.Declaration 0 file_tree refl in record { derives = r.0; begins = refl; closed = refl; all = refl; shallow = r.2 }
-
-
 
 abbrev new1_text : List ℕ
 new1_text = codes "b := a + 1 // one more\n\tb = b * 2"
@@ -81,7 +77,6 @@ new1_lexes : Lexes 0 new1_text new1_tokens new1_comments
 unfolding width span begun_by is_white is_letter is_digit is_in_word is_in_run is_exponent is_power is_sign is_x is_b is_o is_digit_of letter_base goes operators punctuation outside_operators keywords general_category value_in general_category_rows encode_utf8
 new1_lexes = lexes_by_test 0 new1_pieces refl
 
-
 abbrev words1 : List TokenKind
 words1 = kinds_of.Identifier ∷ kinds_of.Define ∷ kinds_of.Identifier ∷ kinds_of.Plus ∷ kinds_of.Integer ∷ kinds_of.Semicolon ∷ kinds_of.Identifier ∷ kinds_of.Assign ∷ kinds_of.Identifier ∷ kinds_of.Star ∷ kinds_of.Integer ∷ []
 
@@ -90,7 +85,6 @@ next1 = kinds_of.Semicolon ∷ []
 
 abbrev all1 : List TokenKind
 all1 = kinds_of.Identifier ∷ kinds_of.Define ∷ kinds_of.Identifier ∷ kinds_of.Plus ∷ kinds_of.Integer ∷ kinds_of.Semicolon ∷ kinds_of.Identifier ∷ kinds_of.Assign ∷ kinds_of.Identifier ∷ kinds_of.Star ∷ kinds_of.Integer ∷ kinds_of.Semicolon ∷ []
-
 
 abbrev rewrite1 : Rewrite
 rewrite1 = record {
@@ -105,18 +99,14 @@ rewrite1 = record {
   next = next1;
 }
 
-
 abbrev rewrites : List Rewrite
 rewrites = rewrite1 ∷ []
 
 abbrev rest_text : List ℕ
 rest_text = codes "\nreturn b\n}\n"
 
-
 abbrev tail_text : List ℕ
 tail_text = []
-
-
 
 stands1 : Stands 0 new1_text
 unfolding width span begun_by is_white is_letter is_digit is_in_word is_in_run is_exponent is_power is_sign is_x is_b is_o is_digit_of letter_base goes operators punctuation outside_operators keywords general_category value_in general_category_rows encode_utf8 joins
@@ -164,7 +154,6 @@ text_fits1 = record {
   line = λ _. refl;
 }
 
-
 tree_fits1 : TreeFits category.Declaration (kinds old_tokens) file_tree rewrite1 ([])
 unfolding span
 tree_fits1 = record {
@@ -178,7 +167,6 @@ tree_fits1 = record {
   edge = plain_edge file_kinds words1 11 refl refl;
 }
 
-
 abbrev result_text : List ℕ
 result_text = codes "\nfunc addmul(a int, p0 int) int {\nb := a + 1 // one more\n\tb = b * 2\nreturn b\n}\n"
 
@@ -189,4 +177,3 @@ whole_text = refl
 holds : NewDeclaration 0 old_tokens file_tree rewrites rest_text
 unfolding width span begun_by is_white is_letter is_digit is_in_word is_in_run is_exponent is_power is_sign is_x is_b is_o is_digit_of letter_base goes operators punctuation outside_operators keywords general_category value_in general_category_rows encode_utf8 joins
 holds = new_declaration 0 old_tokens old_comments file_tree rewrites rest_text (record { lexes = old_lexes; derives = file_is.derives; texts = (text_fits1, tt); trees = (tree_fits1, tt); agrees = refl }) file_is (omega arith)
-

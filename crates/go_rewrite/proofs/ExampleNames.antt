@@ -38,7 +38,6 @@ use Rattle.go_rewrite.proofs.Rewritten.{new_file}
 use Rattle.go_rewrite.proofs.Settled.{alike_rewrites}
 use Rattle.go_rewrite.proofs.Testing.{tree_in, token_in, written, statement_at, statements, statements_end, in_block, in_clause, statements_run, plain_edge, read_at, read_fits}
 
-
 abbrev old_text_is : List ℕ
 old_text_is = codes "package p\n\ntype t struct {\n\tf int\n}\n\nfunc g(x t) int {\n\ty := x.f\n\tx.f = y\n\treturn x.f\n}\n"
 
@@ -55,7 +54,6 @@ old_lexes : Lexes 0 old_text_is old_tokens old_comments
 unfolding width span begun_by is_white is_letter is_digit is_in_word is_in_run is_exponent is_power is_sign is_x is_b is_o is_digit_of letter_base goes operators punctuation outside_operators keywords general_category value_in general_category_rows encode_utf8
 old_lexes = lexes_by_test 0 old_pieces refl
 
-
 abbrev file_kinds : List TokenKind
 file_kinds = kinds_of.Package ∷ kinds_of.Identifier ∷ kinds_of.Semicolon ∷ kinds_of.«Type» ∷ kinds_of.Identifier ∷ kinds_of.Struct ∷ kinds_of.LeftBrace ∷ kinds_of.Identifier ∷ kinds_of.Identifier ∷ kinds_of.Semicolon ∷ kinds_of.RightBrace ∷ kinds_of.Semicolon ∷ kinds_of.Func ∷ kinds_of.Identifier ∷ kinds_of.LeftParenthesis ∷ kinds_of.Identifier ∷ kinds_of.Identifier ∷ kinds_of.RightParenthesis ∷ kinds_of.Identifier ∷ kinds_of.LeftBrace ∷ kinds_of.Identifier ∷ kinds_of.Define ∷ kinds_of.Identifier ∷ kinds_of.Period ∷ kinds_of.Identifier ∷ kinds_of.Semicolon ∷ kinds_of.Identifier ∷ kinds_of.Period ∷ kinds_of.Identifier ∷ kinds_of.Assign ∷ kinds_of.Identifier ∷ kinds_of.Semicolon ∷ kinds_of.Return ∷ kinds_of.Identifier ∷ kinds_of.Period ∷ kinds_of.Identifier ∷ kinds_of.Semicolon ∷ kinds_of.RightBrace ∷ kinds_of.Semicolon ∷ []
 
@@ -64,7 +62,6 @@ file_tree = tree_in (read 60 file_kinds 101 category.File 0)
 
 file_is : IsFile (kinds old_tokens) file_tree
 file_is = let r = read_stands file_kinds 60 101 category.File 0 file_tree refl in record { derives = r.0; begins = refl; ends = refl; shallow = r.2 }
-
 
 abbrev new1_text : List ℕ
 new1_text = codes "z1"
@@ -82,7 +79,6 @@ new1_lexes : Lexes 0 new1_text new1_tokens new1_comments
 unfolding width span begun_by is_white is_letter is_digit is_in_word is_in_run is_exponent is_power is_sign is_x is_b is_o is_digit_of letter_base goes operators punctuation outside_operators keywords general_category value_in general_category_rows encode_utf8
 new1_lexes = lexes_by_test 0 new1_pieces refl
 
-
 abbrev words1 : List TokenKind
 words1 = kinds_of.Identifier ∷ []
 
@@ -91,7 +87,6 @@ next1 = kinds_of.Identifier ∷ []
 
 abbrev all1 : List TokenKind
 all1 = kinds_of.Identifier ∷ kinds_of.Identifier ∷ []
-
 
 abbrev rewrite1 : Rewrite
 rewrite1 = record {
@@ -105,7 +100,6 @@ rewrite1 = record {
   change = whole (node kind.Name 0 1 none);
   next = next1;
 }
-
 
 abbrev new2_text : List ℕ
 new2_text = codes "w"
@@ -123,7 +117,6 @@ new2_lexes : Lexes 0 new2_text new2_tokens new2_comments
 unfolding width span begun_by is_white is_letter is_digit is_in_word is_in_run is_exponent is_power is_sign is_x is_b is_o is_digit_of letter_base goes operators punctuation outside_operators keywords general_category value_in general_category_rows encode_utf8
 new2_lexes = lexes_by_test 0 new2_pieces refl
 
-
 abbrev words2 : List TokenKind
 words2 = kinds_of.Identifier ∷ []
 
@@ -132,7 +125,6 @@ next2 = kinds_of.Define ∷ []
 
 abbrev all2 : List TokenKind
 all2 = kinds_of.Identifier ∷ kinds_of.Define ∷ []
-
 
 abbrev rewrite2 : Rewrite
 rewrite2 = record {
@@ -146,7 +138,6 @@ rewrite2 = record {
   change = whole (node kind.Name 0 1 none);
   next = next2;
 }
-
 
 abbrev new3_text : List ℕ
 new3_text = codes "z1"
@@ -164,7 +155,6 @@ new3_lexes : Lexes 0 new3_text new3_tokens new3_comments
 unfolding width span begun_by is_white is_letter is_digit is_in_word is_in_run is_exponent is_power is_sign is_x is_b is_o is_digit_of letter_base goes operators punctuation outside_operators keywords general_category value_in general_category_rows encode_utf8
 new3_lexes = lexes_by_test 0 new3_pieces refl
 
-
 abbrev words3 : List TokenKind
 words3 = kinds_of.Identifier ∷ []
 
@@ -173,7 +163,6 @@ next3 = kinds_of.Period ∷ []
 
 abbrev all3 : List TokenKind
 all3 = kinds_of.Identifier ∷ kinds_of.Period ∷ []
-
 
 abbrev rewrite3 : Rewrite
 rewrite3 = record {
@@ -187,7 +176,6 @@ rewrite3 = record {
   change = whole (node kind.Name 0 1 none);
   next = next3;
 }
-
 
 abbrev new4_text : List ℕ
 new4_text = codes "z1"
@@ -205,7 +193,6 @@ new4_lexes : Lexes 0 new4_text new4_tokens new4_comments
 unfolding width span begun_by is_white is_letter is_digit is_in_word is_in_run is_exponent is_power is_sign is_x is_b is_o is_digit_of letter_base goes operators punctuation outside_operators keywords general_category value_in general_category_rows encode_utf8
 new4_lexes = lexes_by_test 0 new4_pieces refl
 
-
 abbrev words4 : List TokenKind
 words4 = kinds_of.Identifier ∷ []
 
@@ -214,7 +201,6 @@ next4 = kinds_of.Period ∷ []
 
 abbrev all4 : List TokenKind
 all4 = kinds_of.Identifier ∷ kinds_of.Period ∷ []
-
 
 abbrev rewrite4 : Rewrite
 rewrite4 = record {
@@ -228,7 +214,6 @@ rewrite4 = record {
   change = whole (node kind.Name 0 1 none);
   next = next4;
 }
-
 
 abbrev new5_text : List ℕ
 new5_text = codes "w"
@@ -246,7 +231,6 @@ new5_lexes : Lexes 0 new5_text new5_tokens new5_comments
 unfolding width span begun_by is_white is_letter is_digit is_in_word is_in_run is_exponent is_power is_sign is_x is_b is_o is_digit_of letter_base goes operators punctuation outside_operators keywords general_category value_in general_category_rows encode_utf8
 new5_lexes = lexes_by_test 0 new5_pieces refl
 
-
 abbrev words5 : List TokenKind
 words5 = kinds_of.Identifier ∷ []
 
@@ -255,7 +239,6 @@ next5 = kinds_of.Semicolon ∷ []
 
 abbrev all5 : List TokenKind
 all5 = kinds_of.Identifier ∷ kinds_of.Semicolon ∷ []
-
 
 abbrev rewrite5 : Rewrite
 rewrite5 = record {
@@ -269,7 +252,6 @@ rewrite5 = record {
   change = whole (node kind.Name 0 1 none);
   next = next5;
 }
-
 
 abbrev new6_text : List ℕ
 new6_text = codes "z1"
@@ -287,7 +269,6 @@ new6_lexes : Lexes 0 new6_text new6_tokens new6_comments
 unfolding width span begun_by is_white is_letter is_digit is_in_word is_in_run is_exponent is_power is_sign is_x is_b is_o is_digit_of letter_base goes operators punctuation outside_operators keywords general_category value_in general_category_rows encode_utf8
 new6_lexes = lexes_by_test 0 new6_pieces refl
 
-
 abbrev words6 : List TokenKind
 words6 = kinds_of.Identifier ∷ []
 
@@ -296,7 +277,6 @@ next6 = kinds_of.Period ∷ []
 
 abbrev all6 : List TokenKind
 all6 = kinds_of.Identifier ∷ kinds_of.Period ∷ []
-
 
 abbrev rewrite6 : Rewrite
 rewrite6 = record {
@@ -311,13 +291,11 @@ rewrite6 = record {
   next = next6;
 }
 
-
 abbrev rewrites : List Rewrite
 rewrites = rewrite1 ∷ rewrite2 ∷ rewrite3 ∷ rewrite4 ∷ rewrite5 ∷ rewrite6 ∷ []
 
 abbrev rest_text : List ℕ
 rest_text = codes ".f\n}\n"
-
 
 abbrev tail_text : List ℕ
 tail_text = []
@@ -333,7 +311,6 @@ tail_lexes = lexes_by_test 0 tail_pieces refl
 
 abbrev tail_comments : List Span
 tail_comments = []
-
 
 stands1 : Stands 0 new1_text
 unfolding width span begun_by is_white is_letter is_digit is_in_word is_in_run is_exponent is_power is_sign is_x is_b is_o is_digit_of letter_base goes operators punctuation outside_operators keywords general_category value_in general_category_rows encode_utf8 joins
@@ -381,7 +358,6 @@ text_fits1 = record {
   line = λ _. refl;
 }
 
-
 tree_fits1 : TreeFits category.File (kinds old_tokens) file_tree rewrite1 (rewrite2 ∷ rewrite3 ∷ rewrite4 ∷ rewrite5 ∷ rewrite6 ∷ [])
 unfolding span
 tree_fits1 = record {
@@ -394,7 +370,6 @@ tree_fits1 = record {
   behind_is = refl;
   edge = plain_edge file_kinds words1 15 refl refl;
 }
-
 
 stands2 : Stands 0 new2_text
 unfolding width span begun_by is_white is_letter is_digit is_in_word is_in_run is_exponent is_power is_sign is_x is_b is_o is_digit_of letter_base goes operators punctuation outside_operators keywords general_category value_in general_category_rows encode_utf8 joins
@@ -442,7 +417,6 @@ text_fits2 = record {
   line = λ _. refl;
 }
 
-
 tree_fits2 : TreeFits category.File (kinds old_tokens) file_tree rewrite2 (rewrite3 ∷ rewrite4 ∷ rewrite5 ∷ rewrite6 ∷ [])
 unfolding span
 tree_fits2 = record {
@@ -455,7 +429,6 @@ tree_fits2 = record {
   behind_is = refl;
   edge = plain_edge file_kinds words2 20 refl refl;
 }
-
 
 stands3 : Stands 0 new3_text
 unfolding width span begun_by is_white is_letter is_digit is_in_word is_in_run is_exponent is_power is_sign is_x is_b is_o is_digit_of letter_base goes operators punctuation outside_operators keywords general_category value_in general_category_rows encode_utf8 joins
@@ -503,7 +476,6 @@ text_fits3 = record {
   line = λ _. refl;
 }
 
-
 tree_fits3 : TreeFits category.File (kinds old_tokens) file_tree rewrite3 (rewrite4 ∷ rewrite5 ∷ rewrite6 ∷ [])
 unfolding span
 tree_fits3 = record {
@@ -516,7 +488,6 @@ tree_fits3 = record {
   behind_is = refl;
   edge = plain_edge file_kinds words3 22 refl refl;
 }
-
 
 stands4 : Stands 0 new4_text
 unfolding width span begun_by is_white is_letter is_digit is_in_word is_in_run is_exponent is_power is_sign is_x is_b is_o is_digit_of letter_base goes operators punctuation outside_operators keywords general_category value_in general_category_rows encode_utf8 joins
@@ -564,7 +535,6 @@ text_fits4 = record {
   line = λ _. refl;
 }
 
-
 tree_fits4 : TreeFits category.File (kinds old_tokens) file_tree rewrite4 (rewrite5 ∷ rewrite6 ∷ [])
 unfolding span
 tree_fits4 = record {
@@ -577,7 +547,6 @@ tree_fits4 = record {
   behind_is = refl;
   edge = plain_edge file_kinds words4 26 refl refl;
 }
-
 
 stands5 : Stands 0 new5_text
 unfolding width span begun_by is_white is_letter is_digit is_in_word is_in_run is_exponent is_power is_sign is_x is_b is_o is_digit_of letter_base goes operators punctuation outside_operators keywords general_category value_in general_category_rows encode_utf8 joins
@@ -625,7 +594,6 @@ text_fits5 = record {
   line = λ _. refl;
 }
 
-
 tree_fits5 : TreeFits category.File (kinds old_tokens) file_tree rewrite5 (rewrite6 ∷ [])
 unfolding span
 tree_fits5 = record {
@@ -638,7 +606,6 @@ tree_fits5 = record {
   behind_is = refl;
   edge = plain_edge file_kinds words5 30 refl refl;
 }
-
 
 stands6 : Stands 0 new6_text
 unfolding width span begun_by is_white is_letter is_digit is_in_word is_in_run is_exponent is_power is_sign is_x is_b is_o is_digit_of letter_base goes operators punctuation outside_operators keywords general_category value_in general_category_rows encode_utf8 joins
@@ -686,7 +653,6 @@ text_fits6 = record {
   line = λ _. refl;
 }
 
-
 tree_fits6 : TreeFits category.File (kinds old_tokens) file_tree rewrite6 ([])
 unfolding span
 tree_fits6 = record {
@@ -699,7 +665,6 @@ tree_fits6 = record {
   behind_is = refl;
   edge = plain_edge file_kinds words6 33 refl refl;
 }
-
 
 abbrev result_text : List ℕ
 result_text = codes "package p\n\ntype t struct {\n\tf int\n}\n\nfunc g(z1 t) int {\n\tw := z1.f\n\tz1.f = w\n\treturn z1.f\n}\n"
@@ -725,4 +690,3 @@ holds = new_file 0 (encode_utf8_all old_text_is) (encode_utf8_all result_text) o
   appended = record { begins = refl; comments = tail_comments; lexes = tail_lexes };
   added_fits = refl;
 })
-

@@ -36,7 +36,6 @@ use Rattle.go_rewrite.proofs.Tokens.{among_get}
 use Rattle.go_rewrite.proofs.Rewritten.{new_file}
 use Rattle.go_rewrite.proofs.Testing.{tree_in, token_in, written, statement_at, statements, statements_end, in_block, in_clause, statements_run, plain_edge, read_at, read_fits}
 
-
 abbrev old_text_is : List ℕ
 old_text_is = codes "package p\n\nfunc f(x int) {\n\tswitch x {\n\tcase-3:\n\t\tx++\n\t}\n\tx--\n}\n\nfunc g(x int) {\n\tswitch x {\n\tcase-4:\n\t\tx++\n\t}\n\tx--\n}\n"
 
@@ -53,7 +52,6 @@ old_lexes : Lexes 0 old_text_is old_tokens old_comments
 unfolding width span begun_by is_white is_letter is_digit is_in_word is_in_run is_exponent is_power is_sign is_x is_b is_o is_digit_of letter_base goes operators punctuation outside_operators keywords general_category value_in general_category_rows encode_utf8
 old_lexes = lexes_by_test 0 old_pieces refl
 
-
 abbrev file_kinds : List TokenKind
 file_kinds = kinds_of.Package ∷ kinds_of.Identifier ∷ kinds_of.Semicolon ∷ kinds_of.Func ∷ kinds_of.Identifier ∷ kinds_of.LeftParenthesis ∷ kinds_of.Identifier ∷ kinds_of.Identifier ∷ kinds_of.RightParenthesis ∷ kinds_of.LeftBrace ∷ kinds_of.Switch ∷ kinds_of.Identifier ∷ kinds_of.LeftBrace ∷ kinds_of.Case ∷ kinds_of.Minus ∷ kinds_of.Integer ∷ kinds_of.Colon ∷ kinds_of.Identifier ∷ kinds_of.Increment ∷ kinds_of.Semicolon ∷ kinds_of.RightBrace ∷ kinds_of.Semicolon ∷ kinds_of.Identifier ∷ kinds_of.Decrement ∷ kinds_of.Semicolon ∷ kinds_of.RightBrace ∷ kinds_of.Semicolon ∷ kinds_of.Func ∷ kinds_of.Identifier ∷ kinds_of.LeftParenthesis ∷ kinds_of.Identifier ∷ kinds_of.Identifier ∷ kinds_of.RightParenthesis ∷ kinds_of.LeftBrace ∷ kinds_of.Switch ∷ kinds_of.Identifier ∷ kinds_of.LeftBrace ∷ kinds_of.Case ∷ kinds_of.Minus ∷ kinds_of.Integer ∷ kinds_of.Colon ∷ kinds_of.Identifier ∷ kinds_of.Increment ∷ kinds_of.Semicolon ∷ kinds_of.RightBrace ∷ kinds_of.Semicolon ∷ kinds_of.Identifier ∷ kinds_of.Decrement ∷ kinds_of.Semicolon ∷ kinds_of.RightBrace ∷ kinds_of.Semicolon ∷ []
 
@@ -62,7 +60,6 @@ file_tree = tree_in (read 60 file_kinds 101 category.File 0)
 
 file_is : IsFile (kinds old_tokens) file_tree
 file_is = let r = read_stands file_kinds 60 101 category.File 0 file_tree refl in record { derives = r.0; begins = refl; ends = refl; shallow = r.2 }
-
 
 abbrev new1_text : List ℕ
 new1_text = codes "x = h(x, -3)"
@@ -80,7 +77,6 @@ new1_lexes : Lexes 0 new1_text new1_tokens new1_comments
 unfolding width span begun_by is_white is_letter is_digit is_in_word is_in_run is_exponent is_power is_sign is_x is_b is_o is_digit_of letter_base goes operators punctuation outside_operators keywords general_category value_in general_category_rows encode_utf8
 new1_lexes = lexes_by_test 0 new1_pieces refl
 
-
 abbrev words1 : List TokenKind
 words1 = kinds_of.Identifier ∷ kinds_of.Assign ∷ kinds_of.Identifier ∷ kinds_of.LeftParenthesis ∷ kinds_of.Identifier ∷ kinds_of.Comma ∷ kinds_of.Minus ∷ kinds_of.Integer ∷ kinds_of.RightParenthesis ∷ []
 
@@ -89,7 +85,6 @@ next1 = kinds_of.Semicolon ∷ []
 
 abbrev all1 : List TokenKind
 all1 = kinds_of.Identifier ∷ kinds_of.Assign ∷ kinds_of.Identifier ∷ kinds_of.LeftParenthesis ∷ kinds_of.Identifier ∷ kinds_of.Comma ∷ kinds_of.Minus ∷ kinds_of.Integer ∷ kinds_of.RightParenthesis ∷ kinds_of.Semicolon ∷ []
-
 
 abbrev rewrite1 : Rewrite
 rewrite1 = record {
@@ -103,7 +98,6 @@ rewrite1 = record {
   change = items 0 1 (statements 0 (statement_at all1 0) all1);
   next = next1;
 }
-
 
 abbrev new2_text : List ℕ
 new2_text = codes "x = h(x, -4)"
@@ -121,7 +115,6 @@ new2_lexes : Lexes 0 new2_text new2_tokens new2_comments
 unfolding width span begun_by is_white is_letter is_digit is_in_word is_in_run is_exponent is_power is_sign is_x is_b is_o is_digit_of letter_base goes operators punctuation outside_operators keywords general_category value_in general_category_rows encode_utf8
 new2_lexes = lexes_by_test 0 new2_pieces refl
 
-
 abbrev words2 : List TokenKind
 words2 = kinds_of.Identifier ∷ kinds_of.Assign ∷ kinds_of.Identifier ∷ kinds_of.LeftParenthesis ∷ kinds_of.Identifier ∷ kinds_of.Comma ∷ kinds_of.Minus ∷ kinds_of.Integer ∷ kinds_of.RightParenthesis ∷ []
 
@@ -130,7 +123,6 @@ next2 = kinds_of.Semicolon ∷ []
 
 abbrev all2 : List TokenKind
 all2 = kinds_of.Identifier ∷ kinds_of.Assign ∷ kinds_of.Identifier ∷ kinds_of.LeftParenthesis ∷ kinds_of.Identifier ∷ kinds_of.Comma ∷ kinds_of.Minus ∷ kinds_of.Integer ∷ kinds_of.RightParenthesis ∷ kinds_of.Semicolon ∷ []
-
 
 abbrev rewrite2 : Rewrite
 rewrite2 = record {
@@ -145,13 +137,11 @@ rewrite2 = record {
   next = next2;
 }
 
-
 abbrev rewrites : List Rewrite
 rewrites = rewrite1 ∷ rewrite2 ∷ []
 
 abbrev rest_text : List ℕ
 rest_text = codes "\n}\n"
-
 
 abbrev tail_text : List ℕ
 tail_text = codes "\nfunc h(x int, p0 int) int {\nswitch x {\n\tcase p0 :\n\t\tx++\n\t}\n\tx--\nreturn x\n}\n"
@@ -169,7 +159,6 @@ tail_lexes : Lexes 0 tail_text tail_tokens tail_comments
 unfolding width span begun_by is_white is_letter is_digit is_in_word is_in_run is_exponent is_power is_sign is_x is_b is_o is_digit_of letter_base goes operators punctuation outside_operators keywords general_category value_in general_category_rows encode_utf8
 tail_lexes = lexes_by_test 0 tail_pieces refl
 
-
 abbrev tail_kinds : List TokenKind
 tail_kinds = kinds_of.Func ∷ kinds_of.Identifier ∷ kinds_of.LeftParenthesis ∷ kinds_of.Identifier ∷ kinds_of.Identifier ∷ kinds_of.Comma ∷ kinds_of.Identifier ∷ kinds_of.Identifier ∷ kinds_of.RightParenthesis ∷ kinds_of.Identifier ∷ kinds_of.LeftBrace ∷ kinds_of.Switch ∷ kinds_of.Identifier ∷ kinds_of.LeftBrace ∷ kinds_of.Case ∷ kinds_of.Identifier ∷ kinds_of.Colon ∷ kinds_of.Identifier ∷ kinds_of.Increment ∷ kinds_of.Semicolon ∷ kinds_of.RightBrace ∷ kinds_of.Semicolon ∷ kinds_of.Identifier ∷ kinds_of.Decrement ∷ kinds_of.Semicolon ∷ kinds_of.Return ∷ kinds_of.Identifier ∷ kinds_of.Semicolon ∷ kinds_of.RightBrace ∷ kinds_of.Semicolon ∷ []
 
@@ -178,7 +167,6 @@ added = tree_in (read 60 tail_kinds 100 category.Declaration 0)
 
 added_is : IsDeclaration (kinds tail_tokens) added
 added_is = let r = read_stands tail_kinds 60 100 category.Declaration 0 added refl in record { derives = r.0; begins = refl; closed = refl; all = refl; shallow = r.2 }
-
 
 stands1 : Stands 0 new1_text
 unfolding width span begun_by is_white is_letter is_digit is_in_word is_in_run is_exponent is_power is_sign is_x is_b is_o is_digit_of letter_base goes operators punctuation outside_operators keywords general_category value_in general_category_rows encode_utf8 joins
@@ -226,7 +214,6 @@ text_fits1 = record {
   line = λ _. refl;
 }
 
-
 tree_fits1 : TreeFits category.File (kinds old_tokens) file_tree rewrite1 (rewrite2 ∷ [])
 unfolding span
 tree_fits1 = record {
@@ -239,7 +226,6 @@ tree_fits1 = record {
   behind_is = refl;
   edge = plain_edge file_kinds words1 10 refl refl;
 }
-
 
 stands2 : Stands 0 new2_text
 unfolding width span begun_by is_white is_letter is_digit is_in_word is_in_run is_exponent is_power is_sign is_x is_b is_o is_digit_of letter_base goes operators punctuation outside_operators keywords general_category value_in general_category_rows encode_utf8 joins
@@ -287,7 +273,6 @@ text_fits2 = record {
   line = λ _. refl;
 }
 
-
 tree_fits2 : TreeFits category.File (kinds old_tokens) file_tree rewrite2 ([])
 unfolding span
 tree_fits2 = record {
@@ -300,7 +285,6 @@ tree_fits2 = record {
   behind_is = refl;
   edge = plain_edge file_kinds words2 34 refl refl;
 }
-
 
 abbrev result_text : List ℕ
 result_text = codes "package p\n\nfunc f(x int) {\n\tx = h(x, -3)\n}\n\nfunc g(x int) {\n\tx = h(x, -4)\n}\n\nfunc h(x int, p0 int) int {\nswitch x {\n\tcase p0 :\n\t\tx++\n\t}\n\tx--\nreturn x\n}\n"
@@ -323,4 +307,3 @@ holds = new_file 0 (encode_utf8_all old_text_is) (encode_utf8_all result_text) o
   appended = record { begins = refl; comments = tail_comments; lexes = tail_lexes };
   added_fits = added_is;
 })
-

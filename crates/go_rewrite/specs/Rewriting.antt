@@ -223,3 +223,53 @@ pub record NewFile (file : ℕ) (new : List ℕ) (ts : List Token) (t : Tree) (r
   pub texts : map (read (new_text (edits rs rest) tail)) tokens ≡ rewritten rs (map (read (old_text (edits rs rest))) ts) ++ map (read tail) us
   pub kinds_are : kinds tokens ≡ changed (changes rs) (kinds ts) ++ kinds us
   pub tree : IsFile (kinds tokens) (extended (length (changed (changes rs) (kinds ts))) (kinds us) added (new_tree rs t))
+
+-- A text with its tokens, its comments and its tree; the ranges that are replaced in it, in order; the text behind them; and what
+-- is appended, with its tokens.
+pub record Rewriting : Type 0 where
+  pub file : ℕ
+  pub tokens : List Token
+  pub comments : List Span
+  pub tree : Tree
+  pub ranges : List Rewrite
+  pub rest : List ℕ
+  pub tail : List ℕ
+  pub tail_tokens : List Token
+
+abbrev pub before : Rewriting → List ℕ
+before w = old_text (edits w.ranges w.rest)
+
+abbrev pub HasTexts : Rewriting → Type 0
+HasTexts w = TextsFit w.file w.tokens 0 w.ranges w.rest w.tail
+
+abbrev pub HasTail : Rewriting → Type 0
+HasTail w = IsTail w.file w.tail w.tail_tokens
+
+abbrev pub IsWellFormed : Category → Rewriting → Type 0
+IsWellFormed c w = IsRewriting w.file c w.tokens w.comments w.tree w.ranges w.rest w.tail
+
+abbrev pub HasNewTokens : Rewriting → Type 0
+HasNewTokens w = NewTokens w.file w.tokens w.ranges w.rest w.tail w.tail_tokens
+
+-- the new tokens in front of what is appended are a text of the category, with the new tree
+abbrev pub HasNewTree : Category → Rewriting → Type 0
+HasNewTree c w = Derives (changed (changes w.ranges) (kinds w.tokens)) c (new_tree w.ranges w.tree)
+
+-- The text of a declaration with its ranges, to which nothing is appended.
+pub record IsDeclarationRewriting (w : Rewriting) : Type 0 where
+  pub well_formed : IsRewriting w.file category.Declaration w.tokens w.comments w.tree w.ranges w.rest []
+  pub declaration : IsDeclaration (kinds w.tokens) w.tree
+  pub shallow : depth (new_tree w.ranges w.tree) ≤ 100
+
+-- A file's bytes and those of the new text, and the declaration that is appended.
+pub record FileRewriting : Type 0 where
+  pub text : Rewriting
+  pub old : List ℕ
+  pub new : List ℕ
+  pub added : Option Tree
+
+abbrev pub IsFileWellFormed : FileRewriting → Type 0
+IsFileWellFormed f = let w = f.text in IsFileRewriting w.file f.old f.new w.tokens w.comments w.tree w.ranges w.rest w.tail w.tail_tokens f.added
+
+abbrev pub HasNewFile : FileRewriting → Type 0
+HasNewFile f = let w = f.text in NewFile w.file f.new w.tokens w.tree w.ranges w.rest w.tail w.tail_tokens f.added

@@ -259,9 +259,9 @@ apart_pieces file new stands n rest h =
     ⊎_elim
     (λ a. or_left _ _ (ap (λ l. are_apart l rest) n.whole ∙ a))
     (λ a.
-        let b = both (ends_in_name file new stands) (begins_with_period rest) a in
-        let d = both (is_identifier stands.spans.last.kind) (is_empty_text stands.behind) b.0 in
-        or_right _ _ (and_both _ _ (and_both _ _ (name_word (kind n.range.last) n.range.last (ap is_identifier (sym n.kind_is) ∙ d.0)) (n.no_blanks d.1)) b.1))
+    let b = both (ends_in_name file new stands) (begins_with_period rest) a in
+    let d = both (is_identifier stands.spans.last.kind) (is_empty_text stands.behind) b.0 in
+    or_right _ _ (and_both _ _ (and_both _ _ (name_word (kind n.range.last) n.range.last (ap is_identifier (sym n.kind_is) ∙ d.0)) (n.no_blanks d.1)) b.1))
     (either (are_apart new rest) _ h)
 
 -- The old range of an edit, among the pieces from a place on.

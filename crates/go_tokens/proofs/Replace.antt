@@ -366,11 +366,11 @@ cut_range r rest c g apart line =
     ⊎_elim
     (λ a. cut_seam (pieces_of r) rest c g a line)
     (λ a.
-        let b = both (ends_in_word r) (begins_with_period rest) a in
-        let d = both (is_word_kind (kind r.last)) (is_none r.blanks) b.0 in
-        let p = period_is rest b.1 in
-        let none = none_is r.blanks d.1 in
-        subst (λ bs. Cut (r.before ++ r.last ∷ bs) rest) (sym none) (cut_word r.before r.last rest p.0 (subst (λ bs. Cut (r.before ++ r.last ∷ bs) []) none c) (word_kind_is (kind r.last) d.0) p.1))
+    let b = both (ends_in_word r) (begins_with_period rest) a in
+    let d = both (is_word_kind (kind r.last)) (is_none r.blanks) b.0 in
+    let p = period_is rest b.1 in
+    let none = none_is r.blanks d.1 in
+    subst (λ bs. Cut (r.before ++ r.last ∷ bs) rest) (sym none) (cut_word r.before r.last rest p.0 (subst (λ bs. Cut (r.before ++ r.last ∷ bs) []) none c) (word_kind_is (kind r.last) d.0) p.1))
     (either (are_apart (join (pieces_of r)) rest) _ apart)
 
 -- The new text is cut into the pieces of the parts.
