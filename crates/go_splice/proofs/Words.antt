@@ -13,7 +13,7 @@ use Rattle.go_grammar.specs.Words.{is_word, is_among}
 use Rattle.go_splice.specs.Replacing.{Edge, Run}
 use Rattle.go_splice.specs.Places.{put, carry, carries, range, Ascending, Stand, Fits, Change, changed, moved_by, ranges}
 use Rattle.go_splice.specs.Sites.{items, run_range, alone}
-use Rattle.go_splice.specs.Lists.{items_at, has_run}
+use Rattle.go_splice.specs.Lists.{items_at, has_run, NewRun, NewRunFits}
 use Rattle.go_splice.proofs.Changes.{get_left, get_right, change_stands}
 use Rattle.go_splice.proofs.Kept.{first_carry, last_carry}
 use Rattle.go_splice.proofs.Subtrees.{run_fits_at}
@@ -61,3 +61,6 @@ module _ (ts : List TokenKind) (xs : List Change) (n : ℕ) (x : Change) (ascend
 
   pub run_fits : (c : Category) (k : Kind) (a b : ℕ) (ps : Trees) (f n : ℕ) (new : Trees) (l : Items) → items_at f (rule (place_of c) k) ≡ Some l → has_run f n ps ≡ true → run_range f n ps ≡ range x.from x.upto → Run (x.words ++ ws) l new 0 (length x.words) → Fits ts (changed xs ts) (moved_by xs) c (node k a b ps) (alone (items f n (carries (λ k. moved_by xs x.from + k) new)))
   run_fits c k a b ps f n new l e has place is = run_fits_at ts (changed xs ts) (moved_by xs) (carries (λ k. moved_by xs x.from + k) new) l f n ps (rule (place_of c) k) x.from x.upto e has place (run_there l new is) edge_there
+
+  pub node_fits : (c : Category) (t : Tree) (f n : ℕ) (new : Trees) → NewRun x ws c t f n new → NewRunFits ts xs x c t f n new
+  node_fits c (node k a b ps) f n new h = run_fits c k a b ps f n new h.list h.is_list h.has h.place h.run

@@ -3,18 +3,16 @@
 ghost use Rattle.std.specs.Prelude.{◌≡◌, ◌+◌, ◌≤◌, ℕ, true, List, ◌++◌, Some, slice_get, length};
 ghost use Rattle.go_tokens.specs.declared.token.TokenKind.{TokenKind};
 ghost use Rattle.go_grammar.specs.declared.kind.Category.{Category};
-ghost use Rattle.go_grammar.specs.Grammar.{Derives, IsFile, rule};
+ghost use Rattle.go_grammar.specs.Grammar.{Derives, IsFile};
 ghost use Rattle.go_grammar.specs.Rules.{Items, item};
-ghost use Rattle.go_grammar.specs.Trees.{Tree, Trees, node, first, last, depth};
-ghost use Rattle.go_grammar.specs.declared.kind.Kind.{Kind};
+ghost use Rattle.go_grammar.specs.Trees.{Tree, Trees, first, last, depth};
 ghost use Rattle.go_grammar.specs.declared.kind.Level.{Level};
 ghost use Rattle.go_grammar.specs.Categories.{place_of};
 ghost use Rattle.go_splice.specs.Replacing.{subtree_at, takes_level, moved, Run};
 ghost use Rattle.go_splice.specs.Endings.{ends_well, Ending};
-ghost use Rattle.go_splice.specs.Lists.{Subtree, items_at, has_run, run_at, no_clause, Elsewhere, in_block, in_clause, AllAlike};
-ghost use Rattle.go_splice.specs.Sites as sites;
-ghost use Rattle.go_splice.specs.Sites.{Site, patch_of, run_range, alone, AllWithin, all_clear, AreSites, IsChange};
-ghost use Rattle.go_splice.specs.Places.{put, carry, carries, become, range, Outside, Ascending, Stays, agreed, Fits, Change, changed, moved_by, ranges, Stand, with_declaration, IsDeclaration};
+ghost use Rattle.go_splice.specs.Lists.{Subtree, NewRun, NewRunFits, IsRun, RunStands, no_clause, Elsewhere, in_block, in_clause, AllAlike};
+ghost use Rattle.go_splice.specs.Sites.{Site, patch_of, with_sites, AllWithin, all_clear, AreSites, IsChange, NewText, NewTextFits};
+ghost use Rattle.go_splice.specs.Places.{carry, carries, become, Outside, Ascending, Stays, agreed, Change, changed, moved_by, ranges, Stand, with_declaration, IsDeclaration};
 
 /// Where places of a tree are replaced at once, each found by a path, and each new text is one of what is asked for there, the new
 /// tokens have the tree with these texts in their places and all else moved.
@@ -23,12 +21,12 @@ ghost use Rattle.go_splice.specs.Places.{put, carry, carries, become, range, Out
 /// its new text fits there, by `a_new_text_fits` and `a_new_run_fits`. That the nodes on the way agree with their parts is told
 /// by `clear_sites_agree` and `alike_sites_agree`.
 pub fn changed_sites()
-    ensures { (ts : List TokenKind) (xs : List Change) (c : Category) (t : Tree) (ss : List Site) → Derives ts c t → AreSites ts xs c t ss → Derives (changed xs ts) c (become (moved_by xs) t (patch_of ss)) }
+    ensures { (ts : List TokenKind) (xs : List Change) (c : Category) (t : Tree) (ss : List Site) → Derives ts c t → AreSites ts xs c t ss → Derives (changed xs ts) c (with_sites xs ss t) }
 {}
 
 /// The same for a file; `extended_file` puts a declaration behind it.
 pub fn changed_sites_of_a_file()
-    ensures { (ts : List TokenKind) (xs : List Change) (t : Tree) (ss : List Site) → IsFile ts t → AreSites ts xs Category.File t ss → depth (become (moved_by xs) t (patch_of ss)) ≤ 101 → IsFile (changed xs ts) (become (moved_by xs) t (patch_of ss)) }
+    ensures { (ts : List TokenKind) (xs : List Change) (t : Tree) (ss : List Site) → IsFile ts t → AreSites ts xs Category.File t ss → depth (with_sites xs ss t) ≤ 101 → IsFile (changed xs ts) (with_sites xs ss t) }
 {}
 
 /// A file gets one more declaration at its end, of which the words are `ws`, a semicolon behind it included.
@@ -38,12 +36,12 @@ pub fn extended_file()
 
 /// A new text fits that is one of what is asked for over its own words, with `ws` behind them.
 pub fn a_new_text_fits()
-    ensures { (ts : List TokenKind) (xs : List Change) (n : ℕ) (x : Change) (ws : List TokenKind) → IsChange ts xs n x ws → (c : Category) (t u : Tree) → first t ≡ x.from → last t ≡ x.upto → Derives (x.words ++ ws) c u → first u ≡ 0 → last u ≡ length x.words → Fits ts (changed xs ts) (moved_by xs) c t (put (carry (λ k. moved_by xs x.from + k) u)) }
+    ensures { (ts : List TokenKind) (xs : List Change) (n : ℕ) (x : Change) (ws : List TokenKind) → IsChange ts xs n x ws → (c : Category) (t u : Tree) → NewText x ws c t u → NewTextFits ts xs x c t u }
 {}
 
 /// The same for a new run of items, behind so many parts of a node in place of one and so many more.
 pub fn a_new_run_fits()
-    ensures { (ts : List TokenKind) (xs : List Change) (n : ℕ) (x : Change) (ws : List TokenKind) → IsChange ts xs n x ws → (c : Category) (k : Kind) (a b : ℕ) (ps : Trees) (f m : ℕ) (new : Trees) (l : Items) → items_at f (rule (place_of c) k) ≡ Some l → has_run f m ps ≡ true → run_range f m ps ≡ range x.from x.upto → Run (x.words ++ ws) l new 0 (length x.words) → Fits ts (changed xs ts) (moved_by xs) c (node k a b ps) (alone (sites.items f m (carries (λ k. moved_by xs x.from + k) new))) }
+    ensures { (ts : List TokenKind) (xs : List Change) (n : ℕ) (x : Change) (ws : List TokenKind) → IsChange ts xs n x ws → (c : Category) (t : Tree) (f m : ℕ) (new : Trees) → NewRun x ws c t f m new → NewRunFits ts xs x c t f m new }
 {}
 
 /// An expression of a level is one of each looser level, and stands where expressions of the same place may stand; so an
@@ -86,7 +84,7 @@ pub fn subtrees_stand()
 
 /// Adjoining items of a list are a run, from the first token of the first up to behind the last one of the last.
 pub fn items_stand()
-    ensures { (ts : List TokenKind) (c : Category) (k : Kind) (a b : ℕ) (ps : Trees) (f n : ℕ) (l : Items) → Derives ts c (node k a b ps) → items_at f (rule (place_of c) k) ≡ Some l → has_run f n ps ≡ true → Run ts l (run_at f n ps) (run_range f n ps).from (run_range f n ps).upto }
+    ensures { (ts : List TokenKind) (c : Category) (t : Tree) (f n : ℕ) (list : Items) → IsRun ts c t f n list → RunStands ts t f n list }
 {}
 
 /// A text that is no clause stands also where the same tokens stand and another one is behind them, but for an opening brace and

@@ -10,6 +10,8 @@ use Rattle.go_tokens.specs.declared.piece.PieceKind.TheVariants.{LineComment}
 use Rattle.go_tokens.specs.Spellings.{ends_statement_kind}
 use Rattle.go_tokens.specs.Pieces.{kind}
 use Rattle.go_tokens.specs.Lexing.{join, width, Cut, line_ends, Lexes}
+use Rattle.go_tokens.specs.Encoding.{IsText}
+use Rattle.go_tokens.specs.Files.{IsLexing}
 use Rattle.go_tokens.specs.Replacing.{read, items, spliced, are_apart, begins_with_period, is_at_line_end, Part, Kept, Replaced, pieces_of, old_pieces, new_pieces, Fits}
 
 -- A text with ranges that are replaced.
@@ -130,6 +132,13 @@ pub record EditedLexing (file : ℕ) (edits : Edits) (tail : List ℕ) (ts : Lis
   pub lexes : Lexes file (new_text edits tail) tokens comments
   pub old : map (read (old_text edits)) ts ≡ spliced (λ old new. old) parts
   pub new : map (read (new_text edits tail)) tokens ≡ spliced (λ old new. new) parts ++ items tail_pieces true
+
+-- The bytes of a file with its lexing, edits of its text that are allowed, and the bytes of the new text.
+pub record AreFileEdits (file : ℕ) (edits : Edits) (tail old new : List ℕ) (ts : List Token) (cs : List Span) : Type 0 where
+  pub old_bytes : IsText (old_text edits) old
+  pub new_bytes : IsText (new_text edits tail) new
+  pub lexing : IsLexing file old ts cs
+  pub allowed : Allows file ts 0 edits tail
 
 -- Whether each piece and what is behind it do not join.
 abbrev pub all_apart : List (List ℕ) → Bool
