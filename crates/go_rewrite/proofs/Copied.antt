@@ -1,7 +1,7 @@
 -- Trees of a text stand over an excerpt of it.
-use Rattle.std.proofs.Common.{◌≡◌, ℕ, zero, suc, ◌+◌, ◌-◌, ◌<◌, ◌≤◌, Bool, true, false, not, List, [], ◌∷◌, ◌++◌, length, take, drop, refl, sym, ap, ◌∙◌, subst, arith}
-use Rattle.std.specs.Prelude.{slice_get, ◌&&◌}
-use Rattle.std.proofs.lemmas.List.{length-append, length-take-le, length-drop}
+use Rattle.std.proofs.Common.{◌≡◌, ℕ, ◌+◌, ◌-◌, ◌<◌, ◌≤◌, Bool, true, false, not, List, ◌++◌, length, take, drop, sym, ap, ◌∙◌, subst, arith}
+use Rattle.std.specs.Prelude.{slice_get}
+use Rattle.std.proofs.lemmas.List.{length-take-le, length-drop}
 use Rattle.go_tokens.specs.declared.token.TokenKind.{TokenKind}
 use Rattle.go_tokens.specs.declared.token.TokenKind.TheVariants as token
 use Rattle.go_tokens.specs.declared.token.Token.{Token}
@@ -13,10 +13,10 @@ use Rattle.go_grammar.specs.Grammar.{result_words, Derives}
 use Rattle.go_grammar.specs.Words.{is_word, is_among}
 use Rattle.go_grammar.proofs.Ranges.{lies_within}
 use Rattle.go_grammar.proofs.Rows.{and_both}
-use Rattle.go_splice.specs.Replacing.{moved, Edge, Run}
+use Rattle.go_splice.specs.Replacing.{moved, Run}
 use Rattle.go_splice.specs.Places.{carry, carries}
 use Rattle.go_splice.specs.Lists.{no_clause, Elsewhere}
-use Rattle.go_splice.proofs.Changes.{get_left, get_right, get_front, get_drop}
+use Rattle.go_splice.proofs.Changes.{get_right, get_front, get_drop}
 use Rattle.go_splice.proofs.Kept.{first_carry, last_carry}
 use Rattle.go_splice.proofs.Mild.{text_elsewhere, run_elsewhere}
 use Rattle.go_rewrite.specs.Rewriting.{own}

@@ -1,6 +1,5 @@
 -- A worked example: names take the place of constants in a case, in the header of a loop and on the left side of a range.
-use Rattle.std.proofs.Common.{◌≡◌, ℕ, zero, suc, ◌+◌, ◌<◌, ◌≤◌, Bool, true, false, List, [], ◌∷◌, ◌++◌, length, Option, Some, None, refl, sym, ap, ◌∙◌, subst, codes, arith}
-use Rattle.std.specs.Prelude.{slice_get}
+use Rattle.std.proofs.Common.{◌≡◌, ℕ, List, [], ◌∷◌, None, refl, codes, arith}
 use Rattle.std.specs.Char.{encode_utf8}
 use Rattle.std.specs.Str.{encode_utf8_all}
 use Rattle.ucd_category.specs.GeneralCategory.{general_category}
@@ -19,22 +18,19 @@ use Rattle.go_tokens.specs.Tokens.{kinds}
 use Rattle.go_tokens.specs.Replacing.{joins}
 use Rattle.go_tokens.specs.Editing.{Stands, old_text, new_text}
 use Rattle.go_tokens.proofs.Examples.{lexes_by_test}
-use Rattle.go_grammar.specs.declared.kind.Kind.TheVariants as kind
 use Rattle.go_grammar.specs.declared.kind.Level.TheVariants as level
 use Rattle.go_grammar.specs.declared.kind.Place.TheVariants as place
-use Rattle.go_grammar.specs.declared.kind.Category.{Category}
 use Rattle.go_grammar.specs.declared.kind.Category.TheVariants as category
-use Rattle.go_grammar.specs.Trees.{Tree, node, Trees, none, more, skip, first, last, depth}
+use Rattle.go_grammar.specs.Trees.{Tree}
 use Rattle.go_grammar.specs.Grammar.{IsFile}
 use Rattle.go_grammar.specs.Reader.{read}
 use Rattle.go_grammar.proofs.Sound.{read_stands}
 use Rattle.go_splice.specs.Replacing.{subtree_at}
-use Rattle.go_splice.specs.Sites.{Local, whole, items}
-use Rattle.go_splice.specs.Places.{IsDeclaration}
-use Rattle.go_rewrite.specs.Rewriting.{Rewrite, words, edits, TextFits, TreeFits, ItemsFit, IsTail, IsFileRewriting, NewFile}
+use Rattle.go_splice.specs.Sites.{whole}
+use Rattle.go_rewrite.specs.Rewriting.{Rewrite, edits, TextFits, TreeFits, NewFile}
 use Rattle.go_rewrite.proofs.Tokens.{among_get}
 use Rattle.go_rewrite.proofs.Rewritten.{new_file}
-use Rattle.go_rewrite.proofs.Testing.{tree_in, token_in, written, statement_at, statements, statements_end, in_block, in_clause, statements_run, plain_edge, read_at, read_fits}
+use Rattle.go_rewrite.proofs.Testing.{tree_in, written, plain_edge, read_at, read_fits}
 
 abbrev old_text_is : List ℕ
 old_text_is = codes "package p\n\nfunc h(x int, a []int, b []int) int {\n\tswitch x {\n\tcase-3:\n\t\tx++\n\t}\n\tfor i := 0; i < 10; i++ {\n\t\tx--\n\t}\n\tfor a[3] = range b {\n\t}\n\treturn x\n}\n"

@@ -1,6 +1,5 @@
 -- A worked example: names take the place of names, as before a period, among parameters and before `:=`.
-use Rattle.std.proofs.Common.{◌≡◌, ℕ, zero, suc, ◌+◌, ◌<◌, ◌≤◌, Bool, true, false, List, [], ◌∷◌, ◌++◌, length, Option, Some, None, refl, sym, ap, ◌∙◌, subst, codes, arith}
-use Rattle.std.specs.Prelude.{slice_get}
+use Rattle.std.proofs.Common.{◌≡◌, ℕ, List, [], ◌∷◌, None, refl, codes, arith}
 use Rattle.std.specs.Char.{encode_utf8}
 use Rattle.std.specs.Str.{encode_utf8_all}
 use Rattle.ucd_category.specs.GeneralCategory.{general_category}
@@ -22,21 +21,19 @@ use Rattle.go_tokens.proofs.Examples.{lexes_by_test}
 use Rattle.go_grammar.specs.declared.kind.Kind.TheVariants as kind
 use Rattle.go_grammar.specs.declared.kind.Level.TheVariants as level
 use Rattle.go_grammar.specs.declared.kind.Place.TheVariants as place
-use Rattle.go_grammar.specs.declared.kind.Category.{Category}
 use Rattle.go_grammar.specs.declared.kind.Category.TheVariants as category
-use Rattle.go_grammar.specs.Trees.{Tree, node, Trees, none, more, skip, first, last, depth}
+use Rattle.go_grammar.specs.Trees.{Tree, node, none}
 use Rattle.go_grammar.specs.Grammar.{IsFile}
 use Rattle.go_grammar.specs.Reader.{read}
 use Rattle.go_grammar.proofs.Sound.{read_stands}
 use Rattle.go_splice.specs.Replacing.{subtree_at}
-use Rattle.go_splice.specs.Sites.{Local, whole, items}
-use Rattle.go_splice.specs.Places.{IsDeclaration}
-use Rattle.go_rewrite.specs.Rewriting.{Rewrite, words, edits, sites_alone, TextFits, TreeFits, ItemsFit, IsTail, IsFileRewriting, NewFile}
+use Rattle.go_splice.specs.Sites.{whole}
+use Rattle.go_rewrite.specs.Rewriting.{Rewrite, edits, sites_alone, TextFits, TreeFits, NewFile}
 use Rattle.go_rewrite.proofs.Tokens.{among_get}
 use Rattle.go_splice.specs.Lists.{AllAlike}
 use Rattle.go_rewrite.proofs.Rewritten.{new_file}
 use Rattle.go_rewrite.proofs.Settled.{alike_rewrites}
-use Rattle.go_rewrite.proofs.Testing.{tree_in, token_in, written, statement_at, statements, statements_end, in_block, in_clause, statements_run, plain_edge, read_at, read_fits}
+use Rattle.go_rewrite.proofs.Testing.{tree_in, written, plain_edge}
 
 abbrev old_text_is : List ℕ
 old_text_is = codes "package p\n\ntype t struct {\n\tf int\n}\n\nfunc g(x t) int {\n\ty := x.f\n\tx.f = y\n\treturn x.f\n}\n"

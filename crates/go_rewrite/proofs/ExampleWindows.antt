@@ -1,7 +1,6 @@
 -- A worked example: two windows in one list, and one that ends a clause, in a file that ends in a comment without a newline; line
 -- comments stand in what is appended.
-use Rattle.std.proofs.Common.{◌≡◌, ℕ, zero, suc, ◌+◌, ◌<◌, ◌≤◌, Bool, true, false, List, [], ◌∷◌, ◌++◌, length, Option, Some, None, refl, sym, ap, ◌∙◌, subst, codes, arith}
-use Rattle.std.specs.Prelude.{slice_get}
+use Rattle.std.proofs.Common.{◌≡◌, ℕ, true, false, List, [], ◌∷◌, Some, refl, codes, arith}
 use Rattle.std.specs.Char.{encode_utf8}
 use Rattle.std.specs.Str.{encode_utf8_all}
 use Rattle.ucd_category.specs.GeneralCategory.{general_category}
@@ -20,22 +19,18 @@ use Rattle.go_tokens.specs.Tokens.{kinds}
 use Rattle.go_tokens.specs.Replacing.{joins}
 use Rattle.go_tokens.specs.Editing.{Stands, old_text, new_text}
 use Rattle.go_tokens.proofs.Examples.{lexes_by_test}
-use Rattle.go_grammar.specs.declared.kind.Kind.TheVariants as kind
-use Rattle.go_grammar.specs.declared.kind.Level.TheVariants as level
-use Rattle.go_grammar.specs.declared.kind.Place.TheVariants as place
-use Rattle.go_grammar.specs.declared.kind.Category.{Category}
 use Rattle.go_grammar.specs.declared.kind.Category.TheVariants as category
-use Rattle.go_grammar.specs.Trees.{Tree, node, Trees, none, more, skip, first, last, depth}
+use Rattle.go_grammar.specs.Trees.{Tree}
 use Rattle.go_grammar.specs.Grammar.{IsFile}
 use Rattle.go_grammar.specs.Reader.{read}
 use Rattle.go_grammar.proofs.Sound.{read_stands}
 use Rattle.go_splice.specs.Replacing.{subtree_at}
-use Rattle.go_splice.specs.Sites.{Local, whole, items}
+use Rattle.go_splice.specs.Sites.{items}
 use Rattle.go_splice.specs.Places.{IsDeclaration}
-use Rattle.go_rewrite.specs.Rewriting.{Rewrite, words, edits, TextFits, TreeFits, ItemsFit, IsTail, IsFileRewriting, NewFile}
+use Rattle.go_rewrite.specs.Rewriting.{Rewrite, edits, TextFits, TreeFits, NewFile}
 use Rattle.go_rewrite.proofs.Tokens.{among_get}
 use Rattle.go_rewrite.proofs.Rewritten.{new_file}
-use Rattle.go_rewrite.proofs.Testing.{tree_in, token_in, written, statement_at, statements, statements_end, in_block, in_clause, statements_run, plain_edge, read_at, read_fits}
+use Rattle.go_rewrite.proofs.Testing.{tree_in, written, statement_at, statements, in_block, in_clause, statements_run, plain_edge}
 
 abbrev old_text_is : List ℕ
 old_text_is = codes "package p\n\nfunc f(x int) {\n\tx++\n\tx--\n\tg(x)\n\tx++\n\tx--\n\tswitch x {\n\tcase 1: g(x); x++; x--}\n}\n// end"

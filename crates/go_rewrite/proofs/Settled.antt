@@ -1,12 +1,12 @@
 -- What is asked of the new trees where they stand alone holds of them where they stand.
-use Rattle.std.proofs.Common.{◌≡◌, ℕ, zero, suc, ◌+◌, ◌≤◌, Bool, true, List, [], ◌∷◌, refl, sym, ap, ◌∙◌, subst, arith}
+use Rattle.std.proofs.Common.{◌≡◌, ℕ, zero, suc, ◌+◌, ◌≤◌, true, List, [], ◌∷◌, refl, sym, ap, ◌∙◌, subst}
 use Rattle.std.specs.Prelude.{◌&&◌}
 use Rattle.go_tokens.specs.declared.token.TokenKind.{TokenKind}
 use Rattle.go_grammar.specs.declared.kind.Category.{Category}
-use Rattle.go_grammar.specs.Trees.{Tree, node, Trees, none, more, skip, weight, depth, depths}
+use Rattle.go_grammar.specs.Trees.{Tree, node, Trees, none, more, skip, weight, depth}
 use Rattle.go_grammar.specs.Grammar.{Derives}
-use Rattle.go_splice.specs.Places.{carry, carries, become}
-use Rattle.go_splice.specs.Sites.{Local, whole, items, patch_of, is_free_for, may_change, is_clear, is_clear_in, all_clear, local_depth, levels, levels_in, AllWithin}
+use Rattle.go_splice.specs.Places.{carry}
+use Rattle.go_splice.specs.Sites.{Local, whole, items, is_free_for, may_change, is_clear, is_clear_in, all_clear, local_depth, levels, levels_in, AllWithin}
 use Rattle.go_splice.specs.Lists.{AllAlike}
 use Rattle.go_splice.proofs.Agreeing.{derives_agree, sites_agreed}
 use Rattle.go_splice.proofs.Alike.{carry_alike, alike_through, alike_agreed}

@@ -2,11 +2,10 @@
 --
 -- Each replaced range, from one token up to another, is the text of a subtree or of adjoining items of a list. The new text has
 -- tokens, and a tree or items, when it stands alone. What is asked is asked of each new text by itself and of its neighbours.
-use Rattle.std.specs.Prelude.{◌≡◌, ℕ, suc, ◌+◌, ◌-◌, ◌<◌, ◌≤◌, Bool, true, nat_lt, ◌==◌, if◌then◌else◌, List, [], ◌∷◌, ◌++◌, map, length, take, drop, Option, Some, None, slice_get}
+use Rattle.std.specs.Prelude.{◌≡◌, ℕ, ◌+◌, ◌-◌, ◌<◌, ◌≤◌, Bool, true, nat_lt, ◌==◌, if◌then◌else◌, List, [], ◌∷◌, ◌++◌, map, length, take, drop, Option, Some, None, slice_get}
 use Rattle.go_base.specs.declared.Span.{Span}
 use Rattle.go_tokens.specs.declared.token.Token.{Token}
 use Rattle.go_tokens.specs.declared.token.TokenKind.{TokenKind}
-use Rattle.go_tokens.specs.declared.token.TokenKind.TheVariants as token
 use Rattle.go_tokens.specs.Spellings.{ends_statement_kind}
 use Rattle.go_tokens.specs.Lexing.{width, Lexes}
 use Rattle.go_tokens.specs.Tokens.{kinds}
@@ -19,7 +18,7 @@ use Rattle.go_grammar.specs.declared.kind.Category.TheVariants as category
 use Rattle.go_grammar.specs.Categories.{place_of}
 use Rattle.go_grammar.specs.Rules.{Items, Rule}
 use Rattle.go_grammar.specs.Trees.{Tree, node, Trees, first, last, depth}
-use Rattle.go_grammar.specs.Grammar.{rule, IsAt, Derives, IsFile}
+use Rattle.go_grammar.specs.Grammar.{rule, Derives, IsFile}
 use Rattle.go_splice.specs.Replacing.{Edge, subtree_at, asked_at, Run}
 use Rattle.go_splice.specs.Places.{carry, carries, become, agreed, Change, changed, moved_by, range, with_declaration, IsDeclaration}
 use Rattle.go_splice.specs.Sites.{Local, whole, items, Site, patch_of, local_range}

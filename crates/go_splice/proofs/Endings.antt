@@ -1,5 +1,5 @@
 -- Texts of statements, expressions and the like end with a token behind which a semicolon is inserted at a line's end.
-use Rattle.std.proofs.Common.{◌≡◌, ℕ, suc, ◌⊎◌, inl, inr, Bool, true, false, not, List, [], ◌∷◌, refl, sym, ap, ◌∙◌, subst}
+use Rattle.std.proofs.Common.{◌≡◌, ℕ, suc, inl, inr, Bool, true, false, not, List, [], ◌∷◌, refl, ◌∙◌, subst}
 use Rattle.std.specs.Prelude.{◌&&◌, ◌||◌}
 use Rattle.go_tokens.specs.declared.token.TokenKind.{TokenKind}
 use Rattle.go_tokens.specs.Spellings.{ends_statement_kind}
@@ -8,7 +8,7 @@ use Rattle.go_grammar.specs.declared.kind.Category.{Category}
 use Rattle.go_grammar.specs.Categories.{within, place_of}
 use Rattle.go_grammar.specs.Rules.{Items, Lines, Open, Each, Again, Rule, End, Then, Maybe, Unless, Many, item}
 use Rattle.go_grammar.specs.Trees.{Tree, node, Trees, none, more, skip, first, last}
-use Rattle.go_grammar.specs.Grammar.{rule, IsAt, Words, Close, Between, Early, Derives, Spells, Goes}
+use Rattle.go_grammar.specs.Grammar.{rule, Words, Close, Between, Early, Derives, Spells, Goes}
 use Rattle.go_grammar.proofs.Rows.{all, kinds, kinds_at, categories, categories_at, and_both}
 use Rattle.go_splice.specs.Replacing.{Run}
 use Rattle.go_splice.specs.Endings.{ends_well, Ending}

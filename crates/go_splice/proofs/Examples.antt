@@ -19,7 +19,7 @@ use Rattle.go_grammar.specs.Words.{is_word}
 use Rattle.go_grammar.specs.Categories.{place_of}
 use Rattle.go_grammar.specs.Reader.{read}
 use Rattle.go_grammar.proofs.Sound.{read_stands}
-use Rattle.go_splice.specs.Places.{put, inside, done, part, become, Fits, Ascending, Change, changed, moved_by, ranges}
+use Rattle.go_splice.specs.Places.{put, become, Fits, Ascending, Change, changed, moved_by, ranges}
 use Rattle.go_splice.specs.Replacing.{Edge, takes_level, Run}
 use Rattle.go_splice.specs.Sites.{Site, whole, items, patch_of, Sits}
 use Rattle.go_splice.proofs.Operands.{operand_stands}

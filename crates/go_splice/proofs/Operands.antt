@@ -1,5 +1,5 @@
 -- Operands in place of expressions.
-use Rattle.std.proofs.Common.{◌≡◌, ◌≤◌, true, List, [], ◌∷◌, refl, sym, ap, ◌∙◌, subst, arith}
+use Rattle.std.proofs.Common.{◌≡◌, ◌≤◌, true, List, refl, arith}
 use Rattle.std.specs.Prelude.{nat_le}
 use Rattle.std.proofs.lemmas.Bool.{le-leb, leb-true}
 use Rattle.go_tokens.specs.declared.token.TokenKind.{TokenKind}
@@ -11,7 +11,7 @@ use Rattle.go_grammar.specs.declared.kind.Category.{Category}
 use Rattle.go_grammar.specs.declared.kind.Category.TheVariants as category
 use Rattle.go_grammar.specs.Operators.{rank}
 use Rattle.go_grammar.specs.Categories.{place_of, within, tightness, is_expression}
-use Rattle.go_grammar.specs.Trees.{Tree, node, first, last}
+use Rattle.go_grammar.specs.Trees.{Tree, node}
 use Rattle.go_grammar.specs.Grammar.{Derives}
 use Rattle.go_splice.specs.Replacing.{takes_level}
 

@@ -17,7 +17,7 @@ use Rattle.go_splice.specs.Sites.{Site, patch_of, site_ranges, AllSit}
 use Rattle.go_splice.proofs.Appended.{appended}
 use Rattle.go_splice.proofs.Changes.{get_left, get_right, change_stays, change_end, move_start}
 use Rattle.go_splice.proofs.Kept.{Stay, Soft, narrow, soft_same, part_kept, derives_kept, gap_kept, between_kept, first_carry, last_carry}
-use Rattle.go_splice.proofs.Order.{derives_ordered, places_within, places_ascend, ascending_widen}
+use Rattle.go_splice.proofs.Order.{derives_ordered, places_within}
 use Rattle.go_splice.proofs.Places.{Text, became_text}
 use Rattle.go_splice.proofs.Sites.{sites_fit, sites_out}
 

@@ -1,5 +1,5 @@
 -- Subtrees by paths, what a new text must not do to what stands in front of it, and runs of items.
-use Rattle.std.specs.Prelude.{◌≡◌, ℕ, zero, suc, ◌+◌, ◌-◌, ◌<◌, ◌≤◌, Bool, true, false, nat_le, ◌&&◌, List, [], ◌∷◌, Option, Some, None, slice_get}
+use Rattle.std.specs.Prelude.{◌≡◌, ℕ, zero, suc, ◌+◌, ◌-◌, Bool, true, false, nat_le, ◌&&◌, List, [], ◌∷◌, Option, Some, None, slice_get}
 use Rattle.go_tokens.specs.declared.token.TokenKind.{TokenKind}
 use Rattle.go_tokens.specs.declared.token.TokenKind.TheVariants as token
 use Rattle.go_grammar.specs.declared.kind.Category.{Category}

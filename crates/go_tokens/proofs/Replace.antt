@@ -5,7 +5,6 @@ use Rattle.std.proofs.lemmas.List.{length-append}
 use Rattle.ucd_category.specs.GeneralCategory.{general_category}
 use Rattle.ucd_category.specs.GeneralCategoryRows.{general_category_rows}
 use Rattle.ucd_table.specs.Rows.{value_in}
-use Rattle.go_tokens.specs.declared.piece.Mode.{Mode}
 use Rattle.go_tokens.specs.declared.piece.Mode.TheVariants.{InWord}
 use Rattle.std.specs.Str.{encode_utf8_all}
 use Rattle.go_tokens.specs.declared.piece.PieceKind.{PieceKind}
