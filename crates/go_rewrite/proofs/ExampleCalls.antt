@@ -1,7 +1,6 @@
 -- A worked example: in two functions the same two statements are replaced by a call, and the function that is called is
 -- appended.
-use Rattle.std.proofs.Common.{◌≡◌, ℕ, zero, suc, ◌+◌, ◌<◌, ◌≤◌, Bool, true, false, List, [], ◌∷◌, ◌++◌, length, Option, Some, None, refl, sym, ap, ◌∙◌, subst, codes, arith}
-use Rattle.std.specs.Prelude.{slice_get}
+use Rattle.std.proofs.Common.{◌≡◌, ℕ, true, List, [], ◌∷◌, Some, refl, codes, arith}
 use Rattle.std.specs.Char.{encode_utf8}
 use Rattle.std.specs.Str.{encode_utf8_all}
 use Rattle.ucd_category.specs.GeneralCategory.{general_category}
@@ -20,22 +19,18 @@ use Rattle.go_tokens.specs.Tokens.{kinds}
 use Rattle.go_tokens.specs.Replacing.{joins}
 use Rattle.go_tokens.specs.Editing.{Stands, old_text, new_text}
 use Rattle.go_tokens.proofs.Examples.{lexes_by_test}
-use Rattle.go_grammar.specs.declared.kind.Kind.TheVariants as kind
-use Rattle.go_grammar.specs.declared.kind.Level.TheVariants as level
-use Rattle.go_grammar.specs.declared.kind.Place.TheVariants as place
-use Rattle.go_grammar.specs.declared.kind.Category.{Category}
 use Rattle.go_grammar.specs.declared.kind.Category.TheVariants as category
-use Rattle.go_grammar.specs.Trees.{Tree, node, Trees, none, more, skip, first, last, depth}
+use Rattle.go_grammar.specs.Trees.{Tree}
 use Rattle.go_grammar.specs.Grammar.{IsFile}
 use Rattle.go_grammar.specs.Reader.{read}
 use Rattle.go_grammar.proofs.Sound.{read_stands}
 use Rattle.go_splice.specs.Replacing.{subtree_at}
-use Rattle.go_splice.specs.Sites.{Local, whole, items}
-use Rattle.go_rewrite.specs.Rewriting.{Rewrite, words, edits, TextFits, TreeFits, ItemsFit, IsTail, IsDeclaration, IsFileRewriting, NewFile}
+use Rattle.go_splice.specs.Sites.{items}
+use Rattle.go_splice.specs.Places.{IsDeclaration}
+use Rattle.go_rewrite.specs.Rewriting.{Rewrite, edits, TextFits, TreeFits, NewFile}
 use Rattle.go_rewrite.proofs.Tokens.{among_get}
 use Rattle.go_rewrite.proofs.Rewritten.{new_file}
-use Rattle.go_rewrite.proofs.Testing.{tree_in, token_in, written, statement_at, statements, statements_end, in_block, in_clause, statements_run, plain_edge, read_at, read_fits}
-
+use Rattle.go_rewrite.proofs.Testing.{tree_in, written, statement_at, statements, in_block, statements_run, plain_edge}
 
 abbrev old_text_is : List ℕ
 old_text_is = codes "package main\n\nfunc f(a int) int {\n\tb := a + 1\n\tb = b * 2\n\treturn b\n}\n\nfunc g(x int) int {\n\ty := x + 5\n\ty = y * 2\n\treturn y\n}\n"
@@ -53,7 +48,6 @@ old_lexes : Lexes 0 old_text_is old_tokens old_comments
 unfolding width span begun_by is_white is_letter is_digit is_in_word is_in_run is_exponent is_power is_sign is_x is_b is_o is_digit_of letter_base goes operators punctuation outside_operators keywords general_category value_in general_category_rows encode_utf8
 old_lexes = lexes_by_test 0 old_pieces refl
 
-
 abbrev file_kinds : List TokenKind
 file_kinds = kinds_of.Package ∷ kinds_of.Identifier ∷ kinds_of.Semicolon ∷ kinds_of.Func ∷ kinds_of.Identifier ∷ kinds_of.LeftParenthesis ∷ kinds_of.Identifier ∷ kinds_of.Identifier ∷ kinds_of.RightParenthesis ∷ kinds_of.Identifier ∷ kinds_of.LeftBrace ∷ kinds_of.Identifier ∷ kinds_of.Define ∷ kinds_of.Identifier ∷ kinds_of.Plus ∷ kinds_of.Integer ∷ kinds_of.Semicolon ∷ kinds_of.Identifier ∷ kinds_of.Assign ∷ kinds_of.Identifier ∷ kinds_of.Star ∷ kinds_of.Integer ∷ kinds_of.Semicolon ∷ kinds_of.Return ∷ kinds_of.Identifier ∷ kinds_of.Semicolon ∷ kinds_of.RightBrace ∷ kinds_of.Semicolon ∷ kinds_of.Func ∷ kinds_of.Identifier ∷ kinds_of.LeftParenthesis ∷ kinds_of.Identifier ∷ kinds_of.Identifier ∷ kinds_of.RightParenthesis ∷ kinds_of.Identifier ∷ kinds_of.LeftBrace ∷ kinds_of.Identifier ∷ kinds_of.Define ∷ kinds_of.Identifier ∷ kinds_of.Plus ∷ kinds_of.Integer ∷ kinds_of.Semicolon ∷ kinds_of.Identifier ∷ kinds_of.Assign ∷ kinds_of.Identifier ∷ kinds_of.Star ∷ kinds_of.Integer ∷ kinds_of.Semicolon ∷ kinds_of.Return ∷ kinds_of.Identifier ∷ kinds_of.Semicolon ∷ kinds_of.RightBrace ∷ kinds_of.Semicolon ∷ []
 
@@ -62,7 +56,6 @@ file_tree = tree_in (read 60 file_kinds 101 category.File 0)
 
 file_is : IsFile (kinds old_tokens) file_tree
 file_is = let r = read_stands file_kinds 60 101 category.File 0 file_tree refl in record { derives = r.0; begins = refl; ends = refl; shallow = r.2 }
-
 
 abbrev new1_text : List ℕ
 new1_text = codes "var b int; b = addmul(a, 1)"
@@ -80,7 +73,6 @@ new1_lexes : Lexes 0 new1_text new1_tokens new1_comments
 unfolding width span begun_by is_white is_letter is_digit is_in_word is_in_run is_exponent is_power is_sign is_x is_b is_o is_digit_of letter_base goes operators punctuation outside_operators keywords general_category value_in general_category_rows encode_utf8
 new1_lexes = lexes_by_test 0 new1_pieces refl
 
-
 abbrev words1 : List TokenKind
 words1 = kinds_of.Var ∷ kinds_of.Identifier ∷ kinds_of.Identifier ∷ kinds_of.Semicolon ∷ kinds_of.Identifier ∷ kinds_of.Assign ∷ kinds_of.Identifier ∷ kinds_of.LeftParenthesis ∷ kinds_of.Identifier ∷ kinds_of.Comma ∷ kinds_of.Integer ∷ kinds_of.RightParenthesis ∷ []
 
@@ -89,7 +81,6 @@ next1 = kinds_of.Semicolon ∷ []
 
 abbrev all1 : List TokenKind
 all1 = kinds_of.Var ∷ kinds_of.Identifier ∷ kinds_of.Identifier ∷ kinds_of.Semicolon ∷ kinds_of.Identifier ∷ kinds_of.Assign ∷ kinds_of.Identifier ∷ kinds_of.LeftParenthesis ∷ kinds_of.Identifier ∷ kinds_of.Comma ∷ kinds_of.Integer ∷ kinds_of.RightParenthesis ∷ kinds_of.Semicolon ∷ []
-
 
 abbrev rewrite1 : Rewrite
 rewrite1 = record {
@@ -103,7 +94,6 @@ rewrite1 = record {
   change = items 0 1 (statements 1 (statement_at all1 0) all1);
   next = next1;
 }
-
 
 abbrev new2_text : List ℕ
 new2_text = codes "var y int; y = addmul(x, 5)"
@@ -121,7 +111,6 @@ new2_lexes : Lexes 0 new2_text new2_tokens new2_comments
 unfolding width span begun_by is_white is_letter is_digit is_in_word is_in_run is_exponent is_power is_sign is_x is_b is_o is_digit_of letter_base goes operators punctuation outside_operators keywords general_category value_in general_category_rows encode_utf8
 new2_lexes = lexes_by_test 0 new2_pieces refl
 
-
 abbrev words2 : List TokenKind
 words2 = kinds_of.Var ∷ kinds_of.Identifier ∷ kinds_of.Identifier ∷ kinds_of.Semicolon ∷ kinds_of.Identifier ∷ kinds_of.Assign ∷ kinds_of.Identifier ∷ kinds_of.LeftParenthesis ∷ kinds_of.Identifier ∷ kinds_of.Comma ∷ kinds_of.Integer ∷ kinds_of.RightParenthesis ∷ []
 
@@ -130,7 +119,6 @@ next2 = kinds_of.Semicolon ∷ []
 
 abbrev all2 : List TokenKind
 all2 = kinds_of.Var ∷ kinds_of.Identifier ∷ kinds_of.Identifier ∷ kinds_of.Semicolon ∷ kinds_of.Identifier ∷ kinds_of.Assign ∷ kinds_of.Identifier ∷ kinds_of.LeftParenthesis ∷ kinds_of.Identifier ∷ kinds_of.Comma ∷ kinds_of.Integer ∷ kinds_of.RightParenthesis ∷ kinds_of.Semicolon ∷ []
-
 
 abbrev rewrite2 : Rewrite
 rewrite2 = record {
@@ -145,13 +133,11 @@ rewrite2 = record {
   next = next2;
 }
 
-
 abbrev rewrites : List Rewrite
 rewrites = rewrite1 ∷ rewrite2 ∷ []
 
 abbrev rest_text : List ℕ
 rest_text = codes "\n\treturn y\n}\n"
-
 
 abbrev tail_text : List ℕ
 tail_text = codes "\nfunc addmul(a int, p0 int) int {\nb := a +  p0 \n\tb = b * 2\nreturn b\n}\n"
@@ -169,7 +155,6 @@ tail_lexes : Lexes 0 tail_text tail_tokens tail_comments
 unfolding width span begun_by is_white is_letter is_digit is_in_word is_in_run is_exponent is_power is_sign is_x is_b is_o is_digit_of letter_base goes operators punctuation outside_operators keywords general_category value_in general_category_rows encode_utf8
 tail_lexes = lexes_by_test 0 tail_pieces refl
 
-
 abbrev tail_kinds : List TokenKind
 tail_kinds = kinds_of.Func ∷ kinds_of.Identifier ∷ kinds_of.LeftParenthesis ∷ kinds_of.Identifier ∷ kinds_of.Identifier ∷ kinds_of.Comma ∷ kinds_of.Identifier ∷ kinds_of.Identifier ∷ kinds_of.RightParenthesis ∷ kinds_of.Identifier ∷ kinds_of.LeftBrace ∷ kinds_of.Identifier ∷ kinds_of.Define ∷ kinds_of.Identifier ∷ kinds_of.Plus ∷ kinds_of.Identifier ∷ kinds_of.Semicolon ∷ kinds_of.Identifier ∷ kinds_of.Assign ∷ kinds_of.Identifier ∷ kinds_of.Star ∷ kinds_of.Integer ∷ kinds_of.Semicolon ∷ kinds_of.Return ∷ kinds_of.Identifier ∷ kinds_of.Semicolon ∷ kinds_of.RightBrace ∷ kinds_of.Semicolon ∷ []
 
@@ -178,7 +163,6 @@ added = tree_in (read 60 tail_kinds 100 category.Declaration 0)
 
 added_is : IsDeclaration (kinds tail_tokens) added
 added_is = let r = read_stands tail_kinds 60 100 category.Declaration 0 added refl in record { derives = r.0; begins = refl; closed = refl; all = refl; shallow = r.2 }
-
 
 stands1 : Stands 0 new1_text
 unfolding width span begun_by is_white is_letter is_digit is_in_word is_in_run is_exponent is_power is_sign is_x is_b is_o is_digit_of letter_base goes operators punctuation outside_operators keywords general_category value_in general_category_rows encode_utf8 joins
@@ -226,7 +210,6 @@ text_fits1 = record {
   line = λ _. refl;
 }
 
-
 tree_fits1 : TreeFits category.File (kinds old_tokens) file_tree rewrite1 (rewrite2 ∷ [])
 unfolding span
 tree_fits1 = record {
@@ -239,7 +222,6 @@ tree_fits1 = record {
   behind_is = refl;
   edge = plain_edge file_kinds words1 11 refl refl;
 }
-
 
 stands2 : Stands 0 new2_text
 unfolding width span begun_by is_white is_letter is_digit is_in_word is_in_run is_exponent is_power is_sign is_x is_b is_o is_digit_of letter_base goes operators punctuation outside_operators keywords general_category value_in general_category_rows encode_utf8 joins
@@ -287,7 +269,6 @@ text_fits2 = record {
   line = λ _. refl;
 }
 
-
 tree_fits2 : TreeFits category.File (kinds old_tokens) file_tree rewrite2 ([])
 unfolding span
 tree_fits2 = record {
@@ -300,7 +281,6 @@ tree_fits2 = record {
   behind_is = refl;
   edge = plain_edge file_kinds words2 36 refl refl;
 }
-
 
 abbrev result_text : List ℕ
 result_text = codes "package main\n\nfunc f(a int) int {\n\tvar b int; b = addmul(a, 1)\n\treturn b\n}\n\nfunc g(x int) int {\n\tvar y int; y = addmul(x, 5)\n\treturn y\n}\n\nfunc addmul(a int, p0 int) int {\nb := a +  p0 \n\tb = b * 2\nreturn b\n}\n"
@@ -323,4 +303,3 @@ holds = new_file 0 (encode_utf8_all old_text_is) (encode_utf8_all result_text) o
   appended = record { begins = refl; comments = tail_comments; lexes = tail_lexes };
   added_fits = added_is;
 })
-

@@ -1,6 +1,5 @@
 -- A worked example: names take the place of constants in a case, in the header of a loop and on the left side of a range.
-use Rattle.std.proofs.Common.{◌≡◌, ℕ, zero, suc, ◌+◌, ◌<◌, ◌≤◌, Bool, true, false, List, [], ◌∷◌, ◌++◌, length, Option, Some, None, refl, sym, ap, ◌∙◌, subst, codes, arith}
-use Rattle.std.specs.Prelude.{slice_get}
+use Rattle.std.proofs.Common.{◌≡◌, ℕ, List, [], ◌∷◌, None, refl, codes, arith}
 use Rattle.std.specs.Char.{encode_utf8}
 use Rattle.std.specs.Str.{encode_utf8_all}
 use Rattle.ucd_category.specs.GeneralCategory.{general_category}
@@ -19,22 +18,19 @@ use Rattle.go_tokens.specs.Tokens.{kinds}
 use Rattle.go_tokens.specs.Replacing.{joins}
 use Rattle.go_tokens.specs.Editing.{Stands, old_text, new_text}
 use Rattle.go_tokens.proofs.Examples.{lexes_by_test}
-use Rattle.go_grammar.specs.declared.kind.Kind.TheVariants as kind
 use Rattle.go_grammar.specs.declared.kind.Level.TheVariants as level
 use Rattle.go_grammar.specs.declared.kind.Place.TheVariants as place
-use Rattle.go_grammar.specs.declared.kind.Category.{Category}
 use Rattle.go_grammar.specs.declared.kind.Category.TheVariants as category
-use Rattle.go_grammar.specs.Trees.{Tree, node, Trees, none, more, skip, first, last, depth}
+use Rattle.go_grammar.specs.Trees.{Tree}
 use Rattle.go_grammar.specs.Grammar.{IsFile}
 use Rattle.go_grammar.specs.Reader.{read}
 use Rattle.go_grammar.proofs.Sound.{read_stands}
 use Rattle.go_splice.specs.Replacing.{subtree_at}
-use Rattle.go_splice.specs.Sites.{Local, whole, items}
-use Rattle.go_rewrite.specs.Rewriting.{Rewrite, words, edits, TextFits, TreeFits, ItemsFit, IsTail, IsDeclaration, IsFileRewriting, NewFile}
+use Rattle.go_splice.specs.Sites.{whole}
+use Rattle.go_rewrite.specs.Rewriting.{Rewrite, edits, TextFits, TreeFits, NewFile}
 use Rattle.go_rewrite.proofs.Tokens.{among_get}
 use Rattle.go_rewrite.proofs.Rewritten.{new_file}
-use Rattle.go_rewrite.proofs.Testing.{tree_in, token_in, written, statement_at, statements, statements_end, in_block, in_clause, statements_run, plain_edge, read_at, read_fits}
-
+use Rattle.go_rewrite.proofs.Testing.{tree_in, written, plain_edge, read_at, read_fits}
 
 abbrev old_text_is : List ℕ
 old_text_is = codes "package p\n\nfunc h(x int, a []int, b []int) int {\n\tswitch x {\n\tcase-3:\n\t\tx++\n\t}\n\tfor i := 0; i < 10; i++ {\n\t\tx--\n\t}\n\tfor a[3] = range b {\n\t}\n\treturn x\n}\n"
@@ -52,7 +48,6 @@ old_lexes : Lexes 0 old_text_is old_tokens old_comments
 unfolding width span begun_by is_white is_letter is_digit is_in_word is_in_run is_exponent is_power is_sign is_x is_b is_o is_digit_of letter_base goes operators punctuation outside_operators keywords general_category value_in general_category_rows encode_utf8
 old_lexes = lexes_by_test 0 old_pieces refl
 
-
 abbrev file_kinds : List TokenKind
 file_kinds = kinds_of.Package ∷ kinds_of.Identifier ∷ kinds_of.Semicolon ∷ kinds_of.Func ∷ kinds_of.Identifier ∷ kinds_of.LeftParenthesis ∷ kinds_of.Identifier ∷ kinds_of.Identifier ∷ kinds_of.Comma ∷ kinds_of.Identifier ∷ kinds_of.LeftBracket ∷ kinds_of.RightBracket ∷ kinds_of.Identifier ∷ kinds_of.Comma ∷ kinds_of.Identifier ∷ kinds_of.LeftBracket ∷ kinds_of.RightBracket ∷ kinds_of.Identifier ∷ kinds_of.RightParenthesis ∷ kinds_of.Identifier ∷ kinds_of.LeftBrace ∷ kinds_of.Switch ∷ kinds_of.Identifier ∷ kinds_of.LeftBrace ∷ kinds_of.Case ∷ kinds_of.Minus ∷ kinds_of.Integer ∷ kinds_of.Colon ∷ kinds_of.Identifier ∷ kinds_of.Increment ∷ kinds_of.Semicolon ∷ kinds_of.RightBrace ∷ kinds_of.Semicolon ∷ kinds_of.For ∷ kinds_of.Identifier ∷ kinds_of.Define ∷ kinds_of.Integer ∷ kinds_of.Semicolon ∷ kinds_of.Identifier ∷ kinds_of.Less ∷ kinds_of.Integer ∷ kinds_of.Semicolon ∷ kinds_of.Identifier ∷ kinds_of.Increment ∷ kinds_of.LeftBrace ∷ kinds_of.Identifier ∷ kinds_of.Decrement ∷ kinds_of.Semicolon ∷ kinds_of.RightBrace ∷ kinds_of.Semicolon ∷ kinds_of.For ∷ kinds_of.Identifier ∷ kinds_of.LeftBracket ∷ kinds_of.Integer ∷ kinds_of.RightBracket ∷ kinds_of.Assign ∷ kinds_of.Range ∷ kinds_of.Identifier ∷ kinds_of.LeftBrace ∷ kinds_of.RightBrace ∷ kinds_of.Semicolon ∷ kinds_of.Return ∷ kinds_of.Identifier ∷ kinds_of.Semicolon ∷ kinds_of.RightBrace ∷ kinds_of.Semicolon ∷ []
 
@@ -61,7 +56,6 @@ file_tree = tree_in (read 60 file_kinds 101 category.File 0)
 
 file_is : IsFile (kinds old_tokens) file_tree
 file_is = let r = read_stands file_kinds 60 101 category.File 0 file_tree refl in record { derives = r.0; begins = refl; ends = refl; shallow = r.2 }
-
 
 abbrev new1_text : List ℕ
 new1_text = codes " p0 "
@@ -79,7 +73,6 @@ new1_lexes : Lexes 0 new1_text new1_tokens new1_comments
 unfolding width span begun_by is_white is_letter is_digit is_in_word is_in_run is_exponent is_power is_sign is_x is_b is_o is_digit_of letter_base goes operators punctuation outside_operators keywords general_category value_in general_category_rows encode_utf8
 new1_lexes = lexes_by_test 0 new1_pieces refl
 
-
 abbrev words1 : List TokenKind
 words1 = kinds_of.Identifier ∷ []
 
@@ -88,7 +81,6 @@ next1 = kinds_of.Colon ∷ []
 
 abbrev all1 : List TokenKind
 all1 = kinds_of.Identifier ∷ kinds_of.Colon ∷ []
-
 
 abbrev rewrite1 : Rewrite
 rewrite1 = record {
@@ -102,7 +94,6 @@ rewrite1 = record {
   change = whole (tree_in (read_at all1 (category.Expression level.Either place.Free)));
   next = next1;
 }
-
 
 abbrev new2_text : List ℕ
 new2_text = codes " p1 "
@@ -120,7 +111,6 @@ new2_lexes : Lexes 0 new2_text new2_tokens new2_comments
 unfolding width span begun_by is_white is_letter is_digit is_in_word is_in_run is_exponent is_power is_sign is_x is_b is_o is_digit_of letter_base goes operators punctuation outside_operators keywords general_category value_in general_category_rows encode_utf8
 new2_lexes = lexes_by_test 0 new2_pieces refl
 
-
 abbrev words2 : List TokenKind
 words2 = kinds_of.Identifier ∷ []
 
@@ -129,7 +119,6 @@ next2 = kinds_of.Semicolon ∷ []
 
 abbrev all2 : List TokenKind
 all2 = kinds_of.Identifier ∷ kinds_of.Semicolon ∷ []
-
 
 abbrev rewrite2 : Rewrite
 rewrite2 = record {
@@ -143,7 +132,6 @@ rewrite2 = record {
   change = whole (tree_in (read_at all2 (category.Expression level.Sum place.Header)));
   next = next2;
 }
-
 
 abbrev new3_text : List ℕ
 new3_text = codes " p2 "
@@ -161,7 +149,6 @@ new3_lexes : Lexes 0 new3_text new3_tokens new3_comments
 unfolding width span begun_by is_white is_letter is_digit is_in_word is_in_run is_exponent is_power is_sign is_x is_b is_o is_digit_of letter_base goes operators punctuation outside_operators keywords general_category value_in general_category_rows encode_utf8
 new3_lexes = lexes_by_test 0 new3_pieces refl
 
-
 abbrev words3 : List TokenKind
 words3 = kinds_of.Identifier ∷ []
 
@@ -170,7 +157,6 @@ next3 = kinds_of.RightBracket ∷ []
 
 abbrev all3 : List TokenKind
 all3 = kinds_of.Identifier ∷ kinds_of.RightBracket ∷ []
-
 
 abbrev rewrite3 : Rewrite
 rewrite3 = record {
@@ -185,13 +171,11 @@ rewrite3 = record {
   next = next3;
 }
 
-
 abbrev rewrites : List Rewrite
 rewrites = rewrite1 ∷ rewrite2 ∷ rewrite3 ∷ []
 
 abbrev rest_text : List ℕ
 rest_text = codes "] = range b {\n\t}\n\treturn x\n}\n"
-
 
 abbrev tail_text : List ℕ
 tail_text = []
@@ -207,7 +191,6 @@ tail_lexes = lexes_by_test 0 tail_pieces refl
 
 abbrev tail_comments : List Span
 tail_comments = []
-
 
 stands1 : Stands 0 new1_text
 unfolding width span begun_by is_white is_letter is_digit is_in_word is_in_run is_exponent is_power is_sign is_x is_b is_o is_digit_of letter_base goes operators punctuation outside_operators keywords general_category value_in general_category_rows encode_utf8 joins
@@ -255,7 +238,6 @@ text_fits1 = record {
   line = λ _. refl;
 }
 
-
 tree_fits1 : TreeFits category.File (kinds old_tokens) file_tree rewrite1 (rewrite2 ∷ rewrite3 ∷ [])
 unfolding span
 tree_fits1 = record {
@@ -268,7 +250,6 @@ tree_fits1 = record {
   behind_is = refl;
   edge = plain_edge file_kinds words1 25 refl refl;
 }
-
 
 stands2 : Stands 0 new2_text
 unfolding width span begun_by is_white is_letter is_digit is_in_word is_in_run is_exponent is_power is_sign is_x is_b is_o is_digit_of letter_base goes operators punctuation outside_operators keywords general_category value_in general_category_rows encode_utf8 joins
@@ -316,7 +297,6 @@ text_fits2 = record {
   line = λ _. refl;
 }
 
-
 tree_fits2 : TreeFits category.File (kinds old_tokens) file_tree rewrite2 (rewrite3 ∷ [])
 unfolding span
 tree_fits2 = record {
@@ -329,7 +309,6 @@ tree_fits2 = record {
   behind_is = refl;
   edge = plain_edge file_kinds words2 40 refl refl;
 }
-
 
 stands3 : Stands 0 new3_text
 unfolding width span begun_by is_white is_letter is_digit is_in_word is_in_run is_exponent is_power is_sign is_x is_b is_o is_digit_of letter_base goes operators punctuation outside_operators keywords general_category value_in general_category_rows encode_utf8 joins
@@ -377,7 +356,6 @@ text_fits3 = record {
   line = λ _. refl;
 }
 
-
 tree_fits3 : TreeFits category.File (kinds old_tokens) file_tree rewrite3 ([])
 unfolding span
 tree_fits3 = record {
@@ -390,7 +368,6 @@ tree_fits3 = record {
   behind_is = refl;
   edge = plain_edge file_kinds words3 53 refl refl;
 }
-
 
 abbrev result_text : List ℕ
 result_text = codes "package p\n\nfunc h(x int, a []int, b []int) int {\n\tswitch x {\n\tcase p0 :\n\t\tx++\n\t}\n\tfor i := 0; i <  p1 ; i++ {\n\t\tx--\n\t}\n\tfor a[ p2 ] = range b {\n\t}\n\treturn x\n}\n"
@@ -413,4 +390,3 @@ holds = new_file 0 (encode_utf8_all old_text_is) (encode_utf8_all result_text) o
   appended = record { begins = refl; comments = tail_comments; lexes = tail_lexes };
   added_fits = refl;
 })
-

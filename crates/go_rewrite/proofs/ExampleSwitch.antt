@@ -1,6 +1,5 @@
 -- A worked example: windows with a switch in them, and a function with a hole where a case was.
-use Rattle.std.proofs.Common.{◌≡◌, ℕ, zero, suc, ◌+◌, ◌<◌, ◌≤◌, Bool, true, false, List, [], ◌∷◌, ◌++◌, length, Option, Some, None, refl, sym, ap, ◌∙◌, subst, codes, arith}
-use Rattle.std.specs.Prelude.{slice_get}
+use Rattle.std.proofs.Common.{◌≡◌, ℕ, true, List, [], ◌∷◌, Some, refl, codes, arith}
 use Rattle.std.specs.Char.{encode_utf8}
 use Rattle.std.specs.Str.{encode_utf8_all}
 use Rattle.ucd_category.specs.GeneralCategory.{general_category}
@@ -19,22 +18,18 @@ use Rattle.go_tokens.specs.Tokens.{kinds}
 use Rattle.go_tokens.specs.Replacing.{joins}
 use Rattle.go_tokens.specs.Editing.{Stands, old_text, new_text}
 use Rattle.go_tokens.proofs.Examples.{lexes_by_test}
-use Rattle.go_grammar.specs.declared.kind.Kind.TheVariants as kind
-use Rattle.go_grammar.specs.declared.kind.Level.TheVariants as level
-use Rattle.go_grammar.specs.declared.kind.Place.TheVariants as place
-use Rattle.go_grammar.specs.declared.kind.Category.{Category}
 use Rattle.go_grammar.specs.declared.kind.Category.TheVariants as category
-use Rattle.go_grammar.specs.Trees.{Tree, node, Trees, none, more, skip, first, last, depth}
+use Rattle.go_grammar.specs.Trees.{Tree}
 use Rattle.go_grammar.specs.Grammar.{IsFile}
 use Rattle.go_grammar.specs.Reader.{read}
 use Rattle.go_grammar.proofs.Sound.{read_stands}
 use Rattle.go_splice.specs.Replacing.{subtree_at}
-use Rattle.go_splice.specs.Sites.{Local, whole, items}
-use Rattle.go_rewrite.specs.Rewriting.{Rewrite, words, edits, TextFits, TreeFits, ItemsFit, IsTail, IsDeclaration, IsFileRewriting, NewFile}
+use Rattle.go_splice.specs.Sites.{items}
+use Rattle.go_splice.specs.Places.{IsDeclaration}
+use Rattle.go_rewrite.specs.Rewriting.{Rewrite, edits, TextFits, TreeFits, NewFile}
 use Rattle.go_rewrite.proofs.Tokens.{among_get}
 use Rattle.go_rewrite.proofs.Rewritten.{new_file}
-use Rattle.go_rewrite.proofs.Testing.{tree_in, token_in, written, statement_at, statements, statements_end, in_block, in_clause, statements_run, plain_edge, read_at, read_fits}
-
+use Rattle.go_rewrite.proofs.Testing.{tree_in, written, statement_at, statements, in_block, statements_run, plain_edge}
 
 abbrev old_text_is : List ℕ
 old_text_is = codes "package p\n\nfunc f(x int) {\n\tswitch x {\n\tcase-3:\n\t\tx++\n\t}\n\tx--\n}\n\nfunc g(x int) {\n\tswitch x {\n\tcase-4:\n\t\tx++\n\t}\n\tx--\n}\n"
@@ -52,7 +47,6 @@ old_lexes : Lexes 0 old_text_is old_tokens old_comments
 unfolding width span begun_by is_white is_letter is_digit is_in_word is_in_run is_exponent is_power is_sign is_x is_b is_o is_digit_of letter_base goes operators punctuation outside_operators keywords general_category value_in general_category_rows encode_utf8
 old_lexes = lexes_by_test 0 old_pieces refl
 
-
 abbrev file_kinds : List TokenKind
 file_kinds = kinds_of.Package ∷ kinds_of.Identifier ∷ kinds_of.Semicolon ∷ kinds_of.Func ∷ kinds_of.Identifier ∷ kinds_of.LeftParenthesis ∷ kinds_of.Identifier ∷ kinds_of.Identifier ∷ kinds_of.RightParenthesis ∷ kinds_of.LeftBrace ∷ kinds_of.Switch ∷ kinds_of.Identifier ∷ kinds_of.LeftBrace ∷ kinds_of.Case ∷ kinds_of.Minus ∷ kinds_of.Integer ∷ kinds_of.Colon ∷ kinds_of.Identifier ∷ kinds_of.Increment ∷ kinds_of.Semicolon ∷ kinds_of.RightBrace ∷ kinds_of.Semicolon ∷ kinds_of.Identifier ∷ kinds_of.Decrement ∷ kinds_of.Semicolon ∷ kinds_of.RightBrace ∷ kinds_of.Semicolon ∷ kinds_of.Func ∷ kinds_of.Identifier ∷ kinds_of.LeftParenthesis ∷ kinds_of.Identifier ∷ kinds_of.Identifier ∷ kinds_of.RightParenthesis ∷ kinds_of.LeftBrace ∷ kinds_of.Switch ∷ kinds_of.Identifier ∷ kinds_of.LeftBrace ∷ kinds_of.Case ∷ kinds_of.Minus ∷ kinds_of.Integer ∷ kinds_of.Colon ∷ kinds_of.Identifier ∷ kinds_of.Increment ∷ kinds_of.Semicolon ∷ kinds_of.RightBrace ∷ kinds_of.Semicolon ∷ kinds_of.Identifier ∷ kinds_of.Decrement ∷ kinds_of.Semicolon ∷ kinds_of.RightBrace ∷ kinds_of.Semicolon ∷ []
 
@@ -61,7 +55,6 @@ file_tree = tree_in (read 60 file_kinds 101 category.File 0)
 
 file_is : IsFile (kinds old_tokens) file_tree
 file_is = let r = read_stands file_kinds 60 101 category.File 0 file_tree refl in record { derives = r.0; begins = refl; ends = refl; shallow = r.2 }
-
 
 abbrev new1_text : List ℕ
 new1_text = codes "x = h(x, -3)"
@@ -79,7 +72,6 @@ new1_lexes : Lexes 0 new1_text new1_tokens new1_comments
 unfolding width span begun_by is_white is_letter is_digit is_in_word is_in_run is_exponent is_power is_sign is_x is_b is_o is_digit_of letter_base goes operators punctuation outside_operators keywords general_category value_in general_category_rows encode_utf8
 new1_lexes = lexes_by_test 0 new1_pieces refl
 
-
 abbrev words1 : List TokenKind
 words1 = kinds_of.Identifier ∷ kinds_of.Assign ∷ kinds_of.Identifier ∷ kinds_of.LeftParenthesis ∷ kinds_of.Identifier ∷ kinds_of.Comma ∷ kinds_of.Minus ∷ kinds_of.Integer ∷ kinds_of.RightParenthesis ∷ []
 
@@ -88,7 +80,6 @@ next1 = kinds_of.Semicolon ∷ []
 
 abbrev all1 : List TokenKind
 all1 = kinds_of.Identifier ∷ kinds_of.Assign ∷ kinds_of.Identifier ∷ kinds_of.LeftParenthesis ∷ kinds_of.Identifier ∷ kinds_of.Comma ∷ kinds_of.Minus ∷ kinds_of.Integer ∷ kinds_of.RightParenthesis ∷ kinds_of.Semicolon ∷ []
-
 
 abbrev rewrite1 : Rewrite
 rewrite1 = record {
@@ -102,7 +93,6 @@ rewrite1 = record {
   change = items 0 1 (statements 0 (statement_at all1 0) all1);
   next = next1;
 }
-
 
 abbrev new2_text : List ℕ
 new2_text = codes "x = h(x, -4)"
@@ -120,7 +110,6 @@ new2_lexes : Lexes 0 new2_text new2_tokens new2_comments
 unfolding width span begun_by is_white is_letter is_digit is_in_word is_in_run is_exponent is_power is_sign is_x is_b is_o is_digit_of letter_base goes operators punctuation outside_operators keywords general_category value_in general_category_rows encode_utf8
 new2_lexes = lexes_by_test 0 new2_pieces refl
 
-
 abbrev words2 : List TokenKind
 words2 = kinds_of.Identifier ∷ kinds_of.Assign ∷ kinds_of.Identifier ∷ kinds_of.LeftParenthesis ∷ kinds_of.Identifier ∷ kinds_of.Comma ∷ kinds_of.Minus ∷ kinds_of.Integer ∷ kinds_of.RightParenthesis ∷ []
 
@@ -129,7 +118,6 @@ next2 = kinds_of.Semicolon ∷ []
 
 abbrev all2 : List TokenKind
 all2 = kinds_of.Identifier ∷ kinds_of.Assign ∷ kinds_of.Identifier ∷ kinds_of.LeftParenthesis ∷ kinds_of.Identifier ∷ kinds_of.Comma ∷ kinds_of.Minus ∷ kinds_of.Integer ∷ kinds_of.RightParenthesis ∷ kinds_of.Semicolon ∷ []
-
 
 abbrev rewrite2 : Rewrite
 rewrite2 = record {
@@ -144,13 +132,11 @@ rewrite2 = record {
   next = next2;
 }
 
-
 abbrev rewrites : List Rewrite
 rewrites = rewrite1 ∷ rewrite2 ∷ []
 
 abbrev rest_text : List ℕ
 rest_text = codes "\n}\n"
-
 
 abbrev tail_text : List ℕ
 tail_text = codes "\nfunc h(x int, p0 int) int {\nswitch x {\n\tcase p0 :\n\t\tx++\n\t}\n\tx--\nreturn x\n}\n"
@@ -168,7 +154,6 @@ tail_lexes : Lexes 0 tail_text tail_tokens tail_comments
 unfolding width span begun_by is_white is_letter is_digit is_in_word is_in_run is_exponent is_power is_sign is_x is_b is_o is_digit_of letter_base goes operators punctuation outside_operators keywords general_category value_in general_category_rows encode_utf8
 tail_lexes = lexes_by_test 0 tail_pieces refl
 
-
 abbrev tail_kinds : List TokenKind
 tail_kinds = kinds_of.Func ∷ kinds_of.Identifier ∷ kinds_of.LeftParenthesis ∷ kinds_of.Identifier ∷ kinds_of.Identifier ∷ kinds_of.Comma ∷ kinds_of.Identifier ∷ kinds_of.Identifier ∷ kinds_of.RightParenthesis ∷ kinds_of.Identifier ∷ kinds_of.LeftBrace ∷ kinds_of.Switch ∷ kinds_of.Identifier ∷ kinds_of.LeftBrace ∷ kinds_of.Case ∷ kinds_of.Identifier ∷ kinds_of.Colon ∷ kinds_of.Identifier ∷ kinds_of.Increment ∷ kinds_of.Semicolon ∷ kinds_of.RightBrace ∷ kinds_of.Semicolon ∷ kinds_of.Identifier ∷ kinds_of.Decrement ∷ kinds_of.Semicolon ∷ kinds_of.Return ∷ kinds_of.Identifier ∷ kinds_of.Semicolon ∷ kinds_of.RightBrace ∷ kinds_of.Semicolon ∷ []
 
@@ -177,7 +162,6 @@ added = tree_in (read 60 tail_kinds 100 category.Declaration 0)
 
 added_is : IsDeclaration (kinds tail_tokens) added
 added_is = let r = read_stands tail_kinds 60 100 category.Declaration 0 added refl in record { derives = r.0; begins = refl; closed = refl; all = refl; shallow = r.2 }
-
 
 stands1 : Stands 0 new1_text
 unfolding width span begun_by is_white is_letter is_digit is_in_word is_in_run is_exponent is_power is_sign is_x is_b is_o is_digit_of letter_base goes operators punctuation outside_operators keywords general_category value_in general_category_rows encode_utf8 joins
@@ -225,7 +209,6 @@ text_fits1 = record {
   line = λ _. refl;
 }
 
-
 tree_fits1 : TreeFits category.File (kinds old_tokens) file_tree rewrite1 (rewrite2 ∷ [])
 unfolding span
 tree_fits1 = record {
@@ -238,7 +221,6 @@ tree_fits1 = record {
   behind_is = refl;
   edge = plain_edge file_kinds words1 10 refl refl;
 }
-
 
 stands2 : Stands 0 new2_text
 unfolding width span begun_by is_white is_letter is_digit is_in_word is_in_run is_exponent is_power is_sign is_x is_b is_o is_digit_of letter_base goes operators punctuation outside_operators keywords general_category value_in general_category_rows encode_utf8 joins
@@ -286,7 +268,6 @@ text_fits2 = record {
   line = λ _. refl;
 }
 
-
 tree_fits2 : TreeFits category.File (kinds old_tokens) file_tree rewrite2 ([])
 unfolding span
 tree_fits2 = record {
@@ -299,7 +280,6 @@ tree_fits2 = record {
   behind_is = refl;
   edge = plain_edge file_kinds words2 34 refl refl;
 }
-
 
 abbrev result_text : List ℕ
 result_text = codes "package p\n\nfunc f(x int) {\n\tx = h(x, -3)\n}\n\nfunc g(x int) {\n\tx = h(x, -4)\n}\n\nfunc h(x int, p0 int) int {\nswitch x {\n\tcase p0 :\n\t\tx++\n\t}\n\tx--\nreturn x\n}\n"
@@ -322,4 +302,3 @@ holds = new_file 0 (encode_utf8_all old_text_is) (encode_utf8_all result_text) o
   appended = record { begins = refl; comments = tail_comments; lexes = tail_lexes };
   added_fits = added_is;
 })
-

@@ -1,7 +1,6 @@
 -- A worked example: two windows in one list, and one that ends a clause, in a file that ends in a comment without a newline; line
 -- comments stand in what is appended.
-use Rattle.std.proofs.Common.{◌≡◌, ℕ, zero, suc, ◌+◌, ◌<◌, ◌≤◌, Bool, true, false, List, [], ◌∷◌, ◌++◌, length, Option, Some, None, refl, sym, ap, ◌∙◌, subst, codes, arith}
-use Rattle.std.specs.Prelude.{slice_get}
+use Rattle.std.proofs.Common.{◌≡◌, ℕ, true, false, List, [], ◌∷◌, Some, refl, codes, arith}
 use Rattle.std.specs.Char.{encode_utf8}
 use Rattle.std.specs.Str.{encode_utf8_all}
 use Rattle.ucd_category.specs.GeneralCategory.{general_category}
@@ -20,22 +19,18 @@ use Rattle.go_tokens.specs.Tokens.{kinds}
 use Rattle.go_tokens.specs.Replacing.{joins}
 use Rattle.go_tokens.specs.Editing.{Stands, old_text, new_text}
 use Rattle.go_tokens.proofs.Examples.{lexes_by_test}
-use Rattle.go_grammar.specs.declared.kind.Kind.TheVariants as kind
-use Rattle.go_grammar.specs.declared.kind.Level.TheVariants as level
-use Rattle.go_grammar.specs.declared.kind.Place.TheVariants as place
-use Rattle.go_grammar.specs.declared.kind.Category.{Category}
 use Rattle.go_grammar.specs.declared.kind.Category.TheVariants as category
-use Rattle.go_grammar.specs.Trees.{Tree, node, Trees, none, more, skip, first, last, depth}
+use Rattle.go_grammar.specs.Trees.{Tree}
 use Rattle.go_grammar.specs.Grammar.{IsFile}
 use Rattle.go_grammar.specs.Reader.{read}
 use Rattle.go_grammar.proofs.Sound.{read_stands}
 use Rattle.go_splice.specs.Replacing.{subtree_at}
-use Rattle.go_splice.specs.Sites.{Local, whole, items}
-use Rattle.go_rewrite.specs.Rewriting.{Rewrite, words, edits, TextFits, TreeFits, ItemsFit, IsTail, IsDeclaration, IsFileRewriting, NewFile}
+use Rattle.go_splice.specs.Sites.{items}
+use Rattle.go_splice.specs.Places.{IsDeclaration}
+use Rattle.go_rewrite.specs.Rewriting.{Rewrite, edits, TextFits, TreeFits, NewFile}
 use Rattle.go_rewrite.proofs.Tokens.{among_get}
 use Rattle.go_rewrite.proofs.Rewritten.{new_file}
-use Rattle.go_rewrite.proofs.Testing.{tree_in, token_in, written, statement_at, statements, statements_end, in_block, in_clause, statements_run, plain_edge, read_at, read_fits}
-
+use Rattle.go_rewrite.proofs.Testing.{tree_in, written, statement_at, statements, in_block, in_clause, statements_run, plain_edge}
 
 abbrev old_text_is : List ℕ
 old_text_is = codes "package p\n\nfunc f(x int) {\n\tx++\n\tx--\n\tg(x)\n\tx++\n\tx--\n\tswitch x {\n\tcase 1: g(x); x++; x--}\n}\n// end"
@@ -53,7 +48,6 @@ old_lexes : Lexes 0 old_text_is old_tokens old_comments
 unfolding width span begun_by is_white is_letter is_digit is_in_word is_in_run is_exponent is_power is_sign is_x is_b is_o is_digit_of letter_base goes operators punctuation outside_operators keywords general_category value_in general_category_rows encode_utf8
 old_lexes = lexes_by_test 0 old_pieces refl
 
-
 abbrev file_kinds : List TokenKind
 file_kinds = kinds_of.Package ∷ kinds_of.Identifier ∷ kinds_of.Semicolon ∷ kinds_of.Func ∷ kinds_of.Identifier ∷ kinds_of.LeftParenthesis ∷ kinds_of.Identifier ∷ kinds_of.Identifier ∷ kinds_of.RightParenthesis ∷ kinds_of.LeftBrace ∷ kinds_of.Identifier ∷ kinds_of.Increment ∷ kinds_of.Semicolon ∷ kinds_of.Identifier ∷ kinds_of.Decrement ∷ kinds_of.Semicolon ∷ kinds_of.Identifier ∷ kinds_of.LeftParenthesis ∷ kinds_of.Identifier ∷ kinds_of.RightParenthesis ∷ kinds_of.Semicolon ∷ kinds_of.Identifier ∷ kinds_of.Increment ∷ kinds_of.Semicolon ∷ kinds_of.Identifier ∷ kinds_of.Decrement ∷ kinds_of.Semicolon ∷ kinds_of.Switch ∷ kinds_of.Identifier ∷ kinds_of.LeftBrace ∷ kinds_of.Case ∷ kinds_of.Integer ∷ kinds_of.Colon ∷ kinds_of.Identifier ∷ kinds_of.LeftParenthesis ∷ kinds_of.Identifier ∷ kinds_of.RightParenthesis ∷ kinds_of.Semicolon ∷ kinds_of.Identifier ∷ kinds_of.Increment ∷ kinds_of.Semicolon ∷ kinds_of.Identifier ∷ kinds_of.Decrement ∷ kinds_of.RightBrace ∷ kinds_of.Semicolon ∷ kinds_of.RightBrace ∷ kinds_of.Semicolon ∷ []
 
@@ -62,7 +56,6 @@ file_tree = tree_in (read 60 file_kinds 101 category.File 0)
 
 file_is : IsFile (kinds old_tokens) file_tree
 file_is = let r = read_stands file_kinds 60 101 category.File 0 file_tree refl in record { derives = r.0; begins = refl; ends = refl; shallow = r.2 }
-
 
 abbrev new1_text : List ℕ
 new1_text = codes "x = h(x)"
@@ -80,7 +73,6 @@ new1_lexes : Lexes 0 new1_text new1_tokens new1_comments
 unfolding width span begun_by is_white is_letter is_digit is_in_word is_in_run is_exponent is_power is_sign is_x is_b is_o is_digit_of letter_base goes operators punctuation outside_operators keywords general_category value_in general_category_rows encode_utf8
 new1_lexes = lexes_by_test 0 new1_pieces refl
 
-
 abbrev words1 : List TokenKind
 words1 = kinds_of.Identifier ∷ kinds_of.Assign ∷ kinds_of.Identifier ∷ kinds_of.LeftParenthesis ∷ kinds_of.Identifier ∷ kinds_of.RightParenthesis ∷ []
 
@@ -89,7 +81,6 @@ next1 = kinds_of.Semicolon ∷ []
 
 abbrev all1 : List TokenKind
 all1 = kinds_of.Identifier ∷ kinds_of.Assign ∷ kinds_of.Identifier ∷ kinds_of.LeftParenthesis ∷ kinds_of.Identifier ∷ kinds_of.RightParenthesis ∷ kinds_of.Semicolon ∷ []
-
 
 abbrev rewrite1 : Rewrite
 rewrite1 = record {
@@ -103,7 +94,6 @@ rewrite1 = record {
   change = items 0 1 (statements 0 (statement_at all1 0) all1);
   next = next1;
 }
-
 
 abbrev new2_text : List ℕ
 new2_text = codes "x = h(x)"
@@ -121,7 +111,6 @@ new2_lexes : Lexes 0 new2_text new2_tokens new2_comments
 unfolding width span begun_by is_white is_letter is_digit is_in_word is_in_run is_exponent is_power is_sign is_x is_b is_o is_digit_of letter_base goes operators punctuation outside_operators keywords general_category value_in general_category_rows encode_utf8
 new2_lexes = lexes_by_test 0 new2_pieces refl
 
-
 abbrev words2 : List TokenKind
 words2 = kinds_of.Identifier ∷ kinds_of.Assign ∷ kinds_of.Identifier ∷ kinds_of.LeftParenthesis ∷ kinds_of.Identifier ∷ kinds_of.RightParenthesis ∷ []
 
@@ -130,7 +119,6 @@ next2 = kinds_of.Semicolon ∷ []
 
 abbrev all2 : List TokenKind
 all2 = kinds_of.Identifier ∷ kinds_of.Assign ∷ kinds_of.Identifier ∷ kinds_of.LeftParenthesis ∷ kinds_of.Identifier ∷ kinds_of.RightParenthesis ∷ kinds_of.Semicolon ∷ []
-
 
 abbrev rewrite2 : Rewrite
 rewrite2 = record {
@@ -144,7 +132,6 @@ rewrite2 = record {
   change = items 3 1 (statements 0 (statement_at all2 0) all2);
   next = next2;
 }
-
 
 abbrev new3_text : List ℕ
 new3_text = codes "x = h(x)"
@@ -162,7 +149,6 @@ new3_lexes : Lexes 0 new3_text new3_tokens new3_comments
 unfolding width span begun_by is_white is_letter is_digit is_in_word is_in_run is_exponent is_power is_sign is_x is_b is_o is_digit_of letter_base goes operators punctuation outside_operators keywords general_category value_in general_category_rows encode_utf8
 new3_lexes = lexes_by_test 0 new3_pieces refl
 
-
 abbrev words3 : List TokenKind
 words3 = kinds_of.Identifier ∷ kinds_of.Assign ∷ kinds_of.Identifier ∷ kinds_of.LeftParenthesis ∷ kinds_of.Identifier ∷ kinds_of.RightParenthesis ∷ []
 
@@ -171,7 +157,6 @@ next3 = kinds_of.RightBrace ∷ []
 
 abbrev all3 : List TokenKind
 all3 = kinds_of.Identifier ∷ kinds_of.Assign ∷ kinds_of.Identifier ∷ kinds_of.LeftParenthesis ∷ kinds_of.Identifier ∷ kinds_of.RightParenthesis ∷ kinds_of.RightBrace ∷ []
-
 
 abbrev rewrite3 : Rewrite
 rewrite3 = record {
@@ -186,13 +171,11 @@ rewrite3 = record {
   next = next3;
 }
 
-
 abbrev rewrites : List Rewrite
 rewrites = rewrite1 ∷ rewrite2 ∷ rewrite3 ∷ []
 
 abbrev rest_text : List ℕ
 rest_text = codes "}\n}\n// end"
-
 
 abbrev tail_text : List ℕ
 tail_text = codes "\nfunc h(x int) int {\nx++ // up\n\tx-- // down\nreturn x\n}\n"
@@ -210,7 +193,6 @@ tail_lexes : Lexes 0 tail_text tail_tokens tail_comments
 unfolding width span begun_by is_white is_letter is_digit is_in_word is_in_run is_exponent is_power is_sign is_x is_b is_o is_digit_of letter_base goes operators punctuation outside_operators keywords general_category value_in general_category_rows encode_utf8
 tail_lexes = lexes_by_test 0 tail_pieces refl
 
-
 abbrev tail_kinds : List TokenKind
 tail_kinds = kinds_of.Func ∷ kinds_of.Identifier ∷ kinds_of.LeftParenthesis ∷ kinds_of.Identifier ∷ kinds_of.Identifier ∷ kinds_of.RightParenthesis ∷ kinds_of.Identifier ∷ kinds_of.LeftBrace ∷ kinds_of.Identifier ∷ kinds_of.Increment ∷ kinds_of.Semicolon ∷ kinds_of.Identifier ∷ kinds_of.Decrement ∷ kinds_of.Semicolon ∷ kinds_of.Return ∷ kinds_of.Identifier ∷ kinds_of.Semicolon ∷ kinds_of.RightBrace ∷ kinds_of.Semicolon ∷ []
 
@@ -219,7 +201,6 @@ added = tree_in (read 60 tail_kinds 100 category.Declaration 0)
 
 added_is : IsDeclaration (kinds tail_tokens) added
 added_is = let r = read_stands tail_kinds 60 100 category.Declaration 0 added refl in record { derives = r.0; begins = refl; closed = refl; all = refl; shallow = r.2 }
-
 
 stands1 : Stands 0 new1_text
 unfolding width span begun_by is_white is_letter is_digit is_in_word is_in_run is_exponent is_power is_sign is_x is_b is_o is_digit_of letter_base goes operators punctuation outside_operators keywords general_category value_in general_category_rows encode_utf8 joins
@@ -267,7 +248,6 @@ text_fits1 = record {
   line = λ _. refl;
 }
 
-
 tree_fits1 : TreeFits category.File (kinds old_tokens) file_tree rewrite1 (rewrite2 ∷ rewrite3 ∷ [])
 unfolding span
 tree_fits1 = record {
@@ -280,7 +260,6 @@ tree_fits1 = record {
   behind_is = refl;
   edge = plain_edge file_kinds words1 10 refl refl;
 }
-
 
 stands2 : Stands 0 new2_text
 unfolding width span begun_by is_white is_letter is_digit is_in_word is_in_run is_exponent is_power is_sign is_x is_b is_o is_digit_of letter_base goes operators punctuation outside_operators keywords general_category value_in general_category_rows encode_utf8 joins
@@ -328,7 +307,6 @@ text_fits2 = record {
   line = λ _. refl;
 }
 
-
 tree_fits2 : TreeFits category.File (kinds old_tokens) file_tree rewrite2 (rewrite3 ∷ [])
 unfolding span
 tree_fits2 = record {
@@ -341,7 +319,6 @@ tree_fits2 = record {
   behind_is = refl;
   edge = plain_edge file_kinds words2 21 refl refl;
 }
-
 
 stands3 : Stands 0 new3_text
 unfolding width span begun_by is_white is_letter is_digit is_in_word is_in_run is_exponent is_power is_sign is_x is_b is_o is_digit_of letter_base goes operators punctuation outside_operators keywords general_category value_in general_category_rows encode_utf8 joins
@@ -389,7 +366,6 @@ text_fits3 = record {
   line = λ _. refl;
 }
 
-
 tree_fits3 : TreeFits category.File (kinds old_tokens) file_tree rewrite3 ([])
 unfolding span
 tree_fits3 = record {
@@ -402,7 +378,6 @@ tree_fits3 = record {
   behind_is = refl;
   edge = plain_edge file_kinds words3 38 refl refl;
 }
-
 
 abbrev result_text : List ℕ
 result_text = codes "package p\n\nfunc f(x int) {\n\tx = h(x)\n\tg(x)\n\tx = h(x)\n\tswitch x {\n\tcase 1: g(x); x = h(x)}\n}\n// end\nfunc h(x int) int {\nx++ // up\n\tx-- // down\nreturn x\n}\n"
@@ -425,4 +400,3 @@ holds = new_file 0 (encode_utf8_all old_text_is) (encode_utf8_all result_text) o
   appended = record { begins = refl; comments = tail_comments; lexes = tail_lexes };
   added_fits = added_is;
 })
-

@@ -1,19 +1,18 @@
 -- A part of a text, from one token to another, has these tokens when it stands alone.
-use Rattle.std.proofs.Common.{◌≡◌, ℕ, zero, suc, ◌+◌, ◌-◌, ◌<◌, ◌≤◌, Bool, true, false, cond, ◌&&◌, List, [], ◌∷◌, ◌++◌, length, take, drop, map, Some, refl, sym, ap, ◌∙◌, subst, append_assoc, append-nil, arith}
+use Rattle.std.proofs.Common.{◌≡◌, ℕ, ◌+◌, ◌-◌, ◌<◌, Bool, true, false, cond, ◌&&◌, List, [], ◌∷◌, ◌++◌, length, take, drop, map, Some, refl, sym, ap, ◌∙◌, subst, append_assoc, append-nil, arith}
 use Rattle.std.specs.Prelude.{slice_get}
 use Rattle.std.specs.List.{list_all}
 use Rattle.std.specs.Str.{encode_utf8_all}
 use Rattle.std.proofs.lemmas.List.{length-append, take_at, drop_at, map-append, take-map}
 use Rattle.go_base.specs.declared.Span.{Span}
 use Rattle.go_tokens.specs.declared.token.Token.{Token}
-use Rattle.go_tokens.specs.declared.token.TokenKind.{TokenKind}
 use Rattle.go_tokens.specs.declared.token.TokenKind.TheVariants as kinds_of
 use Rattle.go_tokens.specs.Spellings.{ends_statement_kind}
 use Rattle.go_tokens.specs.Pieces.{is_piece, is_good}
-use Rattle.go_tokens.specs.Lexing.{join, width, Cut, is_token, token_kind, ends_statement, line_ends, span, token, tokens, comments, Lexes}
-use Rattle.go_tokens.specs.Tokens.{AreOrdered, span_of, kinds}
-use Rattle.go_tokens.specs.Replacing.{Item, read, semicolon, items, Range, pieces_of, IsOld}
-use Rattle.go_tokens.specs.Editing.{IsWritten, Spans, Stands}
+use Rattle.go_tokens.specs.Lexing.{join, width, Cut, token_kind, ends_statement, line_ends, token, tokens, comments, Lexes}
+use Rattle.go_tokens.specs.Tokens.{kinds}
+use Rattle.go_tokens.specs.Replacing.{Item, read, semicolon, items, pieces_of}
+use Rattle.go_tokens.specs.Editing.{Spans, Stands}
 use Rattle.go_tokens.proofs.Widths.{width-append, width-nil}
 use Rattle.go_tokens.proofs.Ordered.{piece_some, tokens_ordered}
 use Rattle.go_tokens.proofs.SoFar.{join_two}

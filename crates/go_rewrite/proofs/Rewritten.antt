@@ -1,20 +1,22 @@
 -- The laws of texts and files in which ranges are replaced.
-use Rattle.std.proofs.Common.{◌≡◌, ℕ, ◌+◌, List, ◌++◌, length, append-nil, Option, Some, None, refl, sym, ap, ◌∙◌, subst}
+use Rattle.std.proofs.Common.{◌≡◌, ℕ, ◌+◌, ◌≤◌, List, [], ◌++◌, length, map, append-nil, Option, Some, None, refl, sym, ap, ◌∙◌, subst}
 use Rattle.std.proofs.lemmas.List.{length-append}
 use Rattle.go_base.specs.declared.Span.{Span}
 use Rattle.go_tokens.specs.declared.token.Token.{Token}
 use Rattle.go_tokens.specs.declared.token.TokenKind.{TokenKind}
+use Rattle.go_tokens.specs.declared.token.TokenKind.TheVariants as token
+use Rattle.go_tokens.specs.Replacing.{read}
 use Rattle.go_tokens.specs.Lexing.{Lexes}
 use Rattle.go_tokens.specs.Tokens.{kinds}
 use Rattle.go_tokens.specs.Editing.{old_text, new_text}
 use Rattle.go_tokens.proofs.Encodings.{one_text}
 use Rattle.go_grammar.specs.declared.kind.Category.{Category}
 use Rattle.go_grammar.specs.declared.kind.Category.TheVariants as category
-use Rattle.go_grammar.specs.Trees.{Tree}
+use Rattle.go_grammar.specs.Trees.{Tree, depth}
 use Rattle.go_grammar.specs.Grammar.{Derives, IsFile}
-use Rattle.go_splice.specs.Places.{carry, changed, with_declaration}
-use Rattle.go_splice.proofs.Texts.{sites_changed, file_sites_changed, with_one_more}
-use Rattle.go_rewrite.specs.Rewriting.{Rewrite, edits, changes, move, sites, new_tree, IsRewriting, IsTail, NewTokens, AddedFits, extended, IsFileRewriting, NewFile}
+use Rattle.go_splice.specs.Places.{carry, changed, with_declaration, IsDeclaration}
+use Rattle.go_splice.proofs.Texts.{sites_changed, sites_ended, file_sites_changed, with_one_more}
+use Rattle.go_rewrite.specs.Rewriting.{Rewrite, edits, changes, rewritten, move, sites, new_tree, IsRewriting, IsTail, NewTokens, NewDeclaration, AddedFits, extended, IsFileRewriting, NewFile}
 use Rattle.go_rewrite.proofs.Tokens.{found}
 use Rattle.go_rewrite.proofs.Trees.{sits, placed}
 
@@ -41,4 +43,21 @@ new_file file old new ts cs t rs rest tail us added h =
       texts = f.new.texts;
       kinds_are = f.new.kinds_are;
       tree = subst (λ ks. IsFile ks (extended (length (changed (changes rs) (kinds ts))) (kinds us) added (new_tree rs t))) (sym f.new.kinds_are) (extended_is (changed (changes rs) (kinds ts)) (kinds us) (new_tree rs t) added tree h.added_fits);
+    }
+
+no_tail : (file : ℕ) → IsTail file [] []
+no_tail file = record { begins = refl; comments = []; lexes = record { pieces = []; whole = refl; cut = tt; good = refl; spelled = refl; noted = refl } }
+
+pub new_declaration : (file : ℕ) (ts : List Token) (cs : List Span) (t : Tree) (rs : List Rewrite) (rest : List ℕ) → IsRewriting file category.Declaration ts cs t rs rest [] → IsDeclaration (kinds ts) t → depth (new_tree rs t) ≤ 100 → NewDeclaration file ts t rs rest
+new_declaration file ts cs t rs rest h d low =
+    let f = found file ts cs rs rest [] [] h.lexes h.texts (no_tail file) in
+    let e = sites_ended (kinds ts) (changes rs) category.Declaration t (sites (move rs) rs) token.Semicolon (record { derives = d.derives; begins = d.begins; closed = d.closed; all = d.all }) (placed (kinds ts) rs category.Declaration t h.trees f.ascend rs h.trees) f.ascend (sits (kinds ts) rs category.Declaration t h.trees f.ascend 0 rs refl h.trees) h.agrees in
+    let same : kinds f.new.tokens ≡ changed (changes rs) (kinds ts) = f.new.kinds_are ∙ append-nil (changed (changes rs) (kinds ts)) in
+    record {
+      tokens = f.new.tokens;
+      comments = f.new.comments;
+      lexes = f.new.lexes;
+      texts = f.new.texts ∙ append-nil (rewritten rs (map (read (old_text (edits rs rest))) ts));
+      kinds_are = same;
+      declaration = subst (λ ks. IsDeclaration ks (new_tree rs t)) (sym same) (record { derives = e.derives; begins = e.begins; closed = e.closed; all = e.all; shallow = low });
     }

@@ -2,26 +2,25 @@
 --
 -- Each replaced range, from one token up to another, is the text of a subtree or of adjoining items of a list. The new text has
 -- tokens, and a tree or items, when it stands alone. What is asked is asked of each new text by itself and of its neighbours.
-use Rattle.std.specs.Prelude.{◌≡◌, ℕ, suc, ◌+◌, ◌-◌, ◌<◌, ◌≤◌, Bool, true, nat_lt, ◌==◌, if◌then◌else◌, List, [], ◌∷◌, ◌++◌, map, length, take, drop, Option, Some, None, slice_get}
+use Rattle.std.specs.Prelude.{◌≡◌, ℕ, ◌+◌, ◌-◌, ◌<◌, ◌≤◌, Bool, true, nat_lt, ◌==◌, if◌then◌else◌, List, [], ◌∷◌, ◌++◌, map, length, take, drop, Option, Some, None, slice_get}
 use Rattle.go_base.specs.declared.Span.{Span}
 use Rattle.go_tokens.specs.declared.token.Token.{Token}
 use Rattle.go_tokens.specs.declared.token.TokenKind.{TokenKind}
-use Rattle.go_tokens.specs.declared.token.TokenKind.TheVariants as token
 use Rattle.go_tokens.specs.Spellings.{ends_statement_kind}
 use Rattle.go_tokens.specs.Lexing.{width, Lexes}
 use Rattle.go_tokens.specs.Tokens.{kinds}
 use Rattle.go_tokens.specs.Encoding.{IsText}
 use Rattle.go_tokens.specs.Files.{IsLexing}
 use Rattle.go_tokens.specs.Replacing.{Item, read, are_apart, is_at_line_end}
-use Rattle.go_tokens.specs.Editing.{Edits, Rest, Edit, old_text, new_text, IsWritten, Stands, EndsLine}
+use Rattle.go_tokens.specs.Editing.{Edits, Rest, Edit, old_text, new_text, IsWritten, Stands, stands_apart, EndsLine}
 use Rattle.go_grammar.specs.declared.kind.Category.{Category}
 use Rattle.go_grammar.specs.declared.kind.Category.TheVariants as category
 use Rattle.go_grammar.specs.Categories.{place_of}
 use Rattle.go_grammar.specs.Rules.{Items, Rule}
 use Rattle.go_grammar.specs.Trees.{Tree, node, Trees, first, last, depth}
-use Rattle.go_grammar.specs.Grammar.{rule, IsAt, Derives, IsFile}
+use Rattle.go_grammar.specs.Grammar.{rule, Derives, IsFile}
 use Rattle.go_splice.specs.Replacing.{Edge, subtree_at, asked_at, Run}
-use Rattle.go_splice.specs.Places.{carry, carries, become, agreed, Change, changed, moved_by, range, with_declaration}
+use Rattle.go_splice.specs.Places.{carry, carries, become, agreed, Change, changed, moved_by, range, with_declaration, IsDeclaration}
 use Rattle.go_splice.specs.Sites.{Local, whole, items, Site, patch_of, local_range}
 use Rattle.go_splice.specs.Lists.{items_at, has_run}
 
@@ -85,6 +84,11 @@ abbrev pub sites : (ℕ → ℕ) → List Rewrite → List Site
 sites m [] = []
 sites m (r ∷ rs) = record { path = r.path; change = settled (λ k. m r.from + k) r.change } ∷ sites m rs
 
+-- the same over the tokens of each new text alone
+abbrev pub sites_alone : List Rewrite → List Site
+sites_alone [] = []
+sites_alone (r ∷ rs) = record { path = r.path; change = r.change } ∷ sites_alone rs
+
 -- the new tree
 abbrev pub new_tree : List Rewrite → Tree → Tree
 new_tree rs t = become (move rs) t (patch_of (sites (move rs) rs))
@@ -102,14 +106,14 @@ pub record IsRange (ts : List Token) (from upto start end : ℕ) : Type 0 where
   pub ends : last.span.end ≡ end
 
 -- What is asked of the text of a range in a text with the tokens ts, where the text behind the range is first this and then
--- that. The new text stands alone, neighbours at a seam don't join, and where a line ends behind the range, a semicolon is
+-- that. The new text stands alone, neighbours at a seam don't join (a period behind a name doesn't), and where a line ends behind the range, a semicolon is
 -- inserted behind its new last token exactly where one is behind the old.
 pub record TextFits (file : ℕ) (ts : List Token) (at : ℕ) (r : Rewrite) (old_behind new_behind : List ℕ) : Type 0 where
   pub range : IsRange ts r.from r.upto (at + width r.kept) (at + width r.kept + width r.old)
   pub stands : Stands file r.new
   pub tokens : stands.tokens ≡ r.alone
   pub apart_before : are_apart r.kept (r.new ++ new_behind) ≡ true
-  pub apart_behind : are_apart r.new new_behind ≡ true
+  pub apart_behind : stands_apart file r.new stands new_behind ≡ true
   pub line : EndsLine old_behind → ends_statement_kind range.last.kind ≡ ends_statement_kind stands.spans.last.kind
 
 abbrev pub TextsFit : ℕ → List Token → ℕ → List Rewrite → List ℕ → List ℕ → Type 0
@@ -178,14 +182,16 @@ pub record NewTokens (file : ℕ) (ts : List Token) (rs : List Rewrite) (rest ta
   pub texts : map (read (new_text (edits rs rest) tail)) tokens ≡ rewritten rs (map (read (old_text (edits rs rest))) ts) ++ map (read tail) us
   pub kinds_are : kinds tokens ≡ changed (changes rs) (kinds ts) ++ kinds us
 
--- The declaration that is appended to a file, if there is one: all tokens of the tail, with a semicolon behind it.
-pub record IsDeclaration (ws : List TokenKind) (d : Tree) : Type 0 where
-  pub derives : Derives ws category.Declaration d
-  pub begins : first d ≡ 0
-  pub closed : IsAt ws (last d) token.Semicolon
-  pub all : length ws ≡ suc (last d)
-  pub shallow : depth d ≤ 100
+-- The tokens of a rewritten declaration, and its tree.
+pub record NewDeclaration (file : ℕ) (ts : List Token) (t : Tree) (rs : List Rewrite) (rest : List ℕ) : Type 0 where
+  pub tokens : List Token
+  pub comments : List Span
+  pub lexes : Lexes file (new_text (edits rs rest) []) tokens comments
+  pub texts : map (read (new_text (edits rs rest) [])) tokens ≡ rewritten rs (map (read (old_text (edits rs rest))) ts)
+  pub kinds_are : kinds tokens ≡ changed (changes rs) (kinds ts)
+  pub declaration : IsDeclaration (kinds tokens) (new_tree rs t)
 
+-- the declaration that is appended to a file, if there is one: all tokens of the tail, a semicolon included
 abbrev pub AddedFits : List TokenKind → Option Tree → Type 0
 AddedFits ws None = ws ≡ []
 AddedFits ws (Some d) = IsDeclaration ws d
@@ -216,3 +222,53 @@ pub record NewFile (file : ℕ) (new : List ℕ) (ts : List Token) (t : Tree) (r
   pub texts : map (read (new_text (edits rs rest) tail)) tokens ≡ rewritten rs (map (read (old_text (edits rs rest))) ts) ++ map (read tail) us
   pub kinds_are : kinds tokens ≡ changed (changes rs) (kinds ts) ++ kinds us
   pub tree : IsFile (kinds tokens) (extended (length (changed (changes rs) (kinds ts))) (kinds us) added (new_tree rs t))
+
+-- A text with its tokens, its comments and its tree; the ranges that are replaced in it, in order; the text behind them; and what
+-- is appended, with its tokens.
+pub record Rewriting : Type 0 where
+  pub file : ℕ
+  pub tokens : List Token
+  pub comments : List Span
+  pub tree : Tree
+  pub ranges : List Rewrite
+  pub rest : List ℕ
+  pub tail : List ℕ
+  pub tail_tokens : List Token
+
+abbrev pub before : Rewriting → List ℕ
+before w = old_text (edits w.ranges w.rest)
+
+abbrev pub HasTexts : Rewriting → Type 0
+HasTexts w = TextsFit w.file w.tokens 0 w.ranges w.rest w.tail
+
+abbrev pub HasTail : Rewriting → Type 0
+HasTail w = IsTail w.file w.tail w.tail_tokens
+
+abbrev pub IsWellFormed : Category → Rewriting → Type 0
+IsWellFormed c w = IsRewriting w.file c w.tokens w.comments w.tree w.ranges w.rest w.tail
+
+abbrev pub HasNewTokens : Rewriting → Type 0
+HasNewTokens w = NewTokens w.file w.tokens w.ranges w.rest w.tail w.tail_tokens
+
+-- the new tokens in front of what is appended are a text of the category, with the new tree
+abbrev pub HasNewTree : Category → Rewriting → Type 0
+HasNewTree c w = Derives (changed (changes w.ranges) (kinds w.tokens)) c (new_tree w.ranges w.tree)
+
+-- The text of a declaration with its ranges, to which nothing is appended.
+pub record IsDeclarationRewriting (w : Rewriting) : Type 0 where
+  pub well_formed : IsRewriting w.file category.Declaration w.tokens w.comments w.tree w.ranges w.rest []
+  pub declaration : IsDeclaration (kinds w.tokens) w.tree
+  pub shallow : depth (new_tree w.ranges w.tree) ≤ 100
+
+-- A file's bytes and those of the new text, and the declaration that is appended.
+pub record FileRewriting : Type 0 where
+  pub text : Rewriting
+  pub old : List ℕ
+  pub new : List ℕ
+  pub added : Option Tree
+
+abbrev pub IsFileWellFormed : FileRewriting → Type 0
+IsFileWellFormed f = let w = f.text in IsFileRewriting w.file f.old f.new w.tokens w.comments w.tree w.ranges w.rest w.tail w.tail_tokens f.added
+
+abbrev pub HasNewFile : FileRewriting → Type 0
+HasNewFile f = let w = f.text in NewFile w.file f.new w.tokens w.tree w.ranges w.rest w.tail w.tail_tokens f.added

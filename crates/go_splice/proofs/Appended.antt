@@ -1,5 +1,5 @@
 -- A declaration at the end of a file.
-use Rattle.std.proofs.Common.{◌≡◌, ℕ, suc, ◌<◌, ◌≤◌, inl, inr, true, List, [], ◌∷◌, refl, sym, ◌∙◌, subst, length, arith}
+use Rattle.std.proofs.Common.{◌≡◌, ℕ, suc, ◌<◌, ◌≤◌, ap, inl, inr, true, List, [], ◌∷◌, refl, sym, ◌∙◌, subst, length, arith}
 use Rattle.std.specs.Prelude.{slice_get}
 use Rattle.go_tokens.specs.declared.token.TokenKind.{TokenKind}
 use Rattle.go_tokens.specs.declared.token.TokenKind.TheVariants as token
@@ -13,10 +13,25 @@ use Rattle.go_grammar.specs.Trees.{Tree, node, Trees, none, more, skip, first, l
 use Rattle.go_grammar.specs.Grammar.{rule, IsAt, Words, Derives, Spells, Goes, IsFile}
 use Rattle.go_grammar.proofs.Ranges.{words_order, derives_order, spells_order, goes_order}
 use Rattle.go_splice.specs.Replacing.{onto}
-use Rattle.go_splice.specs.Places.{carry}
+use Rattle.go_splice.specs.Places.{carry, carries}
+use Rattle.go_splice.specs.Lists.{InOrder, Ordered}
 use Rattle.go_splice.proofs.Kept.{derives_kept, soft_same}
-use Rattle.go_splice.proofs.Order.{derives_ordered}
-use Rattle.go_splice.proofs.Single.{carry_still}
+use Rattle.go_splice.proofs.Order.{row_order, derives_ordered}
+
+-- a tree in front of all that moves stays as it is
+module _ (m : ℕ → ℕ) (big : ℕ) (still : (n : ℕ) → n ≤ big → m n ≡ n) where
+  mutual
+    carry_still : (t : Tree) → InOrder t → last t ≤ big → carry m t ≡ t
+    carry_still (node k a b ps) h le =
+        let on : a < b = h.0 in
+        ap (λ x. node k x (m b) (carries m ps)) (still a (omega (arith, on, le))) ∙ ap (λ x. node k a x (carries m ps)) (still b le) ∙ ap (λ zs. node k a b zs) (carries_still ps a b h.1 le)
+
+    carries_still : (ps : Trees) (i j : ℕ) → Ordered i ps j → j ≤ big → carries m ps ≡ ps
+    carries_still none i j h le = refl
+    carries_still (more p ps) i j h le =
+        let off : last p ≤ j = row_order ps (last p) j h.2 in
+        ap (λ x. more x (carries m ps)) (carry_still p h.1 (omega (arith, off, le))) ∙ ap (λ zs. more p zs) (carries_still ps (last p) j h.2 le)
+    carries_still (skip ps) i j h le = ap skip (carries_still ps i j h le)
 
 abbrev lines_of : Category → Items
 lines_of c = Each c (token.Semicolon ∷ []) []

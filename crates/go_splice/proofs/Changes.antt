@@ -8,7 +8,7 @@ use Rattle.go_splice.specs.Replacing.{moved}
 use Rattle.go_splice.specs.Places.{Outside, Ascending, Stays, Change, exchanged, changed, moved_by, ranges, Stand}
 use Rattle.go_splice.proofs.Order.{ascending_order}
 
-get_front : {A : Type 0} (n : ℕ) (us ws : List A) (k : ℕ) → k < n → n ≤ length us → slice_get (take n us ++ ws) k ≡ slice_get us k
+pub get_front : {A : Type 0} (n : ℕ) (us ws : List A) (k : ℕ) → k < n → n ≤ length us → slice_get (take n us ++ ws) k ≡ slice_get us k
 get_front zero us ws k lt le = absurd (omega (arith, lt))
 get_front (suc n) [] ws k lt le = absurd (omega (arith, le))
 get_front (suc n) (u ∷ us) ws zero lt le = refl
@@ -25,7 +25,7 @@ get_right (u ∷ us) ws k =
     let e : length (u ∷ us) + k ≡ suc (length us + k) = omega arith in
     ap (slice_get ((u ∷ us) ++ ws)) e ∙ get_right us ws k
 
-get_drop : {A : Type 0} (n : ℕ) (us : List A) (k : ℕ) → slice_get (drop n us) k ≡ slice_get us (n + k)
+pub get_drop : {A : Type 0} (n : ℕ) (us : List A) (k : ℕ) → slice_get (drop n us) k ≡ slice_get us (n + k)
 get_drop zero us k = ap (slice_get us) (omega arith)
 get_drop (suc n) [] k = refl
 get_drop (suc n) (u ∷ us) k =

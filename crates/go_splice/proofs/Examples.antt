@@ -19,12 +19,12 @@ use Rattle.go_grammar.specs.Words.{is_word}
 use Rattle.go_grammar.specs.Categories.{place_of}
 use Rattle.go_grammar.specs.Reader.{read}
 use Rattle.go_grammar.proofs.Sound.{read_stands}
-use Rattle.go_splice.specs.Places.{put, inside, done, part, become, Fits, Ascending, Change, changed, moved_by, ranges}
+use Rattle.go_splice.specs.Places.{put, become, Fits, Ascending, Change, changed, moved_by, ranges}
 use Rattle.go_splice.specs.Replacing.{Edge, takes_level, Run}
-use Rattle.go_splice.specs.Sites.{Site, items, patch_of, Sits}
-use Rattle.go_splice.proofs.Chains.{operand_stands}
+use Rattle.go_splice.specs.Sites.{Site, whole, items, patch_of, Sits}
+use Rattle.go_splice.proofs.Operands.{operand_stands}
 use Rattle.go_splice.proofs.Words.{run_fits}
-use Rattle.go_splice.proofs.Texts.{places_changed, file_sites_changed, with_one_more}
+use Rattle.go_splice.proofs.Texts.{sites_changed, file_sites_changed, with_one_more}
 
 abbrev name : ℕ → Tree
 name i = node kind.Name i (suc i) none
@@ -56,6 +56,9 @@ new_sum = node (kind.Binary (operator.Compute arithmetic.Add)) 0 7 (more (call 0
 abbrev sum_changes : List Change
 sum_changes = change 0 1 ∷ change 2 3 ∷ []
 
+abbrev sum_sites : List Site
+sum_sites = record { path = 0 ∷ []; change = whole (call 0) } ∷ record { path = 1 ∷ []; change = whole (call 4) } ∷ []
+
 abbrev expression : Category
 expression = category.Expression level.Either place.Free
 
@@ -81,7 +84,11 @@ both_operands : Derives new_sum_tokens expression new_sum
 both_operands =
     let left : Fits sum_tokens new_sum_tokens (moved_by sum_changes) (category.Expression level.Sum place.Free) (node kind.Integer 0 1 none) (put (call 0)) = (operand 0 (category.Expression level.Sum place.Free) refl refl refl, refl, refl, name_edge sum_tokens new_sum_tokens 0 0 refl (λ n next closed. absurd (omega (arith, next)))) in
     let right : Fits sum_tokens new_sum_tokens (moved_by sum_changes) (category.Expression level.Product place.Free) (name 2) (put (call 4)) = (operand 4 (category.Expression level.Product place.Free) refl refl refl, refl, refl, name_edge sum_tokens new_sum_tokens 2 4 refl (λ n next closed. let w = front_is sum_tokens 1 n token.Plus next refl closed in cc)) in
-    places_changed sum_tokens sum_changes expression sum (inside (part (put (call 0)) (part (put (call 4)) done))) (read_stands sum_tokens 20 20 expression 0 sum refl).0 refl (left, (right, tt)) refl
+    let h : Derives sum_tokens expression sum = (read_stands sum_tokens 20 20 expression 0 sum refl).0 in
+    sites_changed sum_tokens sum_changes expression sum sum_sites h refl (omega arith, omega arith, (omega arith, omega arith, omega arith)) (
+      record { old = node kind.Integer 0 1 none; category = category.Expression level.Sum place.Free; stood = refl; asked = refl; fits = left },
+      (record { old = name 2; category = category.Expression level.Product place.Free; stood = refl; asked = refl; fits = right }, tt),
+    ) refl
 
 -- package p; func f() { if x { }; x--; return }; func g() { for { x++; x-- } };
 abbrev file_tokens : List TokenKind
@@ -192,14 +199,6 @@ second_sits = record {
 third_sits : Sits file_tokens new_tokens (moved_by calls) category.File file (record { path = 2 ∷ 1 ∷ 0 ∷ 1 ∷ []; change = items 0 1 (more (called 24) none) })
 third_sits =
     let lines : Items = Lines true category.Statement token.Semicolon token.RightBrace in
-    let old : Run file_tokens lines (more (count_up 26) (more (count_down 29) none)) 26 31 = (
-      refl,
-      (read_stands file_tokens 20 20 category.Statement 26 (count_up 26) refl).0,
-      29,
-      (refl, refl),
-      record { order = omega arith; each = λ k lo hi. absurd (omega (arith, lo, hi)) },
-      (refl, (read_stands file_tokens 20 20 category.Statement 29 (count_down 29) refl).0, refl),
-    ) in
     let new : Run (call_words ++ token.RightBrace ∷ []) lines (more (called 0) none) 0 3 = (refl, (read_stands (call_words ++ token.RightBrace ∷ []) 20 20 category.Statement 0 (called 0) refl).0, refl) in
     let edge : Edge file_tokens call_words 26 0 = name_edge file_tokens call_words 26 0 refl (λ n next closed. let w = front_is file_tokens 25 n token.LeftBrace next refl closed in cc) in
     record {
@@ -207,7 +206,7 @@ third_sits =
       category = category.Block;
       stood = refl;
       asked = refl;
-      fits = (run_fits file_tokens calls 2 (change 26 31) ascending refl edge (omega arith) (token.RightBrace ∷ []) refl category.Block kind.Block 25 32 none (count_up 26) (more (count_down 29) none) (more (called 0) none) none lines refl old new).0;
+      fits = run_fits file_tokens calls 2 (change 26 31) ascending refl edge (omega arith) (token.RightBrace ∷ []) refl category.Block kind.Block 25 32 (more (count_up 26) (more (count_down 29) none)) 0 1 (more (called 0) none) lines refl refl refl new;
     }
 
 -- two runs in one list and a run in another, and a function at the end

@@ -1,9 +1,8 @@
 -- A text other than a clause depends on no closing brace behind it. So it also stands before another token, where that is no
 -- opening brace, and behind a closing parenthesis no word that begins a result, unless the old one is.
-use Rattle.std.proofs.Common.{◌≡◌, ℕ, zero, suc, ◌+◌, ◌<◌, ◌≤◌, ◌⊎◌, inl, inr, Bool, true, false, not, List, [], ◌∷◌, Option, refl, sym, ap, ◌∙◌, subst, arith}
+use Rattle.std.proofs.Common.{◌≡◌, ℕ, suc, ◌<◌, ◌≤◌, ◌⊎◌, inl, inr, Bool, true, false, not, List, [], ◌∷◌, refl, sym, ap, ◌∙◌, subst, arith}
 use Rattle.std.specs.Prelude.{slice_get, ◌&&◌, ◌||◌}
 use Rattle.go_tokens.specs.declared.token.TokenKind.{TokenKind}
-use Rattle.go_tokens.specs.declared.token.TokenKind.TheVariants as token
 use Rattle.go_grammar.specs.declared.kind.Kind.{Kind}
 use Rattle.go_grammar.specs.declared.kind.Kind.TheVariants as kind
 use Rattle.go_grammar.specs.declared.kind.Place.{Place}
@@ -13,16 +12,16 @@ use Rattle.go_grammar.specs.declared.kind.Category.TheVariants as category
 use Rattle.go_grammar.specs.Categories.{within, place_of}
 use Rattle.go_grammar.specs.Rules.{Items, Lines, Open, Each, Again, Rule, End, Then, Maybe, Unless, Many, item}
 use Rattle.go_grammar.specs.Trees.{Tree, node, Trees, none, more, skip, first, last}
-use Rattle.go_grammar.specs.Grammar.{rule, ends, result_words, IsAt, Words, Gap, Close, Between, Early, Derives, Spells, Goes}
-use Rattle.go_grammar.specs.Words.{is_word, is_among}
+use Rattle.go_grammar.specs.Grammar.{rule, result_words, Words, Gap, Between, Early, Derives, Spells, Goes}
+use Rattle.go_grammar.specs.Words.{is_among}
 use Rattle.go_grammar.proofs.Rows.{all, kinds, kinds_at, categories, categories_at, and_both, same_category}
 use Rattle.go_grammar.proofs.Ranges.{words_order, gap_order, close_order, between_order, derives_order, spells_order, goes_order}
 use Rattle.go_splice.specs.Replacing.{moved, Edge, Run}
 use Rattle.go_splice.specs.Lists.{no_clause, Elsewhere, in_block, in_clause}
-use Rattle.go_splice.specs.Places.{Stays, carry, carries}
+use Rattle.go_splice.specs.Places.{carry, carries}
 use Rattle.go_splice.proofs.Results.{led, rule_led, led_words, Closed, closed_behind, not_yet, ends_closed}
 use Rattle.go_splice.proofs.Texts.{run_order}
-use Rattle.go_splice.proofs.Kept.{Stay, Soft, narrow, soft_same, part_kept, words_kept, gap_kept, close_kept, between_kept, agrees_carried, ends_edge, false_kept, first_carry, last_carry}
+use Rattle.go_splice.proofs.Kept.{Stay, narrow, soft_same, part_kept, words_kept, gap_kept, close_kept, between_kept, agrees_carried, ends_edge, false_kept, first_carry, last_carry}
 
 abbrev is_clause : Kind → Bool
 is_clause kind.Case = true

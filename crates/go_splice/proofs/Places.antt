@@ -179,6 +179,3 @@ module _ (ts ts' : List TokenKind) (m : ℕ → ℕ) where
 
   pub became_text : (c : Category) (t : Tree) (q : Patch) → Derives ts c t → Fits ts ts' m c t q → agreed m t q ≡ true → ((n : ℕ) → first t ≤ n → n < last t → Outside n (places t q) → Stays ts ts' m n) → slice_get ts' (m (last t)) ≡ slice_get ts (last t) → Text c t (become m t q)
   became_text c t q h f y st e = became q t c h f y (keeps ts ts' m q t (derives_ordered ts t c h) st) (soft_same ts ts' m (last t) e)
-
-  pub places_replaced : (c : Category) (t : Tree) (q : Patch) → Derives ts c t → Fits ts ts' m c t q → agreed m t q ≡ true → ((n : ℕ) → first t ≤ n → n < last t → Outside n (places t q) → Stays ts ts' m n) → slice_get ts' (m (last t)) ≡ slice_get ts (last t) → Derives ts' c (become m t q)
-  places_replaced c t q h f y st e = (became_text c t q h f y st e).derives

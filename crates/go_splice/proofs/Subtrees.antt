@@ -1,5 +1,5 @@
 -- The subtrees of a derivation, and the runs of items in it.
-use Rattle.std.proofs.Common.{◌≡◌, ℕ, zero, suc, ◌<◌, ◌≤◌, Bool, true, false, List, [], ◌∷◌, Option, Some, None, refl, sym, ap, ◌∙◌, subst, arith}
+use Rattle.std.proofs.Common.{◌≡◌, ℕ, zero, suc, ◌<◌, ◌≤◌, true, List, [], ◌∷◌, Some, refl, sym, ap, ◌∙◌, subst, arith}
 use Rattle.go_tokens.specs.declared.token.TokenKind.{TokenKind}
 use Rattle.go_grammar.specs.declared.kind.Kind.{Kind}
 use Rattle.go_grammar.specs.declared.kind.Category.{Category}
@@ -11,7 +11,7 @@ use Rattle.go_grammar.proofs.Ranges.{words_order, gap_order, between_order, spel
 use Rattle.go_splice.specs.Replacing.{Edge, subtree_at, subtree_in, asked_at, asked_in, Run}
 use Rattle.go_splice.specs.Places.{done, has_items, items_behind, items_end, Range, range, FitAll}
 use Rattle.go_splice.specs.Sites.{patches_behind, add_run, run_range}
-use Rattle.go_splice.specs.Lists.{Ordered, Subtree, items_at, has_run, so_many, run_at}
+use Rattle.go_splice.specs.Lists.{Ordered, Subtree, items_at, has_run, so_many, run_at, IsRun, RunStands}
 use Rattle.go_splice.proofs.Order.{derives_ordered}
 
 module _ (ts : List TokenKind) where
@@ -108,6 +108,9 @@ module _ (ts : List TokenKind) where
   -- the items behind so many parts of a node
   pub node_run : (f n : ℕ) (k : Kind) (a b : ℕ) (ps : Trees) (c : Category) (l : Items) → Derives ts c (node k a b ps) → items_at f (rule (place_of c) k) ≡ Some l → has_run f n ps ≡ true → Run ts l (run_at f n ps) (run_range f n ps).from (run_range f n ps).upto
   node_run f n k a b ps c l h at e = run_of f n ps (rule (place_of c) k) l a b h.1 at e
+
+  pub run_in : (f n : ℕ) (t : Tree) (c : Category) (l : Items) → IsRun ts c t f n l → RunStands ts t f n l
+  run_in f n (node k a b ps) c l h = node_run f n k a b ps c l h.derives h.is_list h.has
 
   -- a run has a token
   pub run_grows : (l : Items) (new : Trees) (a b : ℕ) → Run ts l new a b → a < b

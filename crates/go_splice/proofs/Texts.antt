@@ -17,7 +17,7 @@ use Rattle.go_splice.specs.Sites.{Site, patch_of, site_ranges, AllSit}
 use Rattle.go_splice.proofs.Appended.{appended}
 use Rattle.go_splice.proofs.Changes.{get_left, get_right, change_stays, change_end, move_start}
 use Rattle.go_splice.proofs.Kept.{Stay, Soft, narrow, soft_same, part_kept, derives_kept, gap_kept, between_kept, first_carry, last_carry}
-use Rattle.go_splice.proofs.Order.{derives_ordered, places_within, places_ascend, ascending_widen}
+use Rattle.go_splice.proofs.Order.{derives_ordered, places_within}
 use Rattle.go_splice.proofs.Places.{Text, became_text}
 use Rattle.go_splice.proofs.Sites.{sites_fit, sites_out}
 
@@ -68,18 +68,13 @@ mutual
   depths_carry m (more p ps) = ap (λ n. max n (depths (carries m ps))) (depth_carry m p) ∙ ap (λ n. max (depth p) n) (depths_carry m ps)
   depths_carry m (skip ps) = depths_carry m ps
 
-pub places_ascending : (ts : List TokenKind) (xs : List Change) (c : Category) (t : Tree) (q : Patch) → Derives ts c t → ranges xs ≡ places t q → Ascending 0 (ranges xs) (length ts)
-places_ascending ts xs c t q h at =
-    let a : Ascending (first t) (places t q) (last t) = places_ascend q t (derives_ordered ts t c h) in
-    subst (λ rs. Ascending 0 rs (length ts)) (sym at) (ascending_widen (places t q) 0 (first t) (last t) (length ts) (omega arith) (lies_within ts c t h).1 a)
-
 -- the changes are in the places of the patch
 module _ (ts : List TokenKind) (xs : List Change) (c : Category) (t : Tree) (q : Patch) (h : Derives ts c t) (ascend : Ascending 0 (ranges xs) (length ts)) (among : (n : ℕ) → Outside n (places t q) → Outside n (ranges xs)) where
   apart : (i k : ℕ) → i ≤ k → (i ≡ k) ⊎ (i < k)
   apart i k le = grind arith
 
   -- what stands behind the tree
-  behind : slice_get (changed xs ts) (moved_by xs (last t)) ≡ slice_get ts (last t)
+  pub behind : slice_get (changed xs ts) (moved_by xs (last t)) ≡ slice_get ts (last t)
   behind = elim (apart (last t) (length ts) (lies_within ts c t h).1) [
     | inl same ↦
         let to : moved_by xs (last t) ≡ length (changed xs ts) = ap (moved_by xs) same ∙ change_end ts xs 0 ascend in
@@ -87,7 +82,7 @@ module _ (ts : List TokenKind) (xs : List Change) (c : Category) (t : Tree) (q :
     | inr lt ↦ (change_stays ts xs 0 (last t) ascend (among (last t) (places_within q t (last t) (derives_ordered ts t c h) (inr (omega arith))))).same
   ]
 
-  changed_text : Fits ts (changed xs ts) (moved_by xs) c t q → agreed (moved_by xs) t q ≡ true → Text ts (changed xs ts) (moved_by xs) c t (become (moved_by xs) t q)
+  pub changed_text : Fits ts (changed xs ts) (moved_by xs) c t q → agreed (moved_by xs) t q ≡ true → Text ts (changed xs ts) (moved_by xs) c t (become (moved_by xs) t q)
   changed_text f y = became_text ts (changed xs ts) (moved_by xs) c t q h f y (λ n lo hi out. change_stays ts xs 0 n ascend (among n out)) behind
 
   changed_derives : Fits ts (changed xs ts) (moved_by xs) c t q → agreed (moved_by xs) t q ≡ true → Derives (changed xs ts) c (become (moved_by xs) t q)
@@ -103,16 +98,29 @@ changed_is_file ts xs t q h ascend among f y low =
       shallow = low;
     }
 
--- where they are just these places
-pub places_changed : (ts : List TokenKind) (xs : List Change) (c : Category) (t : Tree) (q : Patch) → Derives ts c t → ranges xs ≡ places t q → Fits ts (changed xs ts) (moved_by xs) c t q → agreed (moved_by xs) t q ≡ true → Derives (changed xs ts) c (become (moved_by xs) t q)
-places_changed ts xs c t q h at f y = changed_derives ts xs c t q h (places_ascending ts xs c t q h at) (λ n. subst (Outside n) (sym at)) f y
-
-pub file_changed : (ts : List TokenKind) (xs : List Change) (t : Tree) (q : Patch) → IsFile ts t → ranges xs ≡ places t q → Fits ts (changed xs ts) (moved_by xs) category.File t q → agreed (moved_by xs) t q ≡ true → depth (become (moved_by xs) t q) ≤ 101 → IsFile (changed xs ts) (become (moved_by xs) t q)
-file_changed ts xs t q h at f y low = changed_is_file ts xs t q h (places_ascending ts xs category.File t q h.derives at) (λ n. subst (Outside n) (sym at)) f y low
-
 -- where each is found by a path
-sites_among : (ts us : List TokenKind) (m : ℕ → ℕ) (xs : List Change) (c : Category) (t : Tree) (ss : List Site) → Derives ts c t → ranges xs ≡ site_ranges t ss → Ascending 0 (ranges xs) (length ts) → AllSit ts us m c t ss → (n : ℕ) → Outside n (places t (patch_of ss)) → Outside n (ranges xs)
+pub sites_among : (ts us : List TokenKind) (m : ℕ → ℕ) (xs : List Change) (c : Category) (t : Tree) (ss : List Site) → Derives ts c t → ranges xs ≡ site_ranges t ss → Ascending 0 (ranges xs) (length ts) → AllSit ts us m c t ss → (n : ℕ) → Outside n (places t (patch_of ss)) → Outside n (ranges xs)
 sites_among ts us m xs c t ss h at ascend sit n out = subst (Outside n) (sym at) (sites_out ts us m c t ss 0 (length ts) n (derives_ordered ts t c h) sit (subst (λ rs. Ascending 0 rs (length ts)) at ascend) out)
+
+-- Where a token stands behind the tree, and no more, it does so behind the new one too.
+pub record Ended (us : List TokenKind) (c : Category) (t : Tree) (w : TokenKind) : Type 0 where
+  pub derives : Derives us c t
+  pub begins : first t ≡ 0
+  pub closed : IsAt us (last t) w
+  pub all : length us ≡ suc (last t)
+
+pub sites_ended : (ts : List TokenKind) (xs : List Change) (c : Category) (t : Tree) (ss : List Site) (w : TokenKind) → Ended ts c t w → ranges xs ≡ site_ranges t ss → Ascending 0 (ranges xs) (length ts) → AllSit ts (changed xs ts) (moved_by xs) c t ss → agreed (moved_by xs) t (patch_of ss) ≡ true → Ended (changed xs ts) c (become (moved_by xs) t (patch_of ss)) w
+sites_ended ts xs c t ss w h at ascend sit y =
+    let among : (n : ℕ) → Outside n (places t (patch_of ss)) → Outside n (ranges xs) = sites_among ts (changed xs ts) (moved_by xs) xs c t ss h.derives at ascend sit in
+    let text = changed_text ts xs c t (patch_of ss) h.derives ascend among (sites_fit ts (changed xs ts) (moved_by xs) c t ss sit) y in
+    let stays = change_stays ts xs 0 (last t) ascend (among (last t) (places_within (patch_of ss) t (last t) (derives_ordered ts t c h.derives) (inr (omega arith)))) in
+    let end : moved_by xs (length ts) ≡ moved_by xs (suc (last t)) = ap (moved_by xs) h.all in
+    record {
+      derives = text.derives;
+      begins = text.begins ∙ ap (moved_by xs) h.begins ∙ move_start xs;
+      closed = ap (slice_get (changed xs ts)) text.finishes ∙ stays.same ∙ h.closed;
+      all = omega (arith, end, stays.next, change_end ts xs 0 ascend, text.finishes);
+    }
 
 pub sites_changed : (ts : List TokenKind) (xs : List Change) (c : Category) (t : Tree) (ss : List Site) → Derives ts c t → ranges xs ≡ site_ranges t ss → Ascending 0 (ranges xs) (length ts) → AllSit ts (changed xs ts) (moved_by xs) c t ss → agreed (moved_by xs) t (patch_of ss) ≡ true → Derives (changed xs ts) c (become (moved_by xs) t (patch_of ss))
 sites_changed ts xs c t ss h at ascend sit y = changed_derives ts xs c t (patch_of ss) h ascend (sites_among ts (changed xs ts) (moved_by xs) xs c t ss h at ascend sit) (sites_fit ts (changed xs ts) (moved_by xs) c t ss sit) y

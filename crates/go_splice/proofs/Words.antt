@@ -7,15 +7,16 @@ use Rattle.go_grammar.specs.declared.kind.Kind.{Kind}
 use Rattle.go_grammar.specs.declared.kind.Category.{Category}
 use Rattle.go_grammar.specs.Categories.{place_of}
 use Rattle.go_grammar.specs.Rules.{Items}
-use Rattle.go_grammar.specs.Trees.{Tree, node, Trees, more, first, last}
-use Rattle.go_grammar.specs.Grammar.{rule, result_words, count, Derives}
+use Rattle.go_grammar.specs.Trees.{Tree, node, Trees, first, last}
+use Rattle.go_grammar.specs.Grammar.{rule, result_words, Derives}
 use Rattle.go_grammar.specs.Words.{is_word, is_among}
-use Rattle.go_splice.specs.Replacing.{Edge, onto, items_after, Run}
+use Rattle.go_splice.specs.Replacing.{Edge, Run}
 use Rattle.go_splice.specs.Places.{put, carry, carries, range, Ascending, Stand, Fits, Change, changed, moved_by, ranges}
-use Rattle.go_splice.specs.Sites.{items, local_range, alone}
+use Rattle.go_splice.specs.Sites.{items, run_range, alone}
+use Rattle.go_splice.specs.Lists.{items_at, has_run, NewRun, NewRunFits}
 use Rattle.go_splice.proofs.Changes.{get_left, get_right, change_stands}
 use Rattle.go_splice.proofs.Kept.{first_carry, last_carry}
-use Rattle.go_splice.proofs.Single.{run_sits}
+use Rattle.go_splice.proofs.Subtrees.{run_fits_at}
 use Rattle.go_splice.proofs.Texts.{placed_text, placed_run}
 
 module _ (ts : List TokenKind) (xs : List Change) (n : ℕ) (x : Change) (ascend : Ascending 0 (ranges xs) (length ts)) (at : slice_get xs n ≡ Some x) (edge : Edge ts x.words x.from 0) (long : 0 < length x.words) (ws : List TokenKind) (behind : slice_get (changed xs ts) (moved_by xs x.upto) ≡ slice_get ws 0) where
@@ -58,7 +59,8 @@ module _ (ts : List TokenKind) (xs : List Change) (n : ℕ) (x : Change) (ascend
       let begin : moved_by xs x.from + 0 ≡ moved_by xs x.from = omega arith in
       subst (λ z. Run (changed xs ts) l (carries (λ k. moved_by xs x.from + k) new) (moved_by xs x.from) z) (sym stand.ends) (subst (λ z. Run (changed xs ts) l (carries (λ k. moved_by xs x.from + k) new) z (moved_by xs x.from + length x.words)) begin there)
 
-  pub run_fits : (c : Category) (k : Kind) (a b : ℕ) (front : Trees) (o : Tree) (os new rest : Trees) (l : Items) → items_after (rule (place_of c) k) front ≡ Some l → Run ts l (more o os) x.from x.upto → Run (x.words ++ ws) l new 0 (length x.words) → Fits ts (changed xs ts) (moved_by xs) c (node k a b (onto front (onto (more o os) rest))) (alone (items (count front) (count os) (carries (λ k. moved_by xs x.from + k) new))) × (local_range (node k a b (onto front (onto (more o os) rest))) (items (count front) (count os) (carries (λ k. moved_by xs x.from + k) new)) ≡ range x.from x.upto)
-  run_fits c k a b front o os new rest l e old is =
-      let moved : Run (changed xs ts) l (carries (λ k. moved_by xs x.from + k) new) (moved_by xs x.from) (moved_by xs x.upto) = run_there l new is in
-      run_sits ts (changed xs ts) (moved_by xs) c k a b front o os (carries (λ k. moved_by xs x.from + k) new) rest l x.from x.upto e old moved edge_there
+  pub run_fits : (c : Category) (k : Kind) (a b : ℕ) (ps : Trees) (f n : ℕ) (new : Trees) (l : Items) → items_at f (rule (place_of c) k) ≡ Some l → has_run f n ps ≡ true → run_range f n ps ≡ range x.from x.upto → Run (x.words ++ ws) l new 0 (length x.words) → Fits ts (changed xs ts) (moved_by xs) c (node k a b ps) (alone (items f n (carries (λ k. moved_by xs x.from + k) new)))
+  run_fits c k a b ps f n new l e has place is = run_fits_at ts (changed xs ts) (moved_by xs) (carries (λ k. moved_by xs x.from + k) new) l f n ps (rule (place_of c) k) x.from x.upto e has place (run_there l new is) edge_there
+
+  pub node_fits : (c : Category) (t : Tree) (f n : ℕ) (new : Trees) → NewRun x ws c t f n new → NewRunFits ts xs x c t f n new
+  node_fits c (node k a b ps) f n new h = run_fits c k a b ps f n new h.list h.is_list h.has h.place h.run

@@ -1,15 +1,17 @@
 -- Parts of a tree by their numbers: the parts of each node in order inside it, the subtree at the end of a path, and so many
 -- adjoining items of a list.
-use Rattle.std.specs.Prelude.{◌≡◌, ℕ, zero, suc, ◌<◌, ◌≤◌, Bool, true, false, List, [], ◌∷◌, Option, Some, None, slice_get}
+use Rattle.std.specs.Prelude.{◌≡◌, ℕ, zero, suc, ◌<◌, ◌≤◌, Bool, true, false, List, [], ◌∷◌, ◌++◌, length, Option, Some, None, slice_get}
 use Rattle.go_tokens.specs.declared.token.TokenKind.{TokenKind}
 use Rattle.go_tokens.specs.declared.token.TokenKind.TheVariants as token
 use Rattle.go_grammar.specs.declared.kind.Category.{Category}
 use Rattle.go_grammar.specs.declared.kind.Category.TheVariants as category
+use Rattle.go_grammar.specs.Categories.{place_of}
 use Rattle.go_grammar.specs.Rules.{Items, Lines, Open, Rule, End, Then, Maybe, Unless, Many}
-use Rattle.go_grammar.specs.Trees.{Tree, node, Trees, none, more, skip, first, last, parts}
-use Rattle.go_grammar.specs.Grammar.{Derives}
-use Rattle.go_splice.specs.Replacing.{moved, Edge, asked_at}
-use Rattle.go_splice.specs.Places.{has_items}
+use Rattle.go_grammar.specs.Trees.{Tree, node, Trees, none, more, skip, kind_of, first, last, parts}
+use Rattle.go_grammar.specs.Grammar.{rule, Derives}
+use Rattle.go_splice.specs.Replacing.{moved, Edge, subtree_at, asked_at, Run}
+use Rattle.go_splice.specs.Places.{carries, has_items, range, Fits, Change, changed, moved_by}
+use Rattle.go_splice.specs.Sites.{whole, items, Site, run_range, alone, into}
 
 abbrev mutual
   -- each node has a token, and its parts lie one behind the other inside it
@@ -82,3 +84,52 @@ in_block = Lines true category.Statement token.Semicolon token.RightBrace
 
 abbrev pub in_clause : Items
 in_clause = Open category.Statement token.Semicolon
+
+abbrev mutual
+  -- both trees have the same kinds at the same places
+  pub Alike : Tree → Tree → Type 0
+  Alike (node k a b ps) (node l c d qs) = (k ≡ l) × AlikeAll ps qs
+
+  pub AlikeAll : Trees → Trees → Type 0
+  AlikeAll none none = Unit {0}
+  AlikeAll none (more q qs) = ⊥
+  AlikeAll none (skip qs) = ⊥
+  AlikeAll (more p ps) none = ⊥
+  AlikeAll (more p ps) (more q qs) = Alike p q × AlikeAll ps qs
+  AlikeAll (more p ps) (skip qs) = ⊥
+  AlikeAll (skip ps) none = ⊥
+  AlikeAll (skip ps) (more q qs) = ⊥
+  AlikeAll (skip ps) (skip qs) = AlikeAll ps qs
+
+-- An alike tree stands in place of the one at the end of the path, as one name in place of another.
+pub record AlikeSite (t : Tree) (x : Site) : Type 0 where
+  pub old : Tree
+  pub new : Tree
+  pub stood : subtree_at x.path t ≡ Some old
+  pub is : x.change ≡ whole new
+  pub alike : Alike old new
+
+abbrev pub AllAlike : Tree → List Site → Type 0
+AllAlike t [] = Unit {0}
+AllAlike t (x ∷ xs) = AlikeSite t x × AllAlike t xs
+
+-- The items are a run of what is listed behind so many parts of the node, over the words of the change, with ws behind them; and
+-- the change is at the place of one and so many more items there.
+pub record NewRun (x : Change) (ws : List TokenKind) (c : Category) (t : Tree) (f n : ℕ) (new : Trees) : Type 0 where
+  pub list : Items
+  pub is_list : items_at f (rule (place_of c) (kind_of t)) ≡ Some list
+  pub has : has_run f n (parts t) ≡ true
+  pub place : run_range f n (parts t) ≡ range x.from x.upto
+  pub run : Run (x.words ++ ws) list new 0 (length x.words)
+
+abbrev pub NewRunFits : List TokenKind → List Change → Change → Category → Tree → ℕ → ℕ → Trees → Type 0
+NewRunFits ts xs x c t f n new = Fits ts (changed xs ts) (moved_by xs) c t (alone (items f n (carries (into xs x) new)))
+
+-- One and so many more items of the node, behind so many parts, are a run.
+pub record IsRun (ts : List TokenKind) (c : Category) (t : Tree) (f n : ℕ) (list : Items) : Type 0 where
+  pub derives : Derives ts c t
+  pub is_list : items_at f (rule (place_of c) (kind_of t)) ≡ Some list
+  pub has : has_run f n (parts t) ≡ true
+
+abbrev pub RunStands : List TokenKind → Tree → ℕ → ℕ → Items → Type 0
+RunStands ts t f n list = Run ts list (run_at f n (parts t)) (run_range f n (parts t)).from (run_range f n (parts t)).upto

@@ -5,11 +5,13 @@
 -- up to the moved place of its end.
 use Rattle.std.specs.Prelude.{◌≡◌, ℕ, zero, suc, ◌+◌, ◌<◌, ◌≤◌, ◌⊎◌, Bool, true, false, IsTrue, nat_le, ◌&&◌, if◌then◌else◌, List, [], ◌∷◌, ◌++◌, slice_get, length, take, drop}
 use Rattle.go_tokens.specs.declared.token.TokenKind.{TokenKind}
+use Rattle.go_tokens.specs.declared.token.TokenKind.TheVariants as token
 use Rattle.go_grammar.specs.declared.kind.Category.{Category}
+use Rattle.go_grammar.specs.declared.kind.Category.TheVariants as category
 use Rattle.go_grammar.specs.Categories.{place_of}
 use Rattle.go_grammar.specs.Rules.{Rule, End, Then, Maybe, Unless, Many}
-use Rattle.go_grammar.specs.Trees.{Tree, node, Trees, none, more, skip, first, last}
-use Rattle.go_grammar.specs.Grammar.{rule, agrees, Derives}
+use Rattle.go_grammar.specs.Trees.{Tree, node, Trees, none, more, skip, first, last, depth}
+use Rattle.go_grammar.specs.Grammar.{rule, agrees, IsAt, Derives}
 use Rattle.go_splice.specs.Replacing.{moved, next_category, next_rule, onto, Edge, Run}
 
 mutual
@@ -188,3 +190,11 @@ pub record Stand (us : List TokenKind) (m : ℕ → ℕ) (x : Change) : Type 0 w
 -- the tree of a file with the declaration d behind all others, up to j
 abbrev pub with_declaration : Tree → Tree → ℕ → Tree
 with_declaration (node k a b ps) d j = node k a j (onto ps (more d none))
+
+-- The tree of a declaration that is all of these tokens, with a semicolon behind it.
+pub record IsDeclaration (ws : List TokenKind) (d : Tree) : Type 0 where
+  pub derives : Derives ws category.Declaration d
+  pub begins : first d ≡ 0
+  pub closed : IsAt ws (last d) token.Semicolon
+  pub all : length ws ≡ suc (last d)
+  pub shallow : depth d ≤ 100

@@ -1,12 +1,13 @@
 -- Several places, each found by a path from the top, as one patch.
-use Rattle.std.specs.Prelude.{◌≡◌, ℕ, zero, suc, ◌+◌, ◌≤◌, Bool, true, false, ◌&&◌, List, [], ◌∷◌, Option, Some, None}
+use Rattle.std.specs.Prelude.{◌≡◌, ℕ, zero, suc, ◌+◌, ◌<◌, ◌≤◌, length, slice_get, Bool, true, false, ◌&&◌, List, [], ◌∷◌, ◌++◌, Option, Some, None}
 use Rattle.go_tokens.specs.declared.token.TokenKind.{TokenKind}
 use Rattle.go_grammar.specs.declared.kind.Kind.{Kind}
 use Rattle.go_grammar.specs.declared.kind.Kind.TheVariants as kind
 use Rattle.go_grammar.specs.declared.kind.Category.{Category}
 use Rattle.go_grammar.specs.Trees.{Tree, node, Trees, none, more, skip, first, last, weight, depth, depths}
-use Rattle.go_splice.specs.Replacing.{subtree_at, asked_at}
-use Rattle.go_splice.specs.Places.{Patch, keep, put, inside, Patches, done, part, run, Range, range, items_end, Fits}
+use Rattle.go_grammar.specs.Grammar.{Derives}
+use Rattle.go_splice.specs.Replacing.{Edge, subtree_at, asked_at}
+use Rattle.go_splice.specs.Places.{carry, become, Patch, keep, put, inside, Patches, done, part, run, Range, range, items_end, Ascending, agreed, Fits, Change, changed, moved_by, ranges}
 
 -- what becomes of a node
 pub data Local : Type 0 where
@@ -166,3 +167,39 @@ abbrev mutual
 abbrev pub AllWithin : ℕ → Tree → List Site → Type 0
 AllWithin d t [] = Unit {0}
 AllWithin d t (x ∷ xs) = (levels x.path x.change t ≤ d) × AllWithin d t xs
+
+-- the tree with what becomes of these sites, where the changes have moved it to
+abbrev pub with_sites : List Change → List Site → Tree → Tree
+with_sites xs ss t = become (moved_by xs) t (patch_of ss)
+
+-- These changes of the tokens are at the places of the sites, in order, and each new text is one of what is asked for at its
+-- place; and the nodes on the way agree with their parts.
+pub record AreSites (ts : List TokenKind) (xs : List Change) (c : Category) (t : Tree) (ss : List Site) : Type 0 where
+  pub places : ranges xs ≡ site_ranges t ss
+  pub ascend : Ascending 0 (ranges xs) (length ts)
+  pub sit : AllSit ts (changed xs ts) (moved_by xs) c t ss
+  pub agrees : agreed (moved_by xs) t (patch_of ss) ≡ true
+
+-- A change among others: its words don't join what stands in front, and behind them, after all changes, stands the first of
+-- the tokens ws.
+pub record IsChange (ts : List TokenKind) (xs : List Change) (n : ℕ) (x : Change) (ws : List TokenKind) : Type 0 where
+  pub ascend : Ascending 0 (ranges xs) (length ts)
+  pub among : slice_get xs n ≡ Some x
+  pub edge : Edge ts x.words x.from 0
+  pub some : 0 < length x.words
+  pub behind : slice_get (changed xs ts) (moved_by xs x.upto) ≡ slice_get ws 0
+
+-- where a place in the words of a change stands among the new tokens
+abbrev pub into : List Change → Change → ℕ → ℕ
+into xs x k = moved_by xs x.from + k
+
+-- The tree u is one of the category over the words of the change, with ws behind them, and the change is at the place of t.
+pub record NewText (x : Change) (ws : List TokenKind) (c : Category) (t u : Tree) : Type 0 where
+  pub from : first t ≡ x.from
+  pub upto : last t ≡ x.upto
+  pub derives : Derives (x.words ++ ws) c u
+  pub begins : first u ≡ 0
+  pub ends : last u ≡ length x.words
+
+abbrev pub NewTextFits : List TokenKind → List Change → Change → Category → Tree → Tree → Type 0
+NewTextFits ts xs x c t u = Fits ts (changed xs ts) (moved_by xs) c t (put (carry (into xs x) u))

@@ -1,22 +1,26 @@
 -- From the places of tokens to pieces.
-use Rattle.std.proofs.Common.{◌≡◌, cond, ℕ, ◌+◌, ◌<◌, ◌≤◌, ◌⊎◌, ⊎_elim, Bool, true, false, ◌&&◌, ◌==◌, List, [], ◌∷◌, ◌++◌, map, append-nil, append_assoc, refl, sym, ap, ◌∙◌, subst, inl, inr, arith, eqb-true}
+use Rattle.std.proofs.Common.{◌≡◌, not, Some, cond, ℕ, ◌+◌, ◌<◌, ◌≤◌, ◌⊎◌, ⊎_elim, Bool, true, false, ◌&&◌, ◌==◌, List, [], ◌∷◌, ◌++◌, map, append-nil, append_assoc, refl, sym, ap, ◌∙◌, subst, inl, inr, arith, eqb-true}
 use Rattle.std.specs.List.{list_all}
+use Rattle.std.specs.Option.{unwrap_or}
 use Rattle.go_base.specs.declared.Span.{Span}
 use Rattle.go_tokens.specs.declared.token.Token.{Token}
+use Rattle.go_tokens.specs.declared.piece.PieceKind.{PieceKind}
+use Rattle.go_tokens.specs.declared.piece.PieceKind.TheVariants.{Word, Operator}
+use Rattle.go_tokens.specs.declared.token.TokenKind.{TokenKind}
 use Rattle.go_tokens.specs.declared.token.TokenKind.TheVariants.{Semicolon}
 use Rattle.go_tokens.specs.Characters.{is_white}
-use Rattle.go_tokens.specs.Spellings.{ends_statement_kind}
-use Rattle.go_tokens.specs.Pieces.{begun_by, goes, is_piece, is_good}
-use Rattle.go_tokens.specs.Lexing.{join, width, Cut, is_token, token_kind, ends_statement, line_ends, span, token, inserted, tokens_of, tokens, Lexes}
+use Rattle.go_tokens.specs.Spellings.{same_text, spelled, punctuation, ends_statement_kind}
+use Rattle.go_tokens.specs.Pieces.{begun_by, goes, kind, is_piece, is_good}
+use Rattle.go_tokens.specs.Lexing.{join, width, Cut, is_token, token_kind, token_kind_as, ends_statement, line_ends, span, token, inserted, tokens_of, tokens, Lexes}
 use Rattle.go_tokens.specs.Encoding.{IsText}
 use Rattle.go_tokens.specs.Files.{IsLexing}
 use Rattle.go_tokens.proofs.Encodings.{one_text}
-use Rattle.go_tokens.specs.Replacing.{read, are_apart, is_blank, is_at_line_end, Part, Kept, Replaced, Range, pieces_of, begins_with_token, blanks_and_token, IsOld, IsNew, old_pieces, new_pieces, Fits}
-use Rattle.go_tokens.specs.Editing.{Edits, Rest, Edit, old_text, new_text, IsAmong, IsWritten, Spans, is_blank_character, Stands, Allows, Matches, PartsOf, EditedLexing}
+use Rattle.go_tokens.specs.Replacing.{read, are_apart, is_blank, is_at_line_end, is_none, begins_with_period, is_word_kind, is_apart_behind, Part, Kept, Replaced, Range, pieces_of, begins_with_token, blanks_and_token, IsOld, IsNew, old_pieces, new_pieces, Fits}
+use Rattle.go_tokens.specs.Editing.{Edits, Rest, Edit, old_text, new_text, IsAmong, IsWritten, Spans, is_blank_character, Stands, is_identifier, is_empty_text, ends_in_name, stands_apart, Allows, Matches, PartsOf, EditedLexing}
 use Rattle.go_tokens.proofs.Lists.{both, either}
 use Rattle.go_tokens.proofs.Widths.{width-append, width-nil, wide_fronts}
 use Rattle.go_tokens.proofs.Ordered.{piece_some}
-use Rattle.go_tokens.proofs.Seams.{or_left, or_right, and_both, line_end_apart}
+use Rattle.go_tokens.proofs.Seams.{or_left, or_right, and_both, not_false, line_end_apart}
 use Rattle.go_tokens.proofs.Replace.{cut_first, cut_second}
 use Rattle.go_tokens.proofs.SoFar.{join_two}
 use Rattle.go_tokens.proofs.Texts.{new_lexing}
@@ -177,6 +181,14 @@ record NewRange (file : ℕ) (new : List ℕ) (stands : Stands file new) : Type 
   is_new : IsNew range
   whole : join (pieces_of range) ≡ new
   last_is : ends_statement_kind stands.spans.last.kind ≡ ends_statement range.last
+  kind_is : stands.spans.last.kind ≡ token_kind range.last
+  no_blanks : is_empty_text stands.behind ≡ true → is_none range.blanks ≡ true
+
+no_pieces : (ps : List (List ℕ)) (text : List ℕ) → Cut ps [] → join ps ≡ text → is_empty_text text ≡ true → is_none ps ≡ true
+no_pieces [] text c e h = refl
+no_pieces ([] ∷ ps) text c e h = let none = c.0 in cc
+no_pieces ((x ∷ b) ∷ ps) [] c e h = cc
+no_pieces ((x ∷ b) ∷ ps) (y ∷ ys) c e h = cc
 
 new_range : (file : ℕ) (new : List ℕ) (stands : Stands file new) → NewRange file new stands
 new_range file new stands = record {
@@ -190,6 +202,8 @@ new_range file new stands = record {
   };
   whole = ap join (sym v.is) ∙ lexes.whole;
   last_is = at_found lexes.pieces stands.spans.last v;
+  kind_is = v.kind_is;
+  no_blanks = no_pieces v.behind stands.behind (cut_second (v.before ++ v.piece ∷ []) v.behind [] (subst (λ ps. Cut ps []) (v.is ∙ one_first v.before v.piece v.behind) lexes.cut)) back_is;
 }
   where
     lexes : Lexes file new stands.tokens stands.comments
@@ -221,6 +235,34 @@ new_range file new stands = record {
     blanks_first : (bs : List (List ℕ)) (p : List ℕ) (ps : List (List ℕ)) → list_all is_blank bs ≡ true → is_token p ≡ true → blanks_and_token (bs ++ p ∷ ps) ≡ true
     blanks_first [] p ps h k = or_left _ _ k
     blanks_first (b ∷ bs) p ps h k = let parts = both (is_blank b) (list_all is_blank bs) h in or_right _ _ (and_both _ _ parts.0 (blanks_first bs p ps parts.1 k))
+
+-- A token of the kind of names is a word.
+no_name : (table : List (List ℕ × TokenKind)) (w : List ℕ) → list_all (λ s. not (is_identifier s.1)) table ≡ true → is_identifier (unwrap_or (spelled table w) Semicolon) ≡ false
+no_name [] w h = refl
+no_name (s ∷ rest) w h = let parts = both (not (is_identifier s.1)) (list_all (λ s. not (is_identifier s.1)) rest) h in by (same_text s.0 w) (not_false (is_identifier s.1) parts.0) (no_name rest w parts.1)
+  where
+    by : (b : Bool) → is_identifier s.1 ≡ false → is_identifier (unwrap_or (spelled rest w) Semicolon) ≡ false → is_identifier (unwrap_or (cond b (Some s.1) (spelled rest w)) Semicolon) ≡ false
+    by true h k = h
+    by false h k = k
+
+punctuation_names : list_all (λ s. not (is_identifier s.1)) punctuation ≡ true
+unfolding punctuation
+punctuation_names = refl
+
+name_word : (k : PieceKind) (p : List ℕ) → is_identifier (token_kind_as k p) ≡ true → is_word_kind k ≡ true
+name_word Word p h = refl
+name_word Operator p h = let none = no_name punctuation p punctuation_names in cc
+name_word _ p h = cc
+
+apart_pieces : (file : ℕ) (new : List ℕ) (stands : Stands file new) (n : NewRange file new stands) (rest : List ℕ) → stands_apart file new stands rest ≡ true → is_apart_behind n.range rest ≡ true
+apart_pieces file new stands n rest h =
+    ⊎_elim
+    (λ a. or_left _ _ (ap (λ l. are_apart l rest) n.whole ∙ a))
+    (λ a.
+    let b = both (ends_in_name file new stands) (begins_with_period rest) a in
+    let d = both (is_identifier stands.spans.last.kind) (is_empty_text stands.behind) b.0 in
+    or_right _ _ (and_both _ _ (and_both _ _ (name_word (kind n.range.last) n.range.last (ap is_identifier (sym n.kind_is) ∙ d.0)) (n.no_blanks d.1)) b.1))
+    (either (are_apart new rest) _ h)
 
 -- The old range of an edit, among the pieces from a place on.
 pub record OldRange (ps : List (List ℕ)) (kept old rest : List ℕ) (last : Token) : Type 0 where
@@ -319,7 +361,7 @@ parts_from file whole (Edit kept old new edits) tail front ps at c w j a h =
     let news : List (List ℕ) = new_pieces rest.parts rest.tail_pieces in
     let behind : join (pn ++ news) ≡ new ++ new_text edits tail = join_two pn news ∙ ap (λ l. l ++ join news) n.whole ∙ ap (λ l. new ++ l) rest.new_is in
     let apart1 : are_apart (join m1) (join (pn ++ news)) ≡ true = ap (λ l. are_apart l (join (pn ++ news))) r.kept_is ∙ ap (are_apart kept) behind ∙ h.2 in
-    let apart2 : are_apart (join pn) (join news) ≡ true = ap (λ l. are_apart l (join news)) n.whole ∙ ap (are_apart new) rest.new_is ∙ h.3 in
+    let apart2 : is_apart_behind n.range (join news) ≡ true = ap (is_apart_behind n.range) rest.new_is ∙ apart_pieces file new h.1 n (new_text edits tail) h.3 in
     let cut_rest : Cut (old_pieces rest.parts) [] = subst (λ x. Cut x []) rest.is (cut_second (front ++ (m1 ++ pr)) r.rest_pieces [] (subst (λ x. Cut x []) w' c)) in
     record {
       parts = Kept m1 ∷ Replaced r.range n.range ∷ rest.parts;

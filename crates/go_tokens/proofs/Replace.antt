@@ -1,17 +1,22 @@
 -- The law of replaced ranges.
-use Rattle.std.proofs.Common.{◌≡◌, ℕ, ⊎_elim, Bool, true, false, not, ◌&&◌, ◌||◌, ◌==◌, cond, List, [], ◌∷◌, ◌++◌, append-nil, append_assoc, refl, sym, ap, ◌∙◌, subst, eqb-true}
+use Rattle.std.proofs.Common.{◌≡◌, ℕ, ◌<◌, arith, length, is_some, ⊎_elim, Bool, true, false, not, ◌&&◌, ◌||◌, ◌==◌, cond, List, [], ◌∷◌, ◌++◌, append-nil, append_assoc, refl, sym, ap, ◌∙◌, subst, eqb-true}
 use Rattle.std.specs.List.{list_all}
+use Rattle.std.proofs.lemmas.List.{length-append}
+use Rattle.ucd_category.specs.GeneralCategory.{general_category}
+use Rattle.ucd_category.specs.GeneralCategoryRows.{general_category_rows}
+use Rattle.ucd_table.specs.Rows.{value_in}
+use Rattle.go_tokens.specs.declared.piece.Mode.TheVariants.{InWord}
 use Rattle.std.specs.Str.{encode_utf8_all}
 use Rattle.go_tokens.specs.declared.piece.PieceKind.{PieceKind}
-use Rattle.go_tokens.specs.declared.piece.PieceKind.TheVariants.{LineComment}
-use Rattle.go_tokens.specs.Characters.{is_white, is_letter, is_digit}
-use Rattle.go_tokens.specs.Spellings.{operators}
-use Rattle.go_tokens.specs.Pieces.{begun_by, kind, is_piece, is_good}
+use Rattle.go_tokens.specs.declared.piece.PieceKind.TheVariants.{LineComment, Word}
+use Rattle.go_tokens.specs.Characters.{is_white, is_letter, is_digit, is_in_word, is_x}
+use Rattle.go_tokens.specs.Spellings.{operators, punctuation, outside_operators}
+use Rattle.go_tokens.specs.Pieces.{begun, begun_by, front, after, goes, has_shape, kind, is_piece, is_good}
 use Rattle.go_tokens.specs.Lexing.{join, IsLongest, Cut, is_token, is_token_kind, is_break, token_kind, ends_statement, line_ends}
-use Rattle.go_tokens.specs.Replacing.{Item, semicolon, items_of, items, last_joins, are_apart, is_blank, Range, pieces_of, begins_with_token, blanks_and_token, IsOld, is_at_line_end, Part, Kept, Replaced, old_pieces, new_pieces, Fits, spliced, IsReplaced}
-use Rattle.go_tokens.proofs.Lists.{both, either, listed_all}
+use Rattle.go_tokens.specs.Replacing.{Item, semicolon, items_of, items, last_joins, are_apart, is_blank, Range, pieces_of, begins_with_token, blanks_and_token, IsOld, is_at_line_end, is_none, begins_with_period, is_word_kind, ends_in_word, is_apart_behind, Part, Kept, Replaced, old_pieces, new_pieces, Fits, spliced, IsReplaced}
+use Rattle.go_tokens.proofs.Lists.{both, either, not_true, listed_all}
 use Rattle.go_tokens.proofs.Shapes.{Stops, longest_stops, stops_longest}
-use Rattle.go_tokens.proofs.Seams.{and_both, and_second, last_joins_behind, stops_last, dots_join, comment_goes}
+use Rattle.go_tokens.proofs.Seams.{and_both, and_second, last_joins_behind, stops_last, dots_join, comment_goes, last_step, word_stays, goes_word, some_is}
 
 -- Cuttings of fronts, of backs and of both.
 pub join_append : (ps qs : List (List ℕ)) (r : List ℕ) → join (ps ++ qs) ++ r ≡ join ps ++ (join qs ++ r)
@@ -263,6 +268,110 @@ range_no_line [] p bs h k = blanks_no_line p bs (token_kind_no_line (kind p) h) 
 range_no_line (q ∷ []) p bs h k = range_no_line [] p bs h k
 range_no_line (q ∷ r ∷ before) p bs h k = range_no_line (r ∷ before) p bs h k
 
+-- A word stops before a period.
+period_word : is_in_word 46 ≡ false
+unfolding is_in_word is_letter general_category value_in general_category_rows
+period_word = refl
+
+period_no_word : kind (46 ∷ []) ≡ Word → ⊥
+unfolding begun_by is_white is_letter is_digit operators punctuation outside_operators general_category value_in general_category_rows
+period_no_word e = cc
+
+period_digit : is_digit 46 ≡ false
+unfolding is_digit
+period_digit = refl
+
+period_x : is_x 46 ≡ false
+unfolding is_x
+period_x = refl
+
+nought_digit : is_digit 0 ≡ false
+unfolding is_digit
+nought_digit = refl
+
+nought_x : is_x 0 ≡ false
+unfolding is_x
+nought_x = refl
+
+period_begun : (x : ℕ) → begun x 46 ≡ begun x 0
+period_begun x =
+    let line : (x == 47 && 46 == 47) ≡ (x == 47 && 0 == 47) = and_second (x == 47) (46 == 47) refl ∙ sym (and_second (x == 47) (0 == 47) refl) in
+    let block : (x == 47 && 46 == 42) ≡ (x == 47 && 0 == 42) = and_second (x == 47) (46 == 42) refl ∙ sym (and_second (x == 47) (0 == 42) refl) in
+    let point : (x == 46 && is_digit 46) ≡ (x == 46 && is_digit 0) = and_second (x == 46) (is_digit 46) period_digit ∙ sym (and_second (x == 46) (is_digit 0) nought_digit) in
+    let hex : (x == 48 && is_x 46) ≡ (x == 48 && is_x 0) = and_second (x == 48) (is_x 46) period_x ∙ sym (and_second (x == 48) (is_x 0) nought_x) in
+    ap (λ l. begun_by x l (x == 47 && 46 == 42) (x == 46 && is_digit 46) (x == 48 && is_x 46)) line ∙ ap (λ l. begun_by x (x == 47 && 0 == 47) l (x == 46 && is_digit 46) (x == 48 && is_x 46)) block ∙ ap (λ l. begun_by x (x == 47 && 0 == 47) (x == 47 && 0 == 42) l (x == 48 && is_x 46)) point ∙ ap (begun_by x (x == 47 && 0 == 47) (x == 47 && 0 == 42) (x == 46 && is_digit 0)) hex
+
+same_front : (x : ℕ) (b : List ℕ) → begun x (front (b ++ 46 ∷ [])) ≡ begun x (front b)
+same_front x [] = period_begun x
+same_front x (z ∷ b) = refl
+
+word_goes : (b : List ℕ) → is_some (after InWord (b ++ 46 ∷ [])) ≡ true → ⊥
+word_goes b h =
+    let last = last_step InWord b 46 h in
+    let stays = word_stays b last.mode last.was in
+    let step = some_is (goes InWord 46) (subst (λ n. is_some (goes n 46) ≡ true) stays.0 last.goes_on) in
+    let next = (goes_word step.0 46 step.1).1 in
+    let none = period_word in
+    cc
+
+no_longer : (p : List ℕ) → kind p ≡ Word → is_piece (p ++ 46 ∷ []) ≡ true → ⊥
+no_longer [] k h = cc
+no_longer (x ∷ b) k h = word_goes b (subst (λ q. has_shape q x (b ++ 46 ∷ []) ≡ true) (same_front x b ∙ k) h)
+
+word_stops : (p rest zs : List ℕ) → kind p ≡ Word → rest ≡ 46 ∷ zs → Stops p rest
+word_stops p rest zs k e = record {
+  next = λ y ys f. let same : y ≡ 46 = cc in not_true _ (λ h. no_longer p k (subst (λ n. is_piece (p ++ n ∷ []) ≡ true) same h));
+  dots = λ ys f g. period_no_word (subst (λ q. kind q ≡ Word) f k);
+}
+
+longer : (ps : List (List ℕ)) (last : List ℕ) → Cut (ps ++ last ∷ []) [] → 0 < length (join (ps ++ last ∷ []))
+longer [] [] c = let none = c.0 in cc
+longer [] (x ∷ b) c = omega arith
+longer ([] ∷ ps) last c = let none = c.0 in cc
+longer ((x ∷ b) ∷ ps) last c = omega arith
+
+not_a_period : (ps : List (List ℕ)) (last : List ℕ) → Cut (ps ++ last ∷ []) [] → kind last ≡ Word → join (ps ++ last ∷ []) ≡ 46 ∷ [] → ⊥
+not_a_period [] last c k e = period_no_word (subst (λ q. kind q ≡ Word) (sym (append-nil last) ∙ e) k)
+not_a_period ([] ∷ ps) last c k e = let none = c.0 in cc
+not_a_period ((x ∷ b) ∷ ps) last c k e = absurd (omega (arith, ap length e, length-append b (join (ps ++ last ∷ [])), longer ps last c.2))
+
+-- So a text that ends with a word is cut alike before one.
+cut_word : (ps : List (List ℕ)) (last rest zs : List ℕ) → Cut (ps ++ last ∷ []) [] → kind last ≡ Word → rest ≡ 46 ∷ zs → Cut (ps ++ last ∷ []) rest
+cut_word [] last rest zs c k e = (c.0, stops_longest last rest c.0 (word_stops last rest zs k e), tt)
+cut_word (p ∷ ps) last rest zs c k e =
+    let l : List ℕ = join (ps ++ last ∷ []) in
+    let first = some_front l (longer ps last c.2) in
+    let stops = stops_middle p l rest first.0 first.1 first.2 (longest_stops p (l ++ []) c.1) (λ f h ys i. not_a_period ps last c.2 k h) in
+    (c.0, stops_longest p (l ++ rest) c.0 stops, cut_word ps last rest zs c.2 k e)
+  where
+    some_front : (l : List ℕ) → 0 < length l → (y : ℕ) × (ys : List ℕ) × (l ≡ y ∷ ys)
+    some_front [] lt = absurd (omega (arith, lt))
+    some_front (y ∷ ys) lt = (y, ys, refl)
+
+word_kind_is : (k : PieceKind) → is_word_kind k ≡ true → k ≡ Word
+word_kind_is Word h = refl
+word_kind_is _ h = cc
+
+period_is : (rest : List ℕ) → begins_with_period rest ≡ true → (zs : List ℕ) × (rest ≡ 46 ∷ zs)
+period_is [] h = cc
+period_is (y ∷ ys) h = (ys, ap (λ n. n ∷ ys) (eqb-true y 46 h))
+
+none_is : (bs : List (List ℕ)) → is_none bs ≡ true → bs ≡ []
+none_is [] h = refl
+none_is (b ∷ bs) h = cc
+
+cut_range : (r : Range) (rest : List ℕ) → Cut (pieces_of r) [] → list_all is_good (pieces_of r) ≡ true → is_apart_behind r rest ≡ true → (ends_in_line (pieces_of r) ≡ true → is_at_line_end rest ≡ true) → Cut (pieces_of r) rest
+cut_range r rest c g apart line =
+    ⊎_elim
+    (λ a. cut_seam (pieces_of r) rest c g a line)
+    (λ a.
+    let b = both (ends_in_word r) (begins_with_period rest) a in
+    let d = both (is_word_kind (kind r.last)) (is_none r.blanks) b.0 in
+    let p = period_is rest b.1 in
+    let none = none_is r.blanks d.1 in
+    subst (λ bs. Cut (r.before ++ r.last ∷ bs) rest) (sym none) (cut_word r.before r.last rest p.0 (subst (λ bs. Cut (r.before ++ r.last ∷ bs) []) none c) (word_kind_is (kind r.last) d.0) p.1))
+    (either (are_apart (join (pieces_of r)) rest) _ apart)
+
 -- The new text is cut into the pieces of the parts.
 pub new_cut : (parts : List Part) (tail : List (List ℕ)) → Fits parts tail → Cut (old_pieces parts) [] → list_all is_good (old_pieces parts) ≡ true → Cut (new_pieces parts tail) []
 new_cut [] tail f c g = f.cut
@@ -279,7 +388,7 @@ new_cut (Replaced old new ∷ parts) tail f c g =
     let second = cut_second (pieces_of old) (old_pieces parts) [] c in
     let rest : List ℕ = join (new_pieces parts tail) in
     let no_line = range_no_line new.before new.last new.blanks f.1.ends f.1.blanks in
-    let seam = cut_seam (pieces_of new) rest f.1.cut f.1.good f.2 (λ h. cc) in
+    let seam = cut_range new rest f.1.cut f.1.good f.2 (λ h. cc) in
     cut_both (pieces_of new) (new_pieces parts tail) [] (subst (Cut (pieces_of new)) (sym (append-nil rest)) seam) (new_cut parts tail f.4 second goods.1)
 
 pub new_good : (parts : List Part) (tail : List (List ℕ)) → Fits parts tail → list_all is_good (old_pieces parts) ≡ true → list_all is_good (new_pieces parts tail) ≡ true

@@ -51,9 +51,13 @@ not_false true h = cc
 not_false false h = refl
 
 -- Which neighbours join.
-joins_run : (x y : ℕ) → is_in_run x ≡ true → is_in_run y ≡ true → joins x y ≡ true
+joins_word : (x y : ℕ) → is_in_word x ≡ true → is_in_run y ≡ true → joins x y ≡ true
 unfolding joins
-joins_run x y h k = or_left _ _ (or_left _ _ (and_both _ _ h k))
+joins_word x y h k = or_left _ _ (or_left _ _ (or_left _ _ (and_both _ _ h k)))
+
+joins_period : (x y : ℕ) → x ≡ 46 → is_digit y ≡ true → joins x y ≡ true
+unfolding joins
+joins_period x y e k = or_left _ _ (or_left _ _ (or_right _ _ (and_both _ _ (ap (λ n. n == 46) e) (or_left _ _ k))))
 
 joins_operator : (x y : ℕ) → list_any (are_beside x y) operators ≡ true → joins x y ≡ true
 unfolding joins
@@ -71,25 +75,20 @@ digit_small : (c : ℕ) → is_digit c ≡ true → c < 128
 unfolding is_digit
 digit_small c h = grind (arith, nat_tests)
 
-pub digit_run : (x : ℕ) → is_digit x ≡ true → is_in_run x ≡ true
-unfolding is_in_run is_in_word
-digit_run x h = or_left _ _ (or_right _ _ (second (is_digit x) _ h (digit_decimal x (digit_small x h))))
+pub digit_word : (x : ℕ) → is_digit x ≡ true → is_in_word x ≡ true
+unfolding is_in_word
+digit_word x h = or_right _ _ (second (is_digit x) _ h (digit_decimal x (digit_small x h)))
   where
     second : (a b : Bool) → a ≡ true → (not a || b) ≡ true → b ≡ true
     second true b e k = k
     second false b e k = cc
 
-letter_run : (x : ℕ) → is_letter x ≡ true → is_in_run x ≡ true
-unfolding is_in_run is_in_word
-letter_run x h = or_left _ _ (or_left _ _ h)
-
 word_run : (x : ℕ) → is_in_word x ≡ true → is_in_run x ≡ true
 unfolding is_in_run
 word_run x h = or_left _ _ h
 
-dot_run : (x : ℕ) → x ≡ 46 → is_in_run x ≡ true
-unfolding is_in_run
-dot_run x e = or_right _ _ (ap (λ n. n == 46) e)
+pub digit_run : (x : ℕ) → is_digit x ≡ true → is_in_run x ≡ true
+digit_run x h = word_run x (digit_word x h)
 
 -- A newline joins with nothing.
 beside_last : (x y : ℕ) (w : List ℕ) → are_beside x y w ≡ true → list_any (λ b. y == b) w ≡ true
@@ -121,11 +120,15 @@ pub and_second : (a b : Bool) → b ≡ false → (a && b) ≡ false
 and_second true b h = h
 and_second false b h = refl
 
+newline_no_digit : (is_digit 10 || 10 == 46) ≡ false
+unfolding is_digit
+newline_no_digit = refl
+
 newline_apart : (x : ℕ) → joins x 10 ≡ false
 unfolding joins
 newline_apart x =
     or_none _ _
-    (or_none _ _ (and_second _ _ newline_run) (not_true _ (none_beside x 10 operators no_newline)))
+    (or_none _ _ (or_none _ _ (and_second _ _ newline_run) (and_second _ _ newline_no_digit)) (not_true _ (none_beside x 10 operators no_newline)))
     (and_second _ _ refl)
 
 last_newline : (left : List ℕ) → not (last_joins left 10) ≡ true
@@ -170,34 +173,40 @@ zero_x : is_x 0 ≡ false
 unfolding is_x
 zero_x = refl
 
-x_run_by : (n : ℕ) → is_in_run n ≡ true → (y : ℕ) → y ≡ n → is_in_run y ≡ true
-x_run_by n h y e = subst (λ m. is_in_run m ≡ true) (sym e) h
+x_word_by : (n : ℕ) → is_in_word n ≡ true → (y : ℕ) → y ≡ n → is_in_word y ≡ true
+x_word_by n h y e = subst (λ m. is_in_word m ≡ true) (sym e) h
 
-small_x : is_in_run 120 ≡ true
-unfolding is_in_run is_in_word is_letter is_digit general_category value_in general_category_rows
+small_x : is_in_word 120 ≡ true
+unfolding is_in_word is_letter is_digit general_category value_in general_category_rows
 small_x = refl
 
-large_x : is_in_run 88 ≡ true
-unfolding is_in_run is_in_word is_letter is_digit general_category value_in general_category_rows
+large_x : is_in_word 88 ≡ true
+unfolding is_in_word is_letter is_digit general_category value_in general_category_rows
 large_x = refl
 
-zero_run : is_in_run 48 ≡ true
-unfolding is_in_run is_in_word is_letter is_digit general_category value_in general_category_rows
-zero_run = refl
+zero_word : is_in_word 48 ≡ true
+unfolding is_in_word is_letter is_digit general_category value_in general_category_rows
+zero_word = refl
+
+x_word : (y : ℕ) → is_x y ≡ true → is_in_word y ≡ true
+unfolding is_x
+x_word y h = ⊎_elim (λ e. x_word_by 120 small_x y (eqb-true y 120 e)) (λ e. x_word_by 88 large_x y (eqb-true y 88 e)) (either _ _ h)
+
+nought_word : (x : ℕ) → x ≡ 48 → is_in_word x ≡ true
+nought_word x e = x_word_by 48 zero_word x e
 
 pub x_run : (y : ℕ) → is_x y ≡ true → is_in_run y ≡ true
-unfolding is_x
-x_run y h = ⊎_elim (λ e. x_run_by 120 small_x y (eqb-true y 120 e)) (λ e. x_run_by 88 large_x y (eqb-true y 88 e)) (either _ _ h)
+x_run y h = word_run y (x_word y h)
 
 pub nought_run : (x : ℕ) → x ≡ 48 → is_in_run x ≡ true
-nought_run x e = x_run_by 48 zero_run x e
+nought_run x e = word_run x (nought_word x e)
 
 same_begun : (x y : ℕ) → joins x y ≡ false → begun x y ≡ begun x 0
 same_begun x y apart =
     let line : (x == 47 && y == 47) ≡ (x == 47 && 0 == 47) = and_not _ _ (λ h k. true_false _ (joins_comment x y (eqb-true x 47 h) (or_left _ _ k)) apart) ∙ sym (and_not (x == 47) false (λ h k. no_true k)) in
     let block : (x == 47 && y == 42) ≡ (x == 47 && 0 == 42) = and_not _ _ (λ h k. true_false _ (joins_comment x y (eqb-true x 47 h) (or_right _ _ k)) apart) ∙ sym (and_not (x == 47) false (λ h k. no_true k)) in
-    let point : (x == 46 && is_digit y) ≡ (x == 46 && is_digit 0) = and_not _ _ (λ h k. true_false _ (joins_run x y (dot_run x (eqb-true x 46 h)) (digit_run y k)) apart) ∙ sym (and_not (x == 46) (is_digit 0) (λ h k. true_false (is_digit 0) k zero_digit)) in
-    let hex : (x == 48 && is_x y) ≡ (x == 48 && is_x 0) = and_not _ _ (λ h k. true_false _ (joins_run x y (nought_run x (eqb-true x 48 h)) (x_run y k)) apart) ∙ sym (and_not (x == 48) (is_x 0) (λ h k. true_false (is_x 0) k zero_x)) in
+    let point : (x == 46 && is_digit y) ≡ (x == 46 && is_digit 0) = and_not _ _ (λ h k. true_false _ (joins_period x y (eqb-true x 46 h) k) apart) ∙ sym (and_not (x == 46) (is_digit 0) (λ h k. true_false (is_digit 0) k zero_digit)) in
+    let hex : (x == 48 && is_x y) ≡ (x == 48 && is_x 0) = and_not _ _ (λ h k. true_false _ (joins_word x y (nought_word x (eqb-true x 48 h)) (word_run y (x_word y k))) apart) ∙ sym (and_not (x == 48) (is_x 0) (λ h k. true_false (is_x 0) k zero_x)) in
     ap (λ l. begun_by x l (x == 47 && y == 42) (x == 46 && is_digit y) (x == 48 && is_x y)) line ∙ ap (λ l. begun_by x (x == 47 && 0 == 47) l (x == 46 && is_digit y) (x == 48 && is_x y)) block ∙ ap (λ l. begun_by x (x == 47 && 0 == 47) (x == 47 && 0 == 42) l (x == 48 && is_x y)) point ∙ ap (begun_by x (x == 47 && 0 == 47) (x == 47 && 0 == 42) (x == 46 && is_digit 0)) hex
 
 -- Where a piece is, once it has gone over some bytes and then over others.
@@ -215,7 +224,7 @@ pub record LastStep (m : Mode) (b : List ℕ) (y : ℕ) : Type 0 where
   pub was : after m b ≡ Some mode
   pub goes_on : is_some (goes mode y) ≡ true
 
-last_step : (m : Mode) (b : List ℕ) (y : ℕ) → is_some (after m (b ++ y ∷ [])) ≡ true → LastStep m b y
+pub last_step : (m : Mode) (b : List ℕ) (y : ℕ) → is_some (after m (b ++ y ∷ [])) ≡ true → LastStep m b y
 last_step m b y h = by (after m b) refl (subst (λ o. is_some o ≡ true) (after_then b (y ∷ []) m) h)
   where
     step : (n : Mode) (o : Option Mode) → is_some (option_and_then (λ n. Some n) o) ≡ true → is_some o ≡ true
@@ -240,7 +249,7 @@ goes_line : (n : Mode) (x : ℕ) → goes InLine x ≡ Some n → (n ≡ InLine)
 unfolding goes
 goes_line n x h = let o = other (x == 10) None (Some InLine) (Some n) (λ e. cc) h in let f = o.1 in (cc, o.0)
 
-goes_word : (n : Mode) (x : ℕ) → goes InWord x ≡ Some n → (n ≡ InWord) × (is_in_word x ≡ true)
+pub goes_word : (n : Mode) (x : ℕ) → goes InWord x ≡ Some n → (n ≡ InWord) × (is_in_word x ≡ true)
 unfolding goes
 goes_word n x h = ⊎_elim (λ o. let f = o.1 in (cc, o.0)) (λ o. let f = o.1 in cc) (chosen (is_in_word x) (Some InWord) None (Some n) h)
 
@@ -252,7 +261,7 @@ no_step : (x : ℕ) → is_some (goes Whole x) ≡ true → ⊥
 unfolding goes
 no_step x h = cc
 
-some_is : (o : Option Mode) → is_some o ≡ true → (n : Mode) × (o ≡ Some n)
+pub some_is : (o : Option Mode) → is_some o ≡ true → (n : Mode) × (o ≡ Some n)
 some_is None h = cc
 some_is (Some n) h = (n, refl)
 
@@ -260,23 +269,23 @@ line_stays : (b : List ℕ) (n : Mode) → after InLine b ≡ Some n → n ≡ I
 line_stays [] n h = cc
 line_stays (x ∷ b) n h = option_and_then_some (λ k. after k b) (goes InLine x) n h (λ k e f. line_stays b n (subst (λ m. after m b ≡ Some n) (goes_line k x e).0 f))
 
-word_stays : (b : List ℕ) (n : Mode) → after InWord b ≡ Some n → (n ≡ InWord) × (list_all is_in_word b ≡ true)
+pub word_stays : (b : List ℕ) (n : Mode) → after InWord b ≡ Some n → (n ≡ InWord) × (list_all is_in_word b ≡ true)
 word_stays [] n h = (cc, refl)
 word_stays (x ∷ b) n h = option_and_then_some (λ k. after k b) (goes InWord x) n h (λ k e f.
     let step = goes_word k x e in
     let rest = word_stays b n (subst (λ m. after m b ≡ Some n) step.0 f) in
     (rest.0, and_both _ _ step.1 rest.1))
 
--- in a run, and no exponent
+-- in a word, and no exponent
 is_plain_number : ℕ → Bool
-is_plain_number x = is_in_run x && not (is_exponent x)
+is_plain_number x = is_in_word x && not (is_exponent x)
 
 run_stays : (b : List ℕ) (n : Mode) → list_all is_plain_number b ≡ true → after (InRun false) b ≡ Some n → n ≡ InRun false
 unfolding is_plain_number
 run_stays [] n d h = cc
 run_stays (x ∷ b) n d h = option_and_then_some (λ k. after k b) (goes (InRun false) x) n h (λ k e f.
-    let digits = both (is_in_run x && not (is_exponent x)) (list_all is_plain_number b) d in
-    let plain = not_false (is_exponent x) (both (is_in_run x) _ digits.0).1 in
+    let digits = both (is_in_word x && not (is_exponent x)) (list_all is_plain_number b) d in
+    let plain = not_false (is_exponent x) (both (is_in_word x) _ digits.0).1 in
     let step = goes_run k x e in
     let same : k ≡ InRun false = cc in
     run_stays b n digits.1 (subst (λ m. after m b ≡ Some n) same f))
@@ -323,16 +332,16 @@ goes_hex : (n : Mode) (x : ℕ) → goes (InHexRun false) x ≡ Some n → (n �
 unfolding goes
 goes_hex n x h = ⊎_elim (λ o. let f = o.1 in (cc, o.0)) (λ o. let f = o.1 in cc) (chosen (is_in_run x) (Some (InHexRun (is_power x))) None (Some n) h)
 
--- in a run, and no power
+-- in a word, and no power
 is_plain_run : ℕ → Bool
-is_plain_run x = is_in_run x && not (is_power x)
+is_plain_run x = is_in_word x && not (is_power x)
 
 hex_stays : (b : List ℕ) (n : Mode) → list_all is_plain_run b ≡ true → after (InHexRun false) b ≡ Some n → n ≡ InHexRun false
 unfolding is_plain_run
 hex_stays [] n d h = cc
 hex_stays (x ∷ b) n d h = option_and_then_some (λ k. after k b) (goes (InHexRun false) x) n h (λ k e f.
-    let digits = both (is_in_run x && not (is_power x)) (list_all is_plain_run b) d in
-    let plain = not_false (is_power x) (both (is_in_run x) _ digits.0).1 in
+    let digits = both (is_in_word x && not (is_power x)) (list_all is_plain_run b) d in
+    let plain = not_false (is_power x) (both (is_in_word x) _ digits.0).1 in
     let step = goes_hex k x e in
     let same : k ≡ InHexRun false = cc in
     hex_stays b n digits.1 (subst (λ m. after m b ≡ Some n) same f))
@@ -377,31 +386,31 @@ implied : (a b : Bool) → a ≡ true → (not a || b) ≡ true → b ≡ true
 implied true b e k = k
 implied false b e k = cc
 
-hex_run : (c : ℕ) → is_hex_digit c ≡ true → is_in_run c ≡ true
-unfolding is_in_run is_in_word is_letter
-hex_run c h = or_left _ _ (implied (is_hex_digit c) _ h (hex_plain_low c (hex_small c h)))
+hex_word : (c : ℕ) → is_hex_digit c ≡ true → is_in_word c ≡ true
+unfolding is_in_word is_letter
+hex_word c h = implied (is_hex_digit c) _ h (hex_plain_low c (hex_small c h))
 
-plain_of : (c : ℕ) → is_in_run c ≡ true → is_power c ≡ false → is_plain_run c ≡ true
+plain_of : (c : ℕ) → is_in_word c ≡ true → is_power c ≡ false → is_plain_run c ≡ true
 unfolding is_plain_run
 plain_of c h k = and_both _ _ h (ap not k)
 
-plain_run : (c : ℕ) → is_plain_run c ≡ true → is_in_run c ≡ true
+plain_word : (c : ℕ) → is_plain_run c ≡ true → is_in_word c ≡ true
 unfolding is_plain_run
-plain_run c h = (both (is_in_run c) _ h).0
+plain_word c h = (both (is_in_word c) _ h).0
 
 hex_plain : (c : ℕ) → is_digit_of 16 c ≡ true → is_plain_run c ≡ true
-hex_plain c h = let d = hex_digit c h in plain_of c (hex_run c d) (hex_no_power c d)
+hex_plain c h = let d = hex_digit c h in plain_of c (hex_word c d) (hex_no_power c d)
 
-number_plain : (c : ℕ) → is_in_run c ≡ true → is_exponent c ≡ false → is_plain_number c ≡ true
+number_plain : (c : ℕ) → is_in_word c ≡ true → is_exponent c ≡ false → is_plain_number c ≡ true
 unfolding is_plain_number
 number_plain c h k = and_both _ _ h (ap not k)
 
-number_run : (c : ℕ) → is_plain_number c ≡ true → is_in_run c ≡ true
+number_word : (c : ℕ) → is_plain_number c ≡ true → is_in_word c ≡ true
 unfolding is_plain_number
-number_run c h = (both (is_in_run c) _ h).0
+number_word c h = (both (is_in_word c) _ h).0
 
 digit_plain : (c : ℕ) → is_digit c ≡ true → is_plain_number c ≡ true
-digit_plain c h = number_plain c (digit_run c h) (digit_no_exponent c h)
+digit_plain c h = number_plain c (digit_word c h) (digit_no_exponent c h)
 
 -- each test that `_` and all digits pass is one that grouped digits pass
 grouped_all : (base : ℕ) (p : ℕ → Bool) → p 95 ≡ true → ((c : ℕ) → is_digit_of base c ≡ true → p c ≡ true) → (ds : List ℕ) → grouped base ds ≡ true → list_all p ds ≡ true
@@ -470,8 +479,8 @@ hex_digits x (y ∷ ys) h k =
     let digits : digits_of (x ∷ y ∷ ys) ≡ ys = ap (λ t. cond t (cond (letter_base y == 0) (y ∷ ys) ys) (x ∷ y ∷ ys)) nought ∙ ap (λ n. cond (n == 0) (y ∷ ys) ys) sixteen in
     let grouping = (both (not (is_empty (digits_of (x ∷ y ∷ ys)))) _ (both (is_digit x) _ h).1).1 in
     let here : grouped 16 ys ≡ true = subst (λ n. grouped n ys ≡ true) base (subst (λ l. grouped (base_of (x ∷ y ∷ ys)) l ≡ true) digits grouping) in (
-      plain_of x (nought_run x k.nought) (subst (λ n. is_power n ≡ false) (sym k.nought) nought_no_power),
-      and_both _ _ (plain_of y (x_run y k.ex) (x_no_power y k.ex)) (grouped_all 16 is_plain_run low_line_power hex_plain ys here),
+      plain_of x (nought_word x k.nought) (subst (λ n. is_power n ≡ false) (sym k.nought) nought_no_power),
+      and_both _ _ (plain_of y (x_word y k.ex) (x_no_power y k.ex)) (grouped_all 16 is_plain_run low_line_power hex_plain ys here),
     )
 
 -- what a letter behind a 0 is, but for x
@@ -567,14 +576,14 @@ one_more Word x b y e g h =
     let stays = word_stays b last.mode last.was in
     let step = some_is (goes InWord y) (subst (λ n. is_some (goes n y) ≡ true) stays.0 last.goes_on) in
     let next = (goes_word step.0 y step.1).1 in
-    inr (last_of_all is_in_word y (λ z w. joins_run z y (word_run z w) (word_run y next)) x b (letter_word x (begun_word x _ _ _ _ e)) stays.1)
+    inr (last_of_all is_in_word y (λ z w. joins_word z y w (word_run y next)) x b (letter_word x (begun_word x _ _ _ _ e)) stays.1)
 one_more Number x b y e g h =
     let digits = number_digits x b (number_none _ (x ∷ b) g) (begun_number_by x _ _ _ _ e) in
     let last = last_step (InRun false) b y h in
     let stays = run_stays b last.mode digits.1 last.was in
     let step = some_is (goes (InRun false) y) (subst (λ n. is_some (goes n y) ≡ true) stays last.goes_on) in
     let next = (goes_run step.0 y step.1).1 in
-    inr (last_of_all is_plain_number y (λ z w. joins_run z y (number_run z w) next) x b digits.0 digits.1)
+    inr (last_of_all is_plain_number y (λ z w. joins_word z y (number_word z w) next) x b digits.0 digits.1)
 one_more HexNumber x b y e g h =
     let hex = begun_hex x (front b) e in
     let digits = hex_digits x b (number_none _ (x ∷ b) g) hex in
@@ -582,7 +591,7 @@ one_more HexNumber x b y e g h =
     let stays = hex_stays b last.mode digits.1 last.was in
     let step = some_is (goes (InHexRun false) y) (subst (λ n. is_some (goes n y) ≡ true) stays last.goes_on) in
     let next = (goes_hex step.0 y step.1).1 in
-    inr (last_of_all is_plain_run y (λ z w. joins_run z y (plain_run z w) next) x b digits.0 digits.1)
+    inr (last_of_all is_plain_run y (λ z w. joins_word z y (plain_word z w) next) x b digits.0 digits.1)
 one_more k x b y e g h = absurd (whole_stops b y h)
 
 same_kind : (x : ℕ) (b : List ℕ) (y : ℕ) → last_joins (x ∷ b) y ≡ false → begun x (front (b ++ y ∷ [])) ≡ begun x (front b)

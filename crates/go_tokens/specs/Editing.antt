@@ -3,12 +3,16 @@ use Rattle.std.specs.Prelude.{◌≡◌, ℕ, ◌+◌, ◌<◌, ◌⊎◌, Bool,
 use Rattle.std.specs.List.{list_all}
 use Rattle.go_base.specs.declared.Span.{Span}
 use Rattle.go_tokens.specs.declared.token.Token.{Token}
+use Rattle.go_tokens.specs.declared.token.TokenKind.{TokenKind}
+use Rattle.go_tokens.specs.declared.token.TokenKind.TheVariants.{Identifier}
 use Rattle.go_tokens.specs.declared.piece.PieceKind.{PieceKind}
 use Rattle.go_tokens.specs.declared.piece.PieceKind.TheVariants.{LineComment}
 use Rattle.go_tokens.specs.Spellings.{ends_statement_kind}
 use Rattle.go_tokens.specs.Pieces.{kind}
 use Rattle.go_tokens.specs.Lexing.{join, width, Cut, line_ends, Lexes}
-use Rattle.go_tokens.specs.Replacing.{read, items, spliced, are_apart, is_at_line_end, Part, Kept, Replaced, pieces_of, old_pieces, new_pieces, Fits}
+use Rattle.go_tokens.specs.Encoding.{IsText}
+use Rattle.go_tokens.specs.Files.{IsLexing}
+use Rattle.go_tokens.specs.Replacing.{read, items, spliced, are_apart, begins_with_period, is_at_line_end, Part, Kept, Replaced, pieces_of, old_pieces, new_pieces, Fits}
 
 -- A text with ranges that are replaced.
 pub data Edits : Type 0 where
@@ -59,6 +63,22 @@ pub record Stands (file : ℕ) (text : List ℕ) : Type 0 where
   pub lexes : Lexes file text tokens comments
   pub spans : Spans tokens (width before) (width before + width inner)
 
+abbrev pub is_identifier : TokenKind → Bool
+is_identifier Identifier = true
+is_identifier k = false
+
+abbrev pub is_empty_text : List ℕ → Bool
+is_empty_text [] = true
+is_empty_text (x ∷ xs) = false
+
+-- whether the text ends with a name
+abbrev pub ends_in_name : (file : ℕ) (text : List ℕ) → Stands file text → Bool
+ends_in_name file text alone = is_identifier alone.spans.last.kind && is_empty_text alone.behind
+
+-- Whether the new text and what is behind it don't join: their neighbours don't, or a period stands behind a name.
+abbrev pub stands_apart : (file : ℕ) (text : List ℕ) → Stands file text → List ℕ → Bool
+stands_apart file text alone rest = are_apart text rest || (ends_in_name file text alone && begins_with_period rest)
+
 -- A line ends before the first token of the text, or with it.
 pub record EndsLine (text : List ℕ) : Type 0 where
   pub pieces : List (List ℕ)
@@ -67,7 +87,7 @@ pub record EndsLine (text : List ℕ) : Type 0 where
   pub ends : line_ends pieces true ≡ true
 
 -- What is asked of the edits of a text with these tokens, from a place on: each range begins with a token and ends with
--- one, what replaces it stands alone, neighbours at a seam do not join, and where a line ends behind a range its new
+-- one, what replaces it stands alone, neighbours at a seam do not join (a period behind a name does not), and where a line ends behind a range its new
 -- last token ends a statement exactly where its old one does. What is appended stands alone and begins with a newline.
 abbrev pub Allows : ℕ → List Token → ℕ → Edits → List ℕ → Type 0
 Allows file ts at (Rest kept) tail =
@@ -76,7 +96,7 @@ Allows file ts at (Edit kept old new edits) tail =
     (range : Spans ts (at + width kept) (at + width kept + width old))
     × (alone : Stands file new)
     × (are_apart kept (new ++ new_text edits tail) ≡ true)
-    × (are_apart new (new_text edits tail) ≡ true)
+    × (stands_apart file new alone (new_text edits tail) ≡ true)
     × (EndsLine (old_text edits) → ends_statement_kind range.last.kind ≡ ends_statement_kind alone.spans.last.kind)
     × Allows file ts (at + width kept + width old) edits tail
 
@@ -112,6 +132,13 @@ pub record EditedLexing (file : ℕ) (edits : Edits) (tail : List ℕ) (ts : Lis
   pub lexes : Lexes file (new_text edits tail) tokens comments
   pub old : map (read (old_text edits)) ts ≡ spliced (λ old new. old) parts
   pub new : map (read (new_text edits tail)) tokens ≡ spliced (λ old new. new) parts ++ items tail_pieces true
+
+-- The bytes of a file with its lexing, edits of its text that are allowed, and the bytes of the new text.
+pub record AreFileEdits (file : ℕ) (edits : Edits) (tail old new : List ℕ) (ts : List Token) (cs : List Span) : Type 0 where
+  pub old_bytes : IsText (old_text edits) old
+  pub new_bytes : IsText (new_text edits tail) new
+  pub lexing : IsLexing file old ts cs
+  pub allowed : Allows file ts 0 edits tail
 
 -- Whether each piece and what is behind it do not join.
 abbrev pub all_apart : List (List ℕ) → Bool

@@ -6,9 +6,11 @@ use Rattle.go_tokens.specs.declared.token.TokenKind.{TokenKind}
 use Rattle.go_tokens.specs.declared.token.TokenKind.TheVariants.{Semicolon}
 use Rattle.go_tokens.specs.declared.token.Token.{Token}
 use Rattle.go_base.specs.declared.Span.{Span}
-use Rattle.go_tokens.specs.Characters.{is_in_run}
+use Rattle.go_tokens.specs.Characters.{is_digit, is_in_word, is_in_run}
 use Rattle.go_tokens.specs.Spellings.{operators, listed}
-use Rattle.go_tokens.specs.Pieces.{is_good}
+use Rattle.go_tokens.specs.declared.piece.PieceKind.{PieceKind}
+use Rattle.go_tokens.specs.declared.piece.PieceKind.TheVariants.{Word}
+use Rattle.go_tokens.specs.Pieces.{kind, is_good}
 use Rattle.go_tokens.specs.Lexing.{join, Cut, is_token, token_kind, ends_statement, line_ends, Lexes}
 
 -- A token without its place: an inserted semicolon has no bytes.
@@ -27,7 +29,8 @@ abbrev pub items : List (List ℕ) → Bool → List Item
 items [] behind = []
 items (p ∷ ps) behind = items_of p (line_ends ps behind) ++ items ps behind
 
--- Neighbours that may stand in one token, in the run of a number, in `...` or at the beginning of a comment. White space is none.
+-- Neighbours that may stand in one token: a letter or digit with another one or a period, which is part of a number's run; a
+-- period with a digit or a period; neighbours in an operator; and those at the beginning of a comment. White space is none.
 abbrev pub are_beside : ℕ → ℕ → List ℕ → Bool
 are_beside x y [] = false
 are_beside x y (a ∷ []) = false
@@ -35,7 +38,7 @@ are_beside x y (a ∷ b ∷ w) = (x == a && y == b) || are_beside x y (b ∷ w)
 
 unfoldable pub joins : ℕ → ℕ → Bool
 joins x y =
-    (is_in_run x && is_in_run y) || list_any (are_beside x y) operators || (x == 47 && (y == 47 || y == 42))
+    (is_in_word x && is_in_run y) || (x == 46 && (is_digit y || y == 46)) || list_any (are_beside x y) operators || (x == 47 && (y == 47 || y == 42))
 
 -- Whether the last character joins with y.
 abbrev pub last_joins : List ℕ → ℕ → Bool
@@ -108,13 +111,34 @@ new_pieces [] tail = tail
 new_pieces (Kept ps ∷ parts) tail = ps ++ new_pieces parts tail
 new_pieces (Replaced old new ∷ parts) tail = pieces_of new ++ new_pieces parts tail
 
+abbrev pub is_none : List (List ℕ) → Bool
+is_none [] = true
+is_none (p ∷ ps) = false
+
+abbrev pub begins_with_period : List ℕ → Bool
+begins_with_period [] = false
+begins_with_period (y ∷ ys) = y == 46
+
+abbrev pub is_word_kind : PieceKind → Bool
+is_word_kind Word = true
+is_word_kind k = false
+
+-- whether the range ends with a word
+abbrev pub ends_in_word : Range → Bool
+ends_in_word r = is_word_kind (kind r.last) && is_none r.blanks
+
+-- Whether the range and what is behind it don't join: their neighbours don't, or a period stands behind a word, which is no
+-- number.
+abbrev pub is_apart_behind : Range → List ℕ → Bool
+is_apart_behind r rest = are_apart (join (pieces_of r)) rest || (ends_in_word r && begins_with_period rest)
+
 -- What is asked of each part, by what stands behind it: at a seam of the new text the neighbours don't join, and where a
 -- line ends behind a range, a semicolon is inserted behind its new last token exactly where one is behind the old.
 abbrev pub Fits : List Part → List (List ℕ) → Type 0
 Fits [] tail = IsAppended tail
 Fits (Kept ps ∷ parts) tail = (are_apart (join ps) (join (new_pieces parts tail)) ≡ true) × Fits parts tail
 Fits (Replaced old new ∷ parts) tail =
-    IsOld old × IsNew new × (are_apart (join (pieces_of new)) (join (new_pieces parts tail)) ≡ true) × (line_ends (old_pieces parts) true ≡ true → ends_statement old.last ≡ ends_statement new.last) × Fits parts tail
+    IsOld old × IsNew new × (is_apart_behind new (join (new_pieces parts tail)) ≡ true) × (line_ends (old_pieces parts) true ≡ true → ends_statement old.last ≡ ends_statement new.last) × Fits parts tail
 
 -- The tokens of the parts, each range being the one that is chosen. A range has the tokens that it has alone; the semicolon
 -- behind its last one is that of the old text.

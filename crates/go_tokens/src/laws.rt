@@ -9,10 +9,9 @@ ghost use Rattle.go_tokens.specs.declared.token.Token.{Token};
 ghost use Rattle.go_tokens.specs.Literals.{is_integer, is_one, rune_elements};
 ghost use Rattle.go_tokens.specs.Pieces.{is_piece, is_good};
 ghost use Rattle.go_tokens.specs.Lexing.{join, Cut, tokens, comments, Lexes};
-ghost use Rattle.go_tokens.specs.Encoding.{IsText};
 ghost use Rattle.go_tokens.specs.Files.{IsLexing, IsFault};
 ghost use Rattle.go_tokens.specs.Replacing.{Part, Fits, NewLexing, old_pieces};
-ghost use Rattle.go_tokens.specs.Editing.{Edits, old_text, new_text, Allows, EditedLexing, all_apart, has_no_line};
+ghost use Rattle.go_tokens.specs.Editing.{Edits, old_text, Allows, EditedLexing, AreFileEdits, all_apart, has_no_line};
 
 use crate::token::TokenKind;
 
@@ -40,7 +39,7 @@ pub fn edited_text()
 
 /// The same for the bytes of a file.
 pub fn edited_file()
-    ensures { (file : ℕ) (edits : Edits) (tail old new : List ℕ) (ts : List Token) (cs : List Span) → IsText (old_text edits) old → IsText (new_text edits tail) new → IsLexing file old ts cs → Allows file ts 0 edits tail → (e : EditedLexing file edits tail ts) × IsLexing file new e.tokens e.comments }
+    ensures { (file : ℕ) (edits : Edits) (tail old new : List ℕ) (ts : List Token) (cs : List Span) → AreFileEdits file edits tail old new ts cs → (e : EditedLexing file edits tail ts) × IsLexing file new e.tokens e.comments }
 {}
 
 /// Pieces without a defect of which no neighbours join, and none is a line comment, are read again as those pieces.

@@ -1,5 +1,5 @@
-use Rattle.go_splice.proofs.Words.{run_fits}
+use Rattle.go_splice.proofs.Words.{node_fits}
 use Rattle.go_splice.proofs.laws.a_new_run_fits.Goals as goal
 
 pub returns : goal.returns
-returns c = λ ts xs n x ascend at edge long ws behind d k a b front o os new rest l e old is. run_fits ts xs n x ascend at edge long ws behind d k a b front o os new rest l e old is
+returns c = λ ts xs n x ws h d t f m new z. node_fits ts xs n x h.ascend h.among h.edge h.some ws h.behind d t f m new z

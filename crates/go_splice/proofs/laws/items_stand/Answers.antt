@@ -1,5 +1,5 @@
-use Rattle.go_splice.proofs.Subtrees.{node_run}
+use Rattle.go_splice.proofs.Subtrees.{run_in}
 use Rattle.go_splice.proofs.laws.items_stand.Goals as goal
 
 pub returns : goal.returns
-returns c = λ ts d k a b ps f n l h at e. node_run ts f n k a b ps d l h at e
+returns c = λ ts d t f n list h. run_in ts f n t d list h

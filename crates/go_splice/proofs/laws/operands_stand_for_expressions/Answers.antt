@@ -1,4 +1,4 @@
-use Rattle.go_splice.proofs.Chains.{operand_stands}
+use Rattle.go_splice.proofs.Operands.{operand_stands}
 use Rattle.go_splice.proofs.laws.operands_stand_for_expressions.Goals as goal
 
 pub returns : goal.returns

@@ -1,7 +1,7 @@
-use Rattle.std.proofs.Common.{◌≡◌, ◌∙◌, ◌≤◌, ◌<◌, ◌⊎◌, ⊎_elim, List, ℕ, [], true, false, take, length, chars, ap, sym, arith}
+use Rattle.std.proofs.Common.{◌≡◌, ◌∙◌, ◌≤◌, ◌<◌, ◌⊎◌, ⊎_elim, List, ℕ, [], take, length, chars, ap, arith}
 use Rattle.std.proofs.lemmas.List.{take_all, length-take-le}
 use Rattle.std.proofs.lemmas.Str.{chars-nil}
-use Rattle.go_tokens.specs.Literals.{inside, elements, is_one, rune_elements, first_value}
+use Rattle.go_tokens.specs.Literals.{inside, elements, is_one, first_value}
 use Rattle.go_tokens.proofs.Elements.{rune_short}
 use Rattle.go_tokens.proofs.value.rune_value.Goals as goal
 

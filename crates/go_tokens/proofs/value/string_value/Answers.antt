@@ -1,4 +1,4 @@
-use Rattle.std.proofs.Common.{◌≡◌, ◌∙◌, List, ℕ, [], chars, ap}
+use Rattle.std.proofs.Common.{◌≡◌, ◌∙◌, [], chars, ap}
 use Rattle.std.proofs.lemmas.Str.{chars-nil}
 use Rattle.go_tokens.specs.Literals.{string_value}
 use Rattle.go_tokens.proofs.value.string_value.Goals as goal

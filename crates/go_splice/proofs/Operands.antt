@@ -1,5 +1,5 @@
--- Several replacements, and operands in place of expressions.
-use Rattle.std.proofs.Common.{◌≡◌, ◌≤◌, true, List, [], ◌∷◌, refl, sym, ap, ◌∙◌, subst, arith}
+-- Operands in place of expressions.
+use Rattle.std.proofs.Common.{◌≡◌, ◌≤◌, true, List, refl, arith}
 use Rattle.std.specs.Prelude.{nat_le}
 use Rattle.std.proofs.lemmas.Bool.{le-leb, leb-true}
 use Rattle.go_tokens.specs.declared.token.TokenKind.{TokenKind}
@@ -11,17 +11,9 @@ use Rattle.go_grammar.specs.declared.kind.Category.{Category}
 use Rattle.go_grammar.specs.declared.kind.Category.TheVariants as category
 use Rattle.go_grammar.specs.Operators.{rank}
 use Rattle.go_grammar.specs.Categories.{place_of, within, tightness, is_expression}
-use Rattle.go_grammar.specs.Trees.{Tree, node, first, last}
+use Rattle.go_grammar.specs.Trees.{Tree, node}
 use Rattle.go_grammar.specs.Grammar.{Derives}
-use Rattle.go_splice.specs.Replacing.{agree, Replaces, Step, AreReplaced, takes_level}
-use Rattle.go_splice.proofs.Single.{subtree_replaced}
-
-pub replaced_once : (c : Category) (ts : List TokenKind) (t : Tree) (ts' : List TokenKind) (t' : Tree) → Derives ts c t → Replaces c ts t ts' t' → Derives ts' c t'
-replaced_once c ts t ts' t' h r = subst (λ u. Derives ts' c u) (sym r.is) (subtree_replaced ts ts' (first r.old) (last r.old) (last r.new) r.seam c r.category t r.old r.new r.path h r.stood refl refl r.asked r.stands r.begins refl (ap agree (sym r.is) ∙ r.agrees))
-
-pub replaced_all : (c : Category) (steps : List Step) (ts : List TokenKind) (t : Tree) (ts' : List TokenKind) (t' : Tree) → Derives ts c t → AreReplaced c steps ts t ts' t' → Derives ts' c t'
-replaced_all c [] ts t ts' t' h a = subst (λ us. Derives us c t') a.0 (subst (λ u. Derives ts c u) a.1 h)
-replaced_all c (x ∷ xs) ts t ts' t' h a = replaced_all c xs x.tokens x.tree ts' t' (replaced_once c ts t x.tokens x.tree h a.0) a.1
+use Rattle.go_splice.specs.Replacing.{takes_level}
 
 rank_one : (l : Level) → 1 ≤ rank l
 rank_one level.Either = omega arith
