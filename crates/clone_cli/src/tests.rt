@@ -1,4 +1,4 @@
-// Whole runs over objects in memory.
+//! Whole runs over objects in memory.
 
 use clone_serve::serve::serve;
 use go_base::{Bytes, Name};

@@ -1,4 +1,4 @@
-// The run of the program, from its arguments to the status that it ends with.
+//! The run of the program, from its arguments to the status that it ends with.
 
 ghost use Rattle.std.specs.Prelude.{◌≡◌, IfOk, IfErr, IfSome, IsErr, drop};
 ghost use Rattle.std.specs.Vec.Iter.{into_iter_items};

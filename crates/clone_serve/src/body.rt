@@ -1,4 +1,4 @@
-// What the statements of one function show, kept as one list of words.
+//! What the statements of one function show, kept as one list of words.
 
 ghost use Rattle.std.specs.Prelude.{◌≡◌, ◌+◌, ◌≤◌, ◌++◌, [], ◌∷◌, ℕ, OnOk, OnErr, length, take, drop, slice_get, Some, ◌<◌};
 ghost use Rattle.path_tree.specs.Windows.{joined};

@@ -1,4 +1,4 @@
-// The functions of a file: their names, and what their statements show.
+//! The functions of a file: their names, and what their statements show.
 
 ghost use Rattle.std.specs.Prelude.{◌≡◌, ◌++◌, IfOk, OnOk, map, take, drop, slice_get};
 ghost use Rattle.std.specs.Option.{option_map};

@@ -1,4 +1,4 @@
-// Laws of the definitions.
+//! Laws of the definitions.
 
 ghost use Rattle.std.specs.Prelude.{◌≡◌, ℕ, List, Some, true, false, codes};
 ghost use Rattle.path_tree.specs.declared.window.Word.{Word as WindowWord};

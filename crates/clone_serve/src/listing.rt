@@ -1,4 +1,4 @@
-// The listing of clone classes, as bytes.
+//! The listing of clone classes, as bytes.
 
 ghost use Rattle.std.specs.Prelude.{◌≡◌, ◌++◌, suc, map, IfOk, OnOk, length};
 ghost use Rattle.std.specs.Fmt.{decimal};

@@ -1,4 +1,4 @@
-// Names as numbers: two tokens have one number exactly where they are spelled alike.
+//! Names as numbers: two tokens have one number exactly where they are spelled alike.
 
 ghost use Rattle.std.specs.Prelude.{◌≡◌, IfOk, map};
 ghost use Rattle.clone_serve.specs.Names.{texts, number_of, numbers, number_at};

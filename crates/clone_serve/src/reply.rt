@@ -1,4 +1,4 @@
-// The reply to `classes`: the listing of a file that is built, or why there is none.
+//! The reply to `classes`: the listing of a file that is built, or why there is none.
 
 ghost use Rattle.std.specs.Prelude.{◌≡◌, IfOk, codes};
 ghost use Rattle.std.specs.Option.{option_map};

@@ -1,4 +1,4 @@
-// Whether two lists of words are the same, up to the names of locals.
+//! Whether two lists of words are the same, up to the names of locals.
 
 ghost use Rattle.std.specs.Prelude.{◌≡◌, [], ◌∷◌, length, option_to_list};
 ghost use Rattle.std.specs.List.{list_all};

@@ -1,4 +1,4 @@
-// The top call: from the words, a folder and a script to a reply and a status.
+//! The top call: from the words, a folder and a script to a reply and a status.
 
 ghost use Rattle.std.specs.Prelude.{◌≡◌, ◌<◌, ◌≤◌, IfSome, IfOk, OnOk, MatchResult, ◌⊎◌, filter, length, take, drop, None, Some};
 ghost use Rattle.std.specs.Option.{option_map};

@@ -1,4 +1,4 @@
-// The small language: which shapes its trees have, and which names and numbers it takes.
+//! The small language: which shapes its trees have, and which names and numbers it takes.
 
 ghost use Rattle.std.specs.Prelude.{◌≡◌, ◌-◌, ◌^◌, ◌&&◌, min};
 ghost use Rattle.std.specs.List.{list_all, list_any};

@@ -1,4 +1,4 @@
-// Which names the statements of a function define, assign, read and call, and whether the functions of a file fit together.
+//! Which names the statements of a function define, assign, read and call, and whether the functions of a file fit together.
 
 ghost use Rattle.std.specs.Prelude.{◌≡◌, ◌++◌, [], ◌&&◌, IfOk, OnOk, drop, option_to_list};
 ghost use Rattle.std.specs.List.{list_all, filter_map, flat_map};

@@ -1,4 +1,4 @@
-// The windows of the functions of a file, and their clone classes, found by comparing every window with every other.
+//! The windows of the functions of a file, and their clone classes, found by comparing every window with every other.
 
 ghost use Rattle.std.specs.Prelude.{◌≡◌, ◌<◌, ◌++◌, [], ◌∷◌, OnOk, IfOk, length, filter, if◌then◌else◌};
 ghost use Rattle.std.specs.List.{list_any};

@@ -1,4 +1,4 @@
-// The words that the statements of a function show.
+//! The words that the statements of a function show.
 
 ghost use Rattle.std.specs.Prelude.{◌≡◌, ◌+◌, ◌<◌, ◌^◌, ◌≤◌, ◌++◌, [], ◌∷◌, OnOk, IfOk, length, take, drop, map, if◌then◌else◌};
 ghost use Rattle.std.specs.List.{list_all, slice_range};

@@ -15,7 +15,8 @@ use Rattle.go_grammar.specs.declared.items.Turn.{Turn}
 use Rattle.go_grammar.specs.declared.items.Turn.TheVariants.{Stop, Pass, Item}
 use Rattle.go_grammar.specs.declared.items.Next.{Next}
 use Rattle.go_grammar.specs.declared.items.Next.TheVariants.{On, Done, Wrong}
-use Rattle.go_grammar.specs.Reader.{◌>>=◌, opens_before, begins, continues, fits, after_first, words, front, gap, turn, closing, lead, on, next, read, made, grow, grow_by, spell, option, items, items_by, goes, goes_by}
+use Rattle.go_grammar.specs.Reader.{opens_before, begins, continues, fits, after_first, words, front, gap, turn, closing, lead, on, next, read, made, grow, grow_by, spell, option, items, items_by, goes, goes_by}
+use Rattle.go_base.specs.Optional.{◌>>=◌}
 use Rattle.go_grammar.specs.Words.{is_word, is_among}
 use Rattle.go_grammar.proofs.Rows.{and_both}
 use Rattle.go_grammar.proofs.Facts.{first_place}

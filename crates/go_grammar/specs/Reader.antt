@@ -3,6 +3,7 @@
 -- The number n that each function takes first bounds how long the reader works; from some number on the answer is the
 -- same. The number m is the room for a tree: it is to have at most m levels.
 use Rattle.std.specs.Prelude.{◌≡◌, ◌≤◌, ◌+◌, ◌-◌, ℕ, zero, suc, Bool, true, false, nat_le, if◌then◌else◌, ◌&&◌, List, [], ◌∷◌, Option, Some, None, slice_get}
+use Rattle.go_base.specs.Optional.{◌>>=◌}
 use Rattle.go_tokens.specs.declared.token.TokenKind.{TokenKind}
 use Rattle.go_tokens.specs.declared.token.TokenKind.TheVariants as token
 use Rattle.go_grammar.specs.declared.kind.Arithmetic.TheVariants as arithmetic
@@ -31,11 +32,6 @@ use Rattle.go_grammar.specs.Rules.{Items, Lines, Open, Each, Again, Rule, End, T
 use Rattle.go_grammar.specs.Grammar.{rule, agrees, ends}
 use Rattle.go_grammar.specs.Trees.{Tree, node, Trees, none, more, skip, kind_of, first, last, parts, weight, depth}
 use Rattle.go_grammar.specs.Words.{is_word, is_among}
-
-infixl 10 ◌>>=◌
-abbrev pub ◌>>=◌ : {A B : Type 0} → Option A → (A → Option B) → Option B
-None >>= f = None
-(Some x) >>= f = f x
 
 -- the kind of operand or unary expression that a token opens
 abbrev pub opened_expression : TokenKind → Option Kind

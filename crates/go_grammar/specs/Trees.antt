@@ -70,3 +70,9 @@ abbrev mutual
   depths none = 0
   depths (more p ps) = max (depth p) (depths ps)
   depths (skip ps) = depths ps
+
+-- one row of parts behind another
+abbrev pub onto : Trees → Trees → Trees
+onto none qs = qs
+onto (more p ps) qs = more p (onto ps qs)
+onto (skip ps) qs = skip (onto ps qs)

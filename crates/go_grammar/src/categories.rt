@@ -1,4 +1,4 @@
-// Which kinds of nodes stand where.
+//! Which kinds of nodes stand where.
 
 ghost use Rattle.std.specs.Prelude.{◌≡◌};
 ghost use Rattle.go_grammar.specs.Categories as categories;

@@ -1,4 +1,4 @@
-// How items go on.
+//! How items go on.
 
 /// What stands where items may begin.
 #[derive(Clone, Copy, Debug, PartialEq, Eq)]

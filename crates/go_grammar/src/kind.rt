@@ -1,4 +1,4 @@
-// Kinds of nodes, and what may stand where.
+//! Kinds of nodes, and what may stand where.
 
 /// An operator of arithmetic or of bits (Go specification: Arithmetic operators).
 #[derive(Clone, Copy, Debug, PartialEq, Eq)]

@@ -1,4 +1,4 @@
-// What the next token says.
+//! What the next token says.
 
 ghost use Rattle.std.specs.Prelude.{◌≡◌, Some, None};
 ghost use Rattle.go_grammar.specs.Reader as reader;

@@ -1,4 +1,4 @@
-// Operators: their words, and how tightly they bind.
+//! Operators: their words, and how tightly they bind.
 
 ghost use Rattle.std.specs.Prelude.{◌≡◌};
 ghost use Rattle.go_grammar.specs.Operators as operators;

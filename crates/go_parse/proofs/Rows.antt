@@ -1,13 +1,13 @@
 -- Rows of nodes that grow at their end.
 use Rattle.std.proofs.Common.{◌≡◌, ℕ, zero, suc, ◌-◌, ◌<◌, ◌≤◌, max, List, [], ◌∷◌, ◌++◌, length, take, drop, Option, Some, None, refl, sym, ap, ◌∙◌, subst, arith}
 use Rattle.std.proofs.Math.ListN.{get_or}
-use Rattle.go_grammar.specs.Trees.{Tree, Trees, none, more, skip, depth, depths}
+use Rattle.go_grammar.specs.Trees.{Tree, Trees, none, more, skip, depth, depths, onto}
 use Rattle.go_grammar.specs.Reader.{Tends}
 use Rattle.go_tree.specs.declared.node.Node.{Node}
 use Rattle.go_tree.specs.Views.{view, views}
 use Rattle.go_parse.specs.declared.row.Grown.{Grown}
 use Rattle.go_parse.specs.declared.row.Row.{Row}
-use Rattle.go_parse.specs.Engine.{onto, prefix, IsLow, LeadsOn, IsRowOn}
+use Rattle.go_parse.specs.Engine.{prefix, IsLow, LeadsOn, IsRowOn}
 
 pub onto_none : (ps : Trees) → onto ps none ≡ ps
 onto_none none = refl

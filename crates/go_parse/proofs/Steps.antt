@@ -11,7 +11,8 @@ use Rattle.go_grammar.specs.Categories.{within, place_of}
 use Rattle.go_grammar.specs.Rules.{Items, Rule, End, Then, Maybe, Unless, Many, item}
 use Rattle.go_grammar.specs.Trees.{Tree, node, Trees, none, more, kind_of, first, last, weight, depth}
 use Rattle.go_grammar.specs.Grammar.{rule, agrees, ends}
-use Rattle.go_grammar.specs.Reader.{◌>>=◌, opens_before, begins, continues, fits, after_first, words, front, gap, turn, closing, lead, next, read, made, grow, grow_by, spell, option, items, items_by, goes, goes_by, Tends}
+use Rattle.go_grammar.specs.Reader.{opens_before, begins, continues, fits, after_first, words, front, gap, turn, closing, lead, next, read, made, grow, grow_by, spell, option, items, items_by, goes, goes_by, Tends}
+use Rattle.go_base.specs.Optional.{◌>>=◌}
 use Rattle.go_grammar.specs.Symbols.{prepend}
 use Rattle.go_grammar.specs.Words.{is_word, is_among}
 use Rattle.go_grammar.proofs.Steps.{tends_step}

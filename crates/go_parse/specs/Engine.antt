@@ -10,7 +10,7 @@ use Rattle.go_grammar.specs.declared.production.Symbol.TheVariants as symbol
 use Rattle.go_grammar.specs.Categories.{place_of}
 use Rattle.go_grammar.specs.Grammar.{rule, agrees}
 use Rattle.go_grammar.specs.Rules.{Rule, End, Then, Maybe, Unless, Many}
-use Rattle.go_grammar.specs.Trees.{Tree, node, Trees, none, more, skip, kind_of, first, last, weight, depth, depths}
+use Rattle.go_grammar.specs.Trees.{Tree, node, Trees, none, more, skip, kind_of, first, last, weight, depth, depths, onto}
 use Rattle.go_grammar.specs.Reader.{opens_before, continues, read, grow, spell, option, after_first, Tends}
 use Rattle.go_tree.specs.Views.{view, views}
 use Rattle.go_parse.specs.declared.error.Stop.{Stop}
@@ -22,12 +22,6 @@ use Rattle.go_parse.specs.declared.row.Row.{Row}
 abbrev pub stop_refusal : Stop → Option Stop
 stop_refusal stop.Syntax = Some stop.Syntax
 stop_refusal stop.Memory = None
-
--- some parts, and then others
-abbrev pub onto : Trees → Trees → Trees
-onto none qs = qs
-onto (more p ps) qs = more p (onto ps qs)
-onto (skip ps) qs = skip (onto ps qs)
 
 -- some parts in front
 abbrev pub prefix : Trees → Option (Trees × ℕ) → Option (Trees × ℕ)

@@ -1,4 +1,4 @@
-// The engine: a few functions over the table of productions.
+//! The engine: a few functions over the table of productions.
 
 ghost use Rattle.std.specs.Prelude.{◌≡◌, ◌&&◌, ◌+◌, ◌^◌, ◌<◌, ◌≤◌, true, false, length, slice_get, suc, IfOk, Some, None};
 ghost use Rattle.go_base.specs.Gives.{Meets};

@@ -1,4 +1,4 @@
-// Why there is no tree.
+//! Why there is no tree.
 
 ghost use Rattle.std.specs.Prelude.{◌≡◌};
 ghost use Rattle.go_parse.specs.declared.error.Stop.TheVariants as stop;

@@ -1,4 +1,4 @@
-// What stands at a place.
+//! What stands at a place.
 
 ghost use Rattle.std.specs.Prelude.{◌≡◌, ◌^◌, ◌<◌, ◌≤◌, [], ◌∷◌, Some, None, length, slice_get, suc, if◌then◌else◌};
 ghost use Rattle.go_base.specs.Gives.{Meets};

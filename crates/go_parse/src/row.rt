@@ -1,4 +1,4 @@
-// Nodes that have been read, and how many levels they have.
+//! Nodes that have been read, and how many levels they have.
 
 ghost use Rattle.std.specs.Prelude.{◌≡◌, ◌+◌, ◌^◌, ◌<◌, ◌≤◌, [], ◌∷◌, ◌++◌, max, Some, None, IfOk};
 ghost use Rattle.go_grammar.specs.Trees.{last};

@@ -1,4 +1,4 @@
-// Laws of texts in which ranges are replaced.
+//! Laws of texts in which ranges are replaced.
 
 ghost use Rattle.std.specs.Prelude.{◌≡◌, ◌≤◌, true, ℕ, List};
 ghost use Rattle.go_tokens.specs.declared.token.Token.{Token};

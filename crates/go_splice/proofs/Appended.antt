@@ -9,10 +9,9 @@ use Rattle.go_grammar.specs.declared.kind.Category.{Category}
 use Rattle.go_grammar.specs.declared.kind.Category.TheVariants as category
 use Rattle.go_grammar.specs.Categories.{within, place_of}
 use Rattle.go_grammar.specs.Rules.{Items, Each, Many}
-use Rattle.go_grammar.specs.Trees.{Tree, node, Trees, none, more, skip, first, last, depth, depths}
+use Rattle.go_grammar.specs.Trees.{Tree, node, Trees, none, more, skip, first, last, depth, depths, onto}
 use Rattle.go_grammar.specs.Grammar.{rule, IsAt, Words, Derives, Spells, Goes, IsFile}
 use Rattle.go_grammar.proofs.Ranges.{words_order, derives_order, spells_order, goes_order}
-use Rattle.go_splice.specs.Replacing.{onto}
 use Rattle.go_splice.specs.Places.{carry, carries}
 use Rattle.go_splice.specs.Lists.{InOrder, Ordered}
 use Rattle.go_splice.proofs.Kept.{derives_kept, soft_same}

@@ -1,8 +1,7 @@
 -- How deep a tree is with changes.
 use Rattle.std.proofs.Common.{ℕ, zero, suc, ◌+◌, ◌-◌, ◌≤◌, max, List, [], ◌∷◌, arith}
 use Rattle.go_grammar.specs.declared.kind.Kind.{Kind}
-use Rattle.go_grammar.specs.Trees.{Tree, node, Trees, none, more, skip, weight, depth, depths}
-use Rattle.go_splice.specs.Replacing.{onto}
+use Rattle.go_grammar.specs.Trees.{Tree, node, Trees, none, more, skip, weight, depth, depths, onto}
 use Rattle.go_splice.specs.Places.{Patch, keep, put, inside, Patches, done, part, run, items_behind, become, become_all}
 use Rattle.go_splice.specs.Sites.{Local, whole, items, Site, parts_of, next_patch, other_patches, nth_patch, set_patch, patches_behind, add_run, insert, patch_of, levels, levels_in, AllWithin}
 use Rattle.go_splice.proofs.Texts.{depth_carry, depths_carry}

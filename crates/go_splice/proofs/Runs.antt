@@ -2,9 +2,9 @@
 use Rattle.std.proofs.Common.{◌≡◌, ℕ, List, refl, sym, ap, ◌∙◌, subst}
 use Rattle.go_tokens.specs.declared.token.TokenKind.{TokenKind}
 use Rattle.go_grammar.specs.Rules.{Items, item}
-use Rattle.go_grammar.specs.Trees.{Tree, Trees, none, more, skip, first, last}
+use Rattle.go_grammar.specs.Trees.{Tree, Trees, none, more, skip, first, last, onto}
 use Rattle.go_grammar.specs.Grammar.{Derives, Goes}
-use Rattle.go_splice.specs.Replacing.{onto, Run}
+use Rattle.go_splice.specs.Replacing.{Run}
 
 module _ (ts : List TokenKind) where
   -- a run, and then what goes on behind it

@@ -10,9 +10,9 @@ use Rattle.go_grammar.specs.declared.kind.Category.{Category}
 use Rattle.go_grammar.specs.declared.kind.Category.TheVariants as category
 use Rattle.go_grammar.specs.Categories.{place_of}
 use Rattle.go_grammar.specs.Rules.{Rule, End, Then, Maybe, Unless, Many}
-use Rattle.go_grammar.specs.Trees.{Tree, node, Trees, none, more, skip, first, last, depth}
+use Rattle.go_grammar.specs.Trees.{Tree, node, Trees, none, more, skip, first, last, depth, onto}
 use Rattle.go_grammar.specs.Grammar.{rule, agrees, IsAt, Derives}
-use Rattle.go_splice.specs.Replacing.{moved, next_category, next_rule, onto, Edge, Run}
+use Rattle.go_splice.specs.Replacing.{moved, next_category, next_rule, Edge, Run}
 
 mutual
   -- what becomes of a subtree

@@ -86,12 +86,6 @@ takes_level l category.SwitchHeader = true
 takes_level l category.ForHeader = true
 takes_level l c = false
 
--- some parts, and then others
-abbrev pub onto : Trees → Trees → Trees
-onto none qs = qs
-onto (more p ps) qs = more p (onto ps qs)
-onto (skip ps) qs = skip (onto ps qs)
-
 -- one item at least, from i up to j, with what has to stand between them
 abbrev pub Run : List TokenKind → Items → Trees → ℕ → ℕ → Type 0
 Run ts l none i j = ⊥

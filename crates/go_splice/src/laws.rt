@@ -1,4 +1,4 @@
-// Laws of derivations under replacements.
+//! Laws of derivations under replacements.
 
 ghost use Rattle.std.specs.Prelude.{◌≡◌, ◌+◌, ◌≤◌, ℕ, true, List, ◌++◌, Some, slice_get, length};
 ghost use Rattle.go_tokens.specs.declared.token.TokenKind.{TokenKind};

@@ -1,4 +1,4 @@
-// The classes of characters.
+//! The classes of characters.
 
 ghost use Rattle.std.specs.Prelude.{◌≡◌};
 ghost use Rattle.go_tokens.specs.Characters.{is_white, is_digit, is_letter, is_in_word, is_in_run, is_exponent, is_power, is_x, is_b, is_o, is_sign};

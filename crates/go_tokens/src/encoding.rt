@@ -1,4 +1,4 @@
-// From bytes to characters.
+//! From bytes to characters.
 
 ghost use Rattle.std.specs.Prelude.{◌≡◌, ◌⊎◌, ◌+◌, ◌<◌, ◌≤◌, ◌^◌, true, false, length, take, MatchOption, IfOk, IfErr};
 ghost use Rattle.std.specs.Str.{IsUtf8, IsValidUpTo, chars};

@@ -1,4 +1,4 @@
-// Why a file has no tokens.
+//! Why a file has no tokens.
 
 ghost use Rattle.std.specs.Prelude.{◌≡◌};
 ghost use Rattle.go_tokens.specs.declared.error.LexError.TheVariants.{Memory};

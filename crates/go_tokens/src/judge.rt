@@ -1,4 +1,4 @@
-// Which pieces are well formed, and what tokens they are.
+//! Which pieces are well formed, and what tokens they are.
 
 ghost use Rattle.std.specs.Prelude.{◌≡◌, ◌==◌};
 ghost use Rattle.std.specs.List.{list_any};

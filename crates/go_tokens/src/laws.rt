@@ -1,4 +1,4 @@
-// Laws of lexing, for the crates above.
+//! Laws of lexing, for the crates above.
 
 ghost use Rattle.std.specs.Prelude.{◌≡◌, ℕ, List, [], true, slice_get, slice_range};
 ghost use Rattle.std.specs.Str.{IsUtf8, chars, encode_utf8_all};

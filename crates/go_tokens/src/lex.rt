@@ -1,4 +1,4 @@
-// The tokens of a file.
+//! The tokens of a file.
 
 ghost use Rattle.std.specs.Prelude.{◌≡◌, ◌≤◌, ℕ, List, length};
 ghost use Rattle.go_base.specs.Gives.{Meets};

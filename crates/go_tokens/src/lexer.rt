@@ -1,4 +1,4 @@
-// The lexer: one piece after the other.
+//! The lexer: one piece after the other.
 
 ghost use Rattle.std.specs.Prelude.{◌≡◌, [], ◌+◌, ◌<◌, ◌≤◌, ◌^◌, None, OnOk};
 ghost use Rattle.go_base.specs.Gives.{Meets};

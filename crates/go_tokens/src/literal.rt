@@ -1,4 +1,4 @@
-// Literals: their forms and values.
+//! Literals: their forms and values.
 
 ghost use Rattle.std.specs.Prelude.{◌≡◌, ◌<◌, ◌≤◌, ◌+◌, ◌^◌, ◌&&◌, length, is_some, Some, None, IfSome, MatchOption, if◌then◌else◌};
 ghost use Rattle.go_tokens.specs.Literals.{is_digit_of, grouped, letter_base, base_of, digits_of, begins_with_digit, is_integer, digits_number, number, byte_escape, character_escape, is_code_point, letter_escape, escape, elements, inside, is_one, IsElementLength, IsFirstElement};

@@ -1,4 +1,4 @@
-// The pieces that a text is cut into.
+//! The pieces that a text is cut into.
 
 /// What a piece of a text is.
 #[derive(Clone, Copy, PartialEq, Eq, Debug)]

@@ -1,4 +1,4 @@
-// The piece that begins a text.
+//! The piece that begins a text.
 
 ghost use Rattle.std.specs.Prelude.{◌≡◌, ◌<◌, ◌∷◌, [], length, drop, Some};
 ghost use Rattle.go_tokens.specs.Pieces.{begun, goes, begins, is_end, front, Reaches, IsOperatorLength};

@@ -1,4 +1,4 @@
-// How keywords, operators and punctuation are spelled.
+//! How keywords, operators and punctuation are spelled.
 
 ghost use Rattle.std.specs.Prelude.{◌≡◌, ◌∷◌, [], map};
 ghost use Rattle.go_tokens.specs.Spellings.{same_text, spelled, word_kind, is_outside, ends_statement_kind, listed, operators, outside_operators, operator_kind};

@@ -1,4 +1,4 @@
-// What a token is.
+//! What a token is.
 
 use go_base::Span;
 

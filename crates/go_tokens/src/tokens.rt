@@ -1,4 +1,4 @@
-// The tokens and comments of a file.
+//! The tokens and comments of a file.
 
 ghost use Rattle.std.specs.Prelude.{◌≡◌, ℕ, ◌<◌, ◌≤◌, ◌^◌, IfOk, List, length, slice_get, slice_range, Some, count_by};
 ghost use Rattle.std.specs.Option.{option_map};

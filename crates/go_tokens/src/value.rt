@@ -1,4 +1,4 @@
-// The values of literals, by the bytes of their tokens.
+//! The values of literals, by the bytes of their tokens.
 
 ghost use Rattle.std.specs.Prelude.{◌≡◌, ◌==◌, ◌+◌, ◌*◌, ◌<◌, ◌≤◌, ◌^◌, ◌++◌, [], true, false, length, take, IfOk, MatchOption, if◌then◌else◌};
 ghost use Rattle.std.specs.Char.{digit_value, encode_utf8};

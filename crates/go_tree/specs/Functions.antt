@@ -3,7 +3,7 @@ use Rattle.std.specs.Prelude.{ℕ, suc, nat_lt, if◌then◌else◌, Option, Som
 use Rattle.std.specs.Option.{option_map}
 use Rattle.go_grammar.specs.declared.kind.Kind.{Kind}
 use Rattle.go_grammar.specs.declared.kind.Kind.TheVariants as kind
-use Rattle.go_grammar.specs.Reader.{◌>>=◌}
+use Rattle.go_base.specs.Optional.{◌>>=◌}
 use Rattle.go_grammar.specs.Trees.{Tree, kind_of, first, last, parts}
 use Rattle.go_tree.specs.declared.functions.FunctionDeclaration.{FunctionDeclaration}
 use Rattle.go_tree.specs.Views.{view, part_at}

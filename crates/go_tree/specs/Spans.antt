@@ -6,7 +6,7 @@ use Rattle.go_tokens.specs.declared.token.Token.{Token}
 use Rattle.go_tokens.specs.Tokens.{TokenList, span_of, text_of}
 use Rattle.go_grammar.specs.declared.kind.Kind.{Kind}
 use Rattle.go_grammar.specs.declared.kind.Kind.TheVariants as kind
-use Rattle.go_grammar.specs.Reader.{◌>>=◌}
+use Rattle.go_base.specs.Optional.{◌>>=◌}
 use Rattle.go_grammar.specs.Trees.{Tree, kind_of, first, last}
 
 -- the place of the token of this number

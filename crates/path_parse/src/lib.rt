@@ -1,7 +1,7 @@
-// The parser of Go files.
-//
-// `parse` answers the tree of a file exactly where there is one, and then that one. It is an engine over the table of
-// productions: `tree` reads a node of a category, from the left, and decides by the next two tokens.
+//! The parser of Go files.
+//!
+//! `parse` answers the tree of a file exactly where there is one, and then that one. It is an engine over the table of
+//! productions: `tree` reads a node of a category, from the left, and decides by the next two tokens.
 #![tactic(auto)]
 
 mod error;

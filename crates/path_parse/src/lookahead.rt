@@ -1,4 +1,4 @@
-// What the next tokens say.
+//! What the next tokens say.
 
 ghost use Rattle.std.specs.Prelude.{◌≡◌, ◌+◌, ◌^◌, ◌<◌, ◌≤◌, ◌↔◌, IsTrue, length, slice_get, suc, Option, Some, None, MatchResult};
 ghost use Rattle.go_tokens.specs.Tokens.{kinds};

@@ -1,4 +1,4 @@
-// The tree of a file.
+//! The tree of a file.
 
 ghost use Rattle.std.specs.Prelude.{◌≡◌, ◌^◌, ◌<◌, IfOk, length};
 ghost use Rattle.go_base.specs.Gives.{Meets};

@@ -1,4 +1,4 @@
-// Nodes that have been read, and how high they are.
+//! Nodes that have been read, and how high they are.
 
 ghost use Rattle.std.specs.Prelude.{◌≡◌, ◌+◌, ◌^◌, ◌<◌, ◌≤◌, [], ◌∷◌, ◌++◌, max, suc, IfOk};
 ghost use Rattle.path_tree.specs.Trees.{view, first, last};

@@ -1,4 +1,4 @@
-// The engine: a few functions over the table of productions.
+//! The engine: a few functions over the table of productions.
 
 ghost use Rattle.std.specs.Prelude.{◌≡◌, ◌+◌, ◌^◌, ◌<◌, ◌≤◌, length, slice_get, MatchResult, IfOk, Some, None, suc};
 ghost use Rattle.go_tokens.specs.Tokens.{kinds};

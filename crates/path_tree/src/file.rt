@@ -1,4 +1,4 @@
-// The tree of a whole file.
+//! The tree of a whole file.
 
 ghost use Rattle.std.specs.Prelude.{◌≡◌, ℕ, ◌<◌, ◌≤◌, length, Some};
 ghost use Rattle.go_tokens.specs.Tokens.{kinds};

@@ -1,4 +1,4 @@
-// The grammar as data: for each kind of node the right side of its production.
+//! The grammar as data: for each kind of node the right side of its production.
 
 ghost use Rattle.std.specs.Prelude.{◌≡◌};
 ghost use Rattle.path_tree.specs.Grammar.{level, operator_level, rule, within};

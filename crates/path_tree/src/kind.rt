@@ -1,4 +1,4 @@
-// What a node of a syntax tree is, and what may stand at a place.
+//! What a node of a syntax tree is, and what may stand at a place.
 
 /// A binary operator (Go specification: Operators).
 #[derive(Clone, Copy, Debug, PartialEq, Eq)]

@@ -1,4 +1,4 @@
-// Laws of the grammar.
+//! Laws of the grammar.
 
 ghost use Rattle.std.specs.Prelude.{◌≡◌, ℕ, ◌<◌, ◌≤◌, List, Some, length};
 ghost use Rattle.go_tokens.specs.declared.token.TokenKind.{TokenKind};

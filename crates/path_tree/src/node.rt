@@ -1,4 +1,4 @@
-// The nodes of a syntax tree.
+//! The nodes of a syntax tree.
 
 ghost use Rattle.std.specs.Prelude.{◌≡◌, []};
 ghost use Rattle.std.specs.Option.{option_map};

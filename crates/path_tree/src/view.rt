@@ -1,4 +1,4 @@
-// Functions and statements, as nodes hold them.
+//! Functions and statements, as nodes hold them.
 
 ghost use Rattle.std.specs.Prelude.{◌≡◌};
 ghost use Rattle.std.specs.Option.{option_map};

@@ -1,4 +1,4 @@
-// Windows of statements, and the words that they show.
+//! Windows of statements, and the words that they show.
 
 ghost use Rattle.std.specs.Prelude.{◌≡◌};
 ghost use Rattle.path_tree.specs.Windows.{as_called};

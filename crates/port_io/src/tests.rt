@@ -1,4 +1,4 @@
-// The adapters over std: no clause says what a file system holds, nor that a call can succeed.
+//! The adapters over std: no clause says what a file system holds, nor that a call can succeed.
 
 ghost use Rattle.std.specs.Prelude.{◌≡◌, IsSome};
 

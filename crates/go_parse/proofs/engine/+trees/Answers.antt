@@ -19,12 +19,12 @@ use Rattle.go_grammar.specs.Grammar.{rule, agrees, ends, result_words}
 use Rattle.go_grammar.specs.Rules.{Rule, End, Then, Maybe, Unless, Many, item}
 use Rattle.go_grammar.specs.Reader.{opens_before, begins, continues, fits, after_first, words, turn, lead, next, read, grow, spell, option, items, Tends}
 use Rattle.go_grammar.specs.Symbols.{prepend, right, repeated}
-use Rattle.go_grammar.specs.Trees.{Trees, node, none, more, kind_of, first, last, weight, depth, depths}
+use Rattle.go_grammar.specs.Trees.{Trees, node, none, more, kind_of, first, last, weight, depth, depths, onto}
 use Rattle.go_grammar.proofs.Steps.{read_on, grow_on}
 use Rattle.go_tree.specs.Views.{view, views}
 use Rattle.go_parse.specs.declared.error.Stop.TheVariants as stop
 use Rattle.go_parse.specs.declared.row.Row.{Row}
-use Rattle.go_parse.specs.Engine.{IsLow, IsRowOn, LeadsOn, IsFinished, IsOpened, IsNotOpened, IsJoined, IsNotJoined, stop_refusal, onto, rank, lag, prefix, is_worded, is_solid}
+use Rattle.go_parse.specs.Engine.{IsLow, IsRowOn, LeadsOn, IsFinished, IsOpened, IsNotOpened, IsJoined, IsNotJoined, stop_refusal, rank, lag, prefix, is_worded, is_solid}
 use Rattle.go_parse.proofs.Found.{lacks, lacks_map, length-kinds, token_within, found_stands, spelled_stands, worded_grows, worded_starts, solid_grows, right_after, word_behind, turn_stops, turn_passes, turn_item, pass_there, next_on, fits_part}
 use Rattle.go_parse.proofs.Ranks.{opened_words, joined_ranks, rank_low}
 use Rattle.go_parse.proofs.Rows.{behind, skipped, low_with, low_without, leads_with, leads_without, leads_same, leads_begin, leads_leads, leads_to, leads_end, views_push, row_on, drop_get, drop_past, from_one}
