@@ -164,7 +164,8 @@ fn spelled(
     requires size { length tokens.now.tokens < 2 ^ 32 }
     requires low { IsLow room row }
     ensures low { IfOk result (IsLow room) }
-    ensures exact { Meets stop_refusal result (λ r. IsRowOn (λ n. reader.spell n (kinds tokens.now.tokens) room (right symbols.now) row.last) row r) (λ _. reader.Tends (λ n. reader.spell n (kinds tokens.now.tokens) room (right symbols.now) row.last) None) }
+    ensures exact { Meets stop_refusal result (λ r. IsRowOn (λ n. reader.spell n (kinds tokens.now.tokens) room (right symbols.now) row.last) row r)
+        (λ _. reader.Tends (λ n. reader.spell n (kinds tokens.now.tokens) room (right symbols.now) row.last) None) }
 {
     let mut so_far = row;
     for symbol in symbols {
@@ -227,7 +228,8 @@ fn items(
     requires size { length tokens.now.tokens < 2 ^ 32 }
     requires low { IsLow room row }
     ensures low { IfOk result (IsLow room) }
-    ensures exact { Meets stop_refusal result (λ r. IsRowOn (λ n. reader.items n (kinds tokens.now.tokens) room (repeated repetition) row.last) row r) (λ _. reader.Tends (λ n. reader.items n (kinds tokens.now.tokens) room (repeated repetition) row.last) None) }
+    ensures exact { Meets stop_refusal result (λ r. IsRowOn (λ n. reader.items n (kinds tokens.now.tokens) room (repeated repetition) row.last) row r)
+        (λ _. reader.Tends (λ n. reader.items n (kinds tokens.now.tokens) room (repeated repetition) row.last) None) }
 {
     let mut so_far = row;
     let mut turned = turn(repetition, kind_at(tokens, so_far.last));

@@ -165,7 +165,8 @@ fn expect_optional(tokens: &Tokens, at: u32, word: Option<TokenKind>) -> Result<
 /// The place behind the words that end items.
 pub fn closed(tokens: &Tokens, repetition: Repetition, at: u32) -> Result<u32, Stop>
     requires { length tokens.now.tokens < 2 ^ 32 }
-    ensures { Meets (λ e. Some e) result (λ next. reader.words (kinds tokens.now.tokens) at (reader.closing (repeated repetition)) ≡ Some next) (λ e. (e ≡ Stop.Syntax) × (reader.words (kinds tokens.now.tokens) at (reader.closing (repeated repetition)) ≡ None)) }
+    ensures { Meets (λ e. Some e) result (λ next. reader.words (kinds tokens.now.tokens) at (reader.closing (repeated repetition)) ≡ Some next)
+        (λ e. (e ≡ Stop.Syntax) × (reader.words (kinds tokens.now.tokens) at (reader.closing (repeated repetition)) ≡ None)) }
 {
     match repetition {
         Repetition::Lines { close, .. } => expect(tokens, at, close),

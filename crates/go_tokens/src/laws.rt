@@ -9,7 +9,7 @@ ghost use Rattle.go_tokens.specs.declared.token.Token.{Token};
 ghost use Rattle.go_tokens.specs.Literals.{is_integer, is_one, rune_elements};
 ghost use Rattle.go_tokens.specs.Pieces.{is_piece, is_good};
 ghost use Rattle.go_tokens.specs.Lexing.{join, Cut, tokens, comments, Lexes};
-ghost use Rattle.go_tokens.specs.Files.{IsLexing, IsFault};
+ghost use Rattle.go_tokens.specs.Files.{IsLexing, IsFault, HasToken};
 ghost use Rattle.go_tokens.specs.Replacing.{Part, Fits, NewLexing, old_pieces};
 ghost use Rattle.go_tokens.specs.Editing.{Edits, old_text, Allows, EditedLexing, AreFileEdits, all_apart, has_no_line};
 
@@ -50,8 +50,8 @@ pub fn assembled_text()
 /// What the texts of literals are, so that the contracts of `value` tell their values: an integer's bytes are its
 /// characters and an integer literal, a rune's and a string's are UTF-8, and a rune has one character or escape.
 pub fn literals()
-    ensures integer { (file : ℕ) (bytes : List ℕ) (ts : List Token) (cs : List Span) (i : ℕ) (t : Token) → IsLexing file bytes ts cs → slice_get ts i ≡ Some t → t.kind ≡ TokenKind.Integer → is_integer (slice_range bytes t.span.start t.span.end) ≡ true }
-    ensures rune { (file : ℕ) (bytes : List ℕ) (ts : List Token) (cs : List Span) (i : ℕ) (t : Token) → IsLexing file bytes ts cs → slice_get ts i ≡ Some t → t.kind ≡ TokenKind.Rune → IsUtf8 (slice_range bytes t.span.start t.span.end) × (is_one (rune_elements (chars (slice_range bytes t.span.start t.span.end))) ≡ true) }
-    ensures text { (file : ℕ) (bytes : List ℕ) (ts : List Token) (cs : List Span) (i : ℕ) (t : Token) → IsLexing file bytes ts cs → slice_get ts i ≡ Some t → t.kind ≡ TokenKind.Text → IsUtf8 (slice_range bytes t.span.start t.span.end) }
+    ensures integer { (bytes spelled : List ℕ) → HasToken bytes TokenKind.Integer spelled → is_integer spelled ≡ true }
+    ensures rune { (bytes spelled : List ℕ) → HasToken bytes TokenKind.Rune spelled → IsUtf8 spelled × (is_one (rune_elements (chars spelled)) ≡ true) }
+    ensures text { (bytes spelled : List ℕ) → HasToken bytes TokenKind.Text spelled → IsUtf8 spelled }
     ensures ascii { (text : List ℕ) → is_integer text ≡ true → encode_utf8_all text ≡ text }
 {}

@@ -57,7 +57,8 @@ pub fn types_keep_their_numbers()
 
 /// A declared type gets the underlying type of its right side.
 pub fn definitions_give_underlying_types()
-    ensures { (t : Table) (named right : ℕ) (u : TypeTree) → IsTable t → IsOpen t named → Underlying (rights_of (defined t named right)) (type_of t.shapes right) u → Underlying (rights_of (defined t named right)) (type_of t.shapes named) u }
+    ensures { (t : Table) (named right : ℕ) (u : TypeTree) → IsTable t → IsOpen t named → Underlying (rights_of (defined t named right)) (type_of t.shapes right) u →
+        Underlying (rights_of (defined t named right)) (type_of t.shapes named) u }
 {}
 
 /// No type contains itself where each type that is held is less by some measure.
