@@ -1,11 +1,11 @@
 //! The run of the program, from its arguments to the status that it ends with.
 
-ghost use Rattle.std.specs.Prelude.{◌≡◌, IfOk, IfErr, IfSome, IsErr, drop};
+ghost use Rattle.std.specs.Prelude.{◌≡◌, ◌↔◌, IfOk, IfErr, IfSome, IsErr, drop};
 ghost use Rattle.std.specs.Vec.Iter.{into_iter_items};
 ghost use Rattle.std.specs.IoError.{error_kind};
 ghost use Rattle.std.specs.Process.{exit_status};
 ghost use Rattle.clone_serve.specs.Arguments.{words_behind_name};
-ghost use Rattle.clone_serve.specs.Serving.{due_status, FitsScript, IsWhole, Writes, dir_of, texts_of, CountsRun, FitsWords, IsStatus};
+ghost use Rattle.clone_serve.specs.Serving.{due_status, FitsScript, IsWhole, Writes, dir_of, texts_of, CountsRun, FitsWords, IsStatus, Says};
 
 use crate::serve::serve;
 use port_io::{DirFolder, FileSink, FileSource, Folder, Sink, Source};
@@ -35,7 +35,7 @@ fn behind_first(alloc: Global, args: Args) -> Result<Vec<String>, AllocError>
 /// The words behind the program's own name. Arguments that are no text give none, so they are not taken.
 fn words_of(alloc: Global, args: io::Result<Args>) -> Result<Vec<String>, AllocError>
     ensures words { IfOk result (λ words. words.items ≡ words_behind_name args) }
-    ensures memory { IfErr args (λ error. error_kind error ≡ ErrorKind.OutOfMemory → IsErr result) }
+    ensures memory { IfErr args (λ error. IsErr result ↔ (error_kind error ≡ ErrorKind.OutOfMemory)) }
 {
     match args {
         Ok(args) => behind_first(alloc, args),
@@ -52,12 +52,15 @@ pub fn serve_arguments<F: Folder, S: Source, K: Sink>(
     script: &mut S,
     out: &mut K,
 ) -> ExitCode
-    // These clauses are those of `serve`, at the words behind the program's own name.
+    // These are clauses of `serve`, at the words behind the program's own name.
     ensures counts { CountsRun (exit_status result) (F.reading_faults folder.old) (F.reading_faults folder.new) (S.faults script.old) (S.faults script.new) (K.faults out.old) (K.faults out.new) }
     ensures words { FitsWords (dir_of (texts_of (words_behind_name args))) (exit_status result) }
+    ensures written { IfSome (K.written out.old) (λ before. Says (exit_status result) before (K.written out.new)) }
     ensures script { IfSome (S.left script.old) (λ all. FitsScript (due_status (dir_of (texts_of (words_behind_name args))) all) (exit_status result)) }
     ensures whole { IfSome (K.written out.old) (λ before. IfSome (F.held folder.old) (λ held. IfSome (S.left script.old) (λ all.
         Writes (IsWhole (dir_of (texts_of (words_behind_name args))) held all) (exit_status result) before (K.written out.new)))) }
+    ensures writing { F.writing_faults folder.new ≡ F.writing_faults folder.old }
+    ensures held { F.held folder.new ≡ F.held folder.old }
 {
     match words_of(alloc, args) {
         Ok(words) => ExitCode::from(serve(alloc, &words, folder, script, out)),
