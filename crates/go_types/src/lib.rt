@@ -4,6 +4,10 @@
 //! contract: equal numbers are identical types, and each answer is the one that the rules of the Go
 //! specification give for the types that the numbers stand for, which are finite trees under the
 //! right sides of the declared types (specs/Trees.antt, Relations.antt and Tables.antt).
+//!
+//! What is known of each settled type is kept beside its shape, and each other type waits for a part
+//! of which nothing is known; a definition wakes those that wait for it (specs/Waiting.antt). So no
+//! call walks over the parts of a type.
 #![tactic(auto)]
 
 mod finding;
