@@ -3,11 +3,14 @@ use Rattle.std.proofs.Common.{◌≡◌, ℕ, zero, suc, ◌+◌, ◌-◌, ◌<�
 use Rattle.std.specs.Prelude.{slice_get}
 use Rattle.std.proofs.lemmas.List.{length-append, length-take-le, length-drop}
 use Rattle.go_tokens.specs.declared.token.Token.{Token}
+use Rattle.go_tokens.specs.Spellings.{ends_statement_kind}
+use Rattle.go_tokens.specs.Tokens.{kinds}
 use Rattle.go_tokens.specs.Replacing.{Item, read}
 use Rattle.go_splice.specs.Replacing.{moved}
 use Rattle.go_splice.specs.Places.{Outside, Ascending, ranges, moved_by}
+use Rattle.go_splice.specs.Endings.{Ending}
 use Rattle.go_splice.proofs.Changes.{get_front, get_left, get_right, get_drop, low, high}
-use Rattle.go_rewrite.specs.Rewriting.{Rewrite, own, words, new_items, changes, rewritten, move, ItemsKept}
+use Rattle.go_rewrite.specs.Rewriting.{Rewrite, own, words, new_items, changes, rewritten, move, IsRange, ItemsKept}
 use Rattle.go_rewrite.proofs.Trees.{change_of}
 
 -- one range of a list
@@ -96,3 +99,16 @@ module _ (us : List Item) where
 
   pub items_kept : (rs : List Rewrite) → Ascending 0 (ranges (changes rs)) (length us) → ItemsKept rs us
   items_kept rs h = record { stay = λ n out. stays rs 0 n h out; stand = λ k r e j lt. stands rs 0 k r h e j lt }
+
+get_map : {A B : Type 0} (f : A → B) (xs : List A) (n : ℕ) (x : A) → slice_get xs n ≡ Some x → slice_get (map f xs) n ≡ Some (f x)
+get_map f [] n x e = cc
+get_map f (y ∷ xs) zero x e = let same : y ≡ x = cc in ap (λ z. Some (f z)) same
+get_map f (y ∷ xs) (suc n) x e = get_map f xs n x e
+
+-- a range that ends well ends with a token that does
+pub range_ends : (ts : List Token) (from upto start end : ℕ) (r : IsRange ts from upto start end) → Ending (kinds ts) upto → ends_statement_kind r.last.kind ≡ true
+range_ends ts from upto start end r e =
+    let place : upto - 1 ≡ e.place = omega (arith, e.next) in
+    let here : Some r.last.kind ≡ Some e.word = sym (get_map (λ (t : Token). t.kind) ts (upto - 1) r.last r.has_last) ∙ ap (slice_get (kinds ts)) place ∙ e.is in
+    let same : r.last.kind ≡ e.word = cc in
+    ap ends_statement_kind same ∙ e.ends
