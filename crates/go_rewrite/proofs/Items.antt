@@ -1,5 +1,5 @@
 -- Where tokens with their texts stand after ranges are replaced.
-use Rattle.std.proofs.Common.{◌≡◌, ℕ, zero, suc, ◌+◌, ◌-◌, ◌<◌, ◌≤◌, ◌⊎◌, inl, inr, Bool, true, false, List, [], ◌∷◌, ◌++◌, length, take, drop, map, Some, refl, sym, ap, ◌∙◌, subst, arith}
+use Rattle.std.proofs.Common.{◌≡◌, ℕ, zero, suc, ◌+◌, ◌-◌, ◌<◌, ◌≤◌, ◌⊎◌, inl, inr, true, List, [], ◌∷◌, ◌++◌, length, take, drop, map, Some, refl, sym, ap, ◌∙◌, subst, arith}
 use Rattle.std.specs.Prelude.{slice_get}
 use Rattle.std.proofs.lemmas.List.{length-append, length-take-le, length-drop}
 use Rattle.go_tokens.specs.declared.token.Token.{Token}
@@ -7,7 +7,7 @@ use Rattle.go_tokens.specs.Spellings.{ends_statement_kind}
 use Rattle.go_tokens.specs.Tokens.{kinds}
 use Rattle.go_tokens.specs.Replacing.{Item, read}
 use Rattle.go_splice.specs.Replacing.{moved}
-use Rattle.go_splice.specs.Places.{Outside, Ascending, ranges, moved_by}
+use Rattle.go_splice.specs.Places.{Outside, Ascending, ranges}
 use Rattle.go_splice.specs.Endings.{Ending}
 use Rattle.go_splice.proofs.Changes.{get_front, get_left, get_right, get_drop, low, high}
 use Rattle.go_rewrite.specs.Rewriting.{Rewrite, own, words, new_items, changes, rewritten, move, IsRange, ItemsKept}

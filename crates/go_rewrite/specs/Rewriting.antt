@@ -20,7 +20,7 @@ use Rattle.go_grammar.specs.Rules.{Items, Rule}
 use Rattle.go_grammar.specs.Trees.{Tree, node, Trees, first, last, depth}
 use Rattle.go_grammar.specs.Grammar.{rule, Derives, IsFile}
 use Rattle.go_splice.specs.Replacing.{Edge, subtree_at, asked_at, Run}
-use Rattle.go_splice.specs.Places.{carry, carries, become, agreed, Change, changed, moved_by, range, ranges, Outside, Ascending, with_declaration, IsDeclaration}
+use Rattle.go_splice.specs.Places.{carry, carries, become, agreed, Change, changed, moved_by, range, ranges, Outside, with_declaration, IsDeclaration}
 use Rattle.go_splice.specs.Sites.{Local, whole, items, Site, patch_of, local_range}
 use Rattle.go_splice.specs.Lists.{items_at, has_run}
 
