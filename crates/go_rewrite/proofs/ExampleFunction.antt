@@ -27,7 +27,8 @@ use Rattle.go_splice.specs.Places.{IsDeclaration}
 use Rattle.go_rewrite.specs.Rewriting.{Rewrite, edits, TextFits, TreeFits, NewDeclaration}
 use Rattle.go_rewrite.proofs.Tokens.{among_get}
 use Rattle.go_rewrite.proofs.Rewritten.{new_declaration}
-use Rattle.go_rewrite.proofs.Testing.{tree_in, written, statement_at, statements, in_block, statements_run, plain_edge}
+use Rattle.go_splice.specs.Lists.{in_block}
+use Rattle.go_rewrite.proofs.Testing.{tree_in, written, statement_at, statements, statements_run, plain_edge}
 
 abbrev old_text_is : List ℕ
 old_text_is = codes "\nfunc addmul(a int, p0 int) int {\naddmul()\nreturn b\n}\n"

@@ -30,7 +30,8 @@ use Rattle.go_splice.specs.Places.{IsDeclaration}
 use Rattle.go_rewrite.specs.Rewriting.{Rewrite, edits, TextFits, TreeFits, NewFile}
 use Rattle.go_rewrite.proofs.Tokens.{among_get}
 use Rattle.go_rewrite.proofs.Rewritten.{new_file}
-use Rattle.go_rewrite.proofs.Testing.{tree_in, written, statement_at, statements, in_block, in_clause, statements_run, plain_edge}
+use Rattle.go_splice.specs.Lists.{in_block, in_clause}
+use Rattle.go_rewrite.proofs.Testing.{tree_in, written, statement_at, statements, statements_run, plain_edge}
 
 abbrev old_text_is : List ℕ
 old_text_is = codes "package p\n\nfunc f(x int) {\n\tx++\n\tx--\n\tg(x)\n\tx++\n\tx--\n\tswitch x {\n\tcase 1: g(x); x++; x--}\n}\n// end"

@@ -9,6 +9,7 @@ mod ExampleParameter
 mod ExampleSwitch
 mod ExampleWindows
 mod Excerpts
+mod Items
 mod Numbers
 mod Parts
 mod Rewritten

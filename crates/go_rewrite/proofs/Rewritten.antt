@@ -41,6 +41,7 @@ new_file file old new ts cs t rs rest tail us added h =
       comments = f.new.comments;
       lexing = record { text = new_text (edits rs rest) tail; is_text = h.new_bytes; lexes = f.new.lexes };
       texts = f.new.texts;
+      kept = f.new.kept;
       kinds_are = f.new.kinds_are;
       tree = subst (λ ks. IsFile ks (extended (length (changed (changes rs) (kinds ts))) (kinds us) added (new_tree rs t))) (sym f.new.kinds_are) (extended_is (changed (changes rs) (kinds ts)) (kinds us) (new_tree rs t) added tree h.added_fits);
     }
@@ -58,6 +59,7 @@ new_declaration file ts cs t rs rest h d low =
       comments = f.new.comments;
       lexes = f.new.lexes;
       texts = f.new.texts ∙ append-nil (rewritten rs (map (read (old_text (edits rs rest))) ts));
+      kept = f.new.kept;
       kinds_are = same;
       declaration = subst (λ ks. IsDeclaration ks (new_tree rs t)) (sym same) (record { derives = e.derives; begins = e.begins; closed = e.closed; all = e.all; shallow = low });
     }

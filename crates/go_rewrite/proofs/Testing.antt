@@ -10,7 +10,7 @@ use Rattle.go_tokens.specs.Editing.{IsWritten}
 use Rattle.go_grammar.specs.declared.kind.Kind.TheVariants as kind
 use Rattle.go_grammar.specs.declared.kind.Category.{Category}
 use Rattle.go_grammar.specs.declared.kind.Category.TheVariants as category
-use Rattle.go_grammar.specs.Rules.{Items, Lines, Open}
+use Rattle.go_grammar.specs.Rules.{Items}
 use Rattle.go_grammar.specs.Trees.{Tree, node, Trees, none, more, skip, first, last}
 use Rattle.go_grammar.specs.Grammar.{IsAt, Only, Derives}
 use Rattle.go_grammar.specs.Words.{is_word}
@@ -19,6 +19,7 @@ use Rattle.go_grammar.proofs.Rows.{and_both}
 use Rattle.go_grammar.proofs.Sound.{read_stands}
 use Rattle.go_grammar.proofs.Words.{at-is_word}
 use Rattle.go_splice.specs.Replacing.{Edge, Run}
+use Rattle.go_splice.specs.Lists.{in_block, in_clause}
 use Rattle.go_rewrite.specs.Rewriting.{is_written}
 
 -- the tree that a reading finds
@@ -51,12 +52,6 @@ statements_end zero None ts j = false
 statements_end (suc n) None ts j = false
 statements_end zero (Some p) ts j = last p == j
 statements_end (suc n) (Some p) ts j = is_word (slice_get ts (last p)) token.Semicolon && statements_end n (statement_at ts (suc (last p))) ts j
-
-abbrev pub in_block : Items
-in_block = Lines true category.Statement token.Semicolon token.RightBrace
-
-abbrev pub in_clause : Items
-in_clause = Open category.Statement token.Semicolon
 
 -- those of a block or a clause
 abbrev pub listed_in : Bool → Items

@@ -18,6 +18,7 @@ use Rattle.go_rewrite.specs.Rewriting.{Rewrite, edits, changes, rewritten, IsRan
 use Rattle.go_rewrite.proofs.Numbers.{earlier}
 use Rattle.go_rewrite.proofs.Parts.{swaps_of, swaps, swapped, rewritten_swaps, spliced_swapped, kind_in, to_changes, kinds_read, same_changes, changed_kinds, swaps_ascend}
 use Rattle.go_rewrite.proofs.Aligned.{aligned}
+use Rattle.go_rewrite.proofs.Items.{items_kept}
 
 pub among_get : (ts : List Token) (i : ℕ) (t : Token) → slice_get ts i ≡ Some t → IsAmong ts t
 among_get [] i t e = cc
@@ -71,8 +72,8 @@ pub record Found (file : ℕ) (ts : List Token) (rs : List Rewrite) (rest tail :
 
 pub found : (file : ℕ) (ts : List Token) (cs : List Span) (rs : List Rewrite) (rest tail : List ℕ) (us : List Token) → Lexes file (old_text (edits rs rest)) ts cs → TextsFit file ts 0 rs rest tail → IsTail file tail us → Found file ts rs rest tail us
 found file ts cs rs rest tail us l h t = record {
-  new = record { tokens = e.tokens; comments = e.comments; lexes = e.lexes; texts = texts; kinds_are = kinds_are };
-  ascend = subst (λ xs. Ascending 0 (ranges xs) (length (kinds ts))) (ap to_changes exchanged ∙ same_changes rs) (subst (Ascending 0 (ranges (to_changes (swaps_of 0 e.parts)))) long (swaps_ascend e.parts e.tail_pieces 0 e.fits));
+  new = record { tokens = e.tokens; comments = e.comments; lexes = e.lexes; texts = texts; kept = items_kept (map (read (old_text (edits rs rest))) ts) rs (subst (Ascending 0 (ranges (changes rs))) many ascend); kinds_are = kinds_are };
+  ascend = ascend;
 }
   where
     old : List ℕ
@@ -124,3 +125,9 @@ found file ts cs rs rest tail us l h t = record {
         let many : length (spliced (λ old new. old) e.parts) ≡ length ts = ap length old_items ∙ length_map (read (old_text (edits rs rest))) ts in
         let kinds_many : length (kinds ts) ≡ length ts = length_map (λ (t : Token). t.kind) ts in
         omega (arith, many, kinds_many)
+
+    ascend : Ascending 0 (ranges (changes rs)) (length (kinds ts))
+    ascend = subst (λ xs. Ascending 0 (ranges xs) (length (kinds ts))) (ap to_changes exchanged ∙ same_changes rs) (subst (Ascending 0 (ranges (to_changes (swaps_of 0 e.parts)))) long (swaps_ascend e.parts e.tail_pieces 0 e.fits))
+
+    many : length (kinds ts) ≡ length (map (read (old_text (edits rs rest))) ts)
+    many = length_map (λ (t : Token). t.kind) ts ∙ sym (length_map (read (old_text (edits rs rest))) ts)

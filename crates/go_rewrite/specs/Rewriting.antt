@@ -20,7 +20,7 @@ use Rattle.go_grammar.specs.Rules.{Items, Rule}
 use Rattle.go_grammar.specs.Trees.{Tree, node, Trees, first, last, depth}
 use Rattle.go_grammar.specs.Grammar.{rule, Derives, IsFile}
 use Rattle.go_splice.specs.Replacing.{Edge, subtree_at, asked_at, Run}
-use Rattle.go_splice.specs.Places.{carry, carries, become, agreed, Change, changed, moved_by, range, with_declaration, IsDeclaration}
+use Rattle.go_splice.specs.Places.{carry, carries, become, agreed, Change, changed, moved_by, range, ranges, Outside, with_declaration, IsDeclaration}
 use Rattle.go_splice.specs.Sites.{Local, whole, items, Site, patch_of, local_range}
 use Rattle.go_splice.specs.Lists.{items_at, has_run}
 
@@ -106,8 +106,8 @@ pub record IsRange (ts : List Token) (from upto start end : ℕ) : Type 0 where
   pub ends : last.span.end ≡ end
 
 -- What is asked of the text of a range in a text with the tokens ts, where the text behind the range is first this and then
--- that. The new text stands alone, neighbours at a seam don't join (a period behind a name doesn't), and where a line ends behind the range, a semicolon is
--- inserted behind its new last token exactly where one is behind the old.
+-- that. The new text stands alone, neighbours at a seam don't join (a period behind a name doesn't), and where a line ends
+-- behind the range, a semicolon is inserted behind its new last token exactly where one is behind the old.
 pub record TextFits (file : ℕ) (ts : List Token) (at : ℕ) (r : Rewrite) (old_behind new_behind : List ℕ) : Type 0 where
   pub range : IsRange ts r.from r.upto (at + width r.kept) (at + width r.kept + width r.old)
   pub stands : Stands file r.new
@@ -174,12 +174,19 @@ pub record IsTail (file : ℕ) (tail : List ℕ) (ts : List Token) : Type 0 wher
   pub comments : List Span
   pub lexes : Lexes file tail ts comments
 
+-- Behind the changes each token that is in no range stands at its moved place with its text, and the tokens of each new text
+-- stand from the moved place of their range on.
+pub record ItemsKept (rs : List Rewrite) (us : List Item) : Type 0 where
+  pub stay : (n : ℕ) → Outside n (ranges (changes rs)) → slice_get (rewritten rs us) (move rs n) ≡ slice_get us n
+  pub stand : (k : ℕ) (r : Rewrite) → slice_get rs k ≡ Some r → (j : ℕ) → j < length (new_items r) → slice_get (rewritten rs us) (move rs r.from + j) ≡ slice_get (new_items r) j
+
 -- The new text has these tokens, which are the old ones with the ranges replaced, and behind them those of the tail.
 pub record NewTokens (file : ℕ) (ts : List Token) (rs : List Rewrite) (rest tail : List ℕ) (us : List Token) : Type 0 where
   pub tokens : List Token
   pub comments : List Span
   pub lexes : Lexes file (new_text (edits rs rest) tail) tokens comments
   pub texts : map (read (new_text (edits rs rest) tail)) tokens ≡ rewritten rs (map (read (old_text (edits rs rest))) ts) ++ map (read tail) us
+  pub kept : ItemsKept rs (map (read (old_text (edits rs rest))) ts)
   pub kinds_are : kinds tokens ≡ changed (changes rs) (kinds ts) ++ kinds us
 
 -- The tokens of a rewritten declaration, and its tree.
@@ -188,6 +195,7 @@ pub record NewDeclaration (file : ℕ) (ts : List Token) (t : Tree) (rs : List R
   pub comments : List Span
   pub lexes : Lexes file (new_text (edits rs rest) []) tokens comments
   pub texts : map (read (new_text (edits rs rest) [])) tokens ≡ rewritten rs (map (read (old_text (edits rs rest))) ts)
+  pub kept : ItemsKept rs (map (read (old_text (edits rs rest))) ts)
   pub kinds_are : kinds tokens ≡ changed (changes rs) (kinds ts)
   pub declaration : IsDeclaration (kinds tokens) (new_tree rs t)
 
@@ -220,6 +228,7 @@ pub record NewFile (file : ℕ) (new : List ℕ) (ts : List Token) (t : Tree) (r
   pub comments : List Span
   pub lexing : IsLexing file new tokens comments
   pub texts : map (read (new_text (edits rs rest) tail)) tokens ≡ rewritten rs (map (read (old_text (edits rs rest))) ts) ++ map (read tail) us
+  pub kept : ItemsKept rs (map (read (old_text (edits rs rest))) ts)
   pub kinds_are : kinds tokens ≡ changed (changes rs) (kinds ts) ++ kinds us
   pub tree : IsFile (kinds tokens) (extended (length (changed (changes rs) (kinds ts))) (kinds us) added (new_tree rs t))
 

@@ -3,15 +3,18 @@
 ghost use Rattle.std.specs.Prelude.{◌≡◌, ◌≤◌, true, ℕ, List};
 ghost use Rattle.go_tokens.specs.declared.token.Token.{Token};
 ghost use Rattle.go_tokens.specs.declared.token.TokenKind.{TokenKind};
+ghost use Rattle.go_tokens.specs.Spellings.{ends_statement_kind};
+ghost use Rattle.go_tokens.specs.Tokens.{kinds};
 ghost use Rattle.go_tokens.specs.Lexing.{Lexes};
 ghost use Rattle.go_grammar.specs.declared.kind.Category.{Category};
 ghost use Rattle.go_grammar.specs.Rules.{Items};
 ghost use Rattle.go_grammar.specs.Trees.{Tree, Trees, depth};
 ghost use Rattle.go_grammar.specs.Grammar.{Derives};
 ghost use Rattle.go_splice.specs.Sites.{AllWithin, all_clear};
+ghost use Rattle.go_splice.specs.Endings.{Ending};
 ghost use Rattle.go_splice.specs.Lists.{AllAlike};
 ghost use Rattle.go_rewrite.specs.Excerpts.{Part, IsPart, ExcerptOf, ItemsInside, TextInside, ItemsStand, TextStands};
-ghost use Rattle.go_rewrite.specs.Rewriting.{Rewrite, sites_alone, new_tree, agreeing, Rewriting, before, HasTexts, HasTail, IsWellFormed, HasNewTokens, HasNewTree, IsDeclarationRewriting, NewDeclaration, FileRewriting, IsFileWellFormed, HasNewFile};
+ghost use Rattle.go_rewrite.specs.Rewriting.{Rewrite, IsRange, sites_alone, new_tree, agreeing, Rewriting, before, HasTexts, HasTail, IsWellFormed, HasNewTokens, HasNewTree, IsDeclarationRewriting, NewDeclaration, FileRewriting, IsFileWellFormed, HasNewFile};
 
 /// Where ranges of a file are replaced and nothing or a declaration is appended, the new bytes have the lexing and the tree that
 /// the new texts make of the old ones. What is asked is asked of each new text by itself and of its neighbours
@@ -50,6 +53,12 @@ pub fn alike_rewrites_agree()
 /// The new tree has at most `d` levels where the old one does and each new text does, with the nodes above it.
 pub fn rewrites_keep_a_depth()
     ensures { (t : Tree) (rs : List Rewrite) (d : ℕ) → depth t ≤ d → AllWithin d t (sites_alone rs) → depth (new_tree rs t) ≤ d }
+{}
+
+/// A range that is all of a statement, a run of statements, an expression or the like (`texts_end_well`) ends with a token behind
+/// which a semicolon is inserted at a line's end.
+pub fn ranges_end_well()
+    ensures { (ts : List Token) (from upto start end : ℕ) (r : IsRange ts from upto start end) → Ending (kinds ts) upto → ends_statement_kind r.last.kind ≡ true }
 {}
 
 /// The text from a token of a text up to the end of a later one has these tokens when it stands alone, comments inside

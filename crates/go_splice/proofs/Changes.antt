@@ -63,7 +63,7 @@ module _ (x : Change) (us : List TokenKind) (order : x.from < x.upto) (long : x.
 pub low : (x : Change) (xs : List Change) (n : ℕ) → n ≤ x.from → moved_by (x ∷ xs) n ≡ n
 low x xs n le = ap (λ b. if b then n else moved x.upto (x.from + length x.words) (moved_by xs n)) (le-leb n x.from le)
 
-high : (x : Change) (xs : List Change) (n : ℕ) → x.from < n → moved_by (x ∷ xs) n ≡ moved x.upto (x.from + length x.words) (moved_by xs n)
+pub high : (x : Change) (xs : List Change) (n : ℕ) → x.from < n → moved_by (x ∷ xs) n ≡ moved x.upto (x.from + length x.words) (moved_by xs n)
 high x xs n lt = go (nat_le n x.from) refl
   where
     go : (b : Bool) → nat_le n x.from ≡ b → (if nat_le n x.from then n else moved x.upto (x.from + length x.words) (moved_by xs n)) ≡ moved x.upto (x.from + length x.words) (moved_by xs n)
