@@ -10,4 +10,8 @@ mod files;
 #[cfg(test)]
 mod path_files;
 #[cfg(test)]
+mod texts;
+#[cfg(test)]
 mod trees;
+#[cfg(test)]
+mod types;

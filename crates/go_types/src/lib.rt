@@ -15,8 +15,6 @@ mod index;
 mod keys;
 pub mod laws;
 mod shape;
-#[cfg(test)]
-mod tests;
 mod types;
 mod verdict;
 mod waits;

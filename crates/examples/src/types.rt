@@ -1,9 +1,8 @@
 //! Tests: long chains of types, and types that hold another one many times over, are told of at
 //! once, whether or not they are settled, and in whichever order they are defined.
-use crate::shape::{Field, Fields, Shape, TypeId};
-use crate::types::Types;
 use go_base::Bytes;
 use go_ints::Kind;
+use go_types::{Field, Fields, Shape, TypeId, Types};
 use std::alloc::Global;
 use std::process::Abort;
 use std::test::Fail;
