@@ -95,7 +95,7 @@ pub fn push_asked<'a>(
     unit: &Unit<'a>,
     told: &[Option<Meaning<'a>>],
 ) -> Result<(), AllocError>
-    ensures { OnOk result ((ms : List meanings.Meaning) → AreNamed ms file (unit_view unit.now).tokens (unit_view unit.now).events told.now → map asked_view out.new.items ≡ map asked_view out.old.items ++ unit_asked ms file (unit_view unit.now)) }
+    ensures { OnOk result ((ms : List meanings.Meaning) → AreNamed ms file unit.now.tokens.now unit.now.events.items told.now → map asked_view out.new.items ≡ map asked_view out.old.items ++ unit_asked ms file (unit_view unit.now)) }
 {
     for (number, event) in unit.events.iter().enumerate() {
         if let Some(asked) = asked_by(file, unit.tokens, event, told_at(told, number)) {

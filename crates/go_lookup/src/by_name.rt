@@ -11,7 +11,7 @@ ghost use Rattle.go_lookup.specs.Views.{units_view, found_view, meaning_view};
 
 use crate::found::Found;
 use crate::meaning::{Meaning, lies_inside, meanings, object_by};
-use crate::sorted::{Sorted, by_block};
+use crate::sorted::{Sorted, by_block, or_none};
 use crate::unit::{Unit, is_blank};
 use go_base::Memory;
 use go_tree::object::{Extent, Object};
@@ -26,16 +26,6 @@ type NamedLocals<'a> = HashMap<(u32, &'a [u8]), Vec<Meaning<'a>>>;
 pub struct Named<'a> {
     sorted: Sorted<'a>,
     locals: NamedLocals<'a>,
-}
-
-/// The meanings that were there, or none.
-fn or_none(alloc: Global, own: Option<Vec<Meaning<'_>>>) -> Vec<Meaning<'_>>
-    ensures { map meaning_view result.items ≡ items_of own.entry }
-{
-    match own {
-        None => Vec::new(alloc),
-        Some(own) => own,
-    }
 }
 
 /// Puts a local meaning behind those of its name in its file.

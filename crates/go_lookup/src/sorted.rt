@@ -75,7 +75,7 @@ fn outer_names<'a>(alloc: Global, all: &[Meaning<'a>]) -> Result<OuterNames<'a>,
 }
 
 /// The meanings that were there, or none.
-fn or_none(alloc: Global, own: Option<Vec<Meaning<'_>>>) -> Vec<Meaning<'_>>
+pub fn or_none(alloc: Global, own: Option<Vec<Meaning<'_>>>) -> Vec<Meaning<'_>>
     ensures { map meaning_view result.items ≡ items_of own.entry }
 {
     match own {
