@@ -8,6 +8,8 @@
 #[cfg(test)]
 mod files;
 #[cfg(test)]
+mod names;
+#[cfg(test)]
 mod path_files;
 #[cfg(test)]
 mod texts;

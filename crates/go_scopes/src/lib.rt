@@ -18,6 +18,4 @@ pub mod names;
 mod redeclared;
 pub mod repeated;
 pub mod resolve;
-#[cfg(test)]
-mod tests;
 mod unused;

@@ -1,14 +1,14 @@
 //! Worked packages.
 
-use crate::error::ResolveError;
-use crate::names::names_of;
-use crate::repeated::{NamePlace, redeclared_names, repeated_parameters};
-use crate::resolve::{resolve, units_of};
 use go_base::Span;
 use go_cycles::order::order_of;
 use go_lookup::found::{all_found, new_among};
 use go_lookup::look_up::look_up;
 use go_parse::parse;
+use go_scopes::error::ResolveError;
+use go_scopes::names::names_of;
+use go_scopes::repeated::{NamePlace, redeclared_names, repeated_parameters};
+use go_scopes::resolve::{resolve, units_of};
 use go_tokens::lex::lex;
 use go_tree::context::{Block, Entity, Scope};
 use go_tree::file::File;
