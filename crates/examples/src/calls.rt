@@ -1,0 +1,132 @@
+//! Each call of the lowest crates once, with ample memory, and what is generic at a concrete type.
+
+ghost use Rattle.std.specs.Prelude.{◌≡◌, ◌≤◌};
+ghost use Rattle.go_base.specs.Steps.{no_counts};
+
+use go_base::{Bytes, FaultCode, Phase, Steps};
+use go_constants::{Basic, Const, ConstOp, fold, represent};
+use go_ints::{Kind, Op, arith, fits, wrap};
+use go_types::{Field, Fields, Shape, TypeId, TypeIds, Types};
+use std::marker::Brand;
+use std::process::Abort;
+use std::sync::ledger::{Blank, Ledger};
+use std::test::Fail;
+
+fn tick_each<L: Ledger>(steps: &mut Steps<L>)
+    requires { steps.old ≡ no_counts }
+    ensures { steps.new ≡ record { checked = 1; entered = 2; compared = 1 } }
+{
+    steps.tick_checked();
+    steps.tick_entered();
+    steps.tick_compared();
+    steps.tick_entered();
+}
+
+fn count<L: Ledger>(blank: Blank)
+    requires name { blank.name ≡ L.name }
+    requires parts { blank.parts ≡ L.parts }
+    requires room { 3 ≤ blank.parts }
+{
+    tick_each::<L>(&mut Steps::new(blank));
+}
+
+#[test]
+fn counts_each_step() {
+    count::<Brand>(Blank::new(3));
+}
+
+#[test]
+fn keeps_its_bytes(rt: HostRuntime) -> Result<(), Fail> {
+    let alloc = rt.alloc();
+    let bytes = Bytes::from_slice(alloc, b"package p\n")?;
+    assert_eq!(rt; bytes.len(), 10);
+    let copy = bytes.clone()?;
+    assert_eq!(rt; copy.as_slice(), b"package p\n".as_slice());
+    assert_eq!(rt; Bytes::of(bytes.into_vec()).as_slice(), copy.as_slice());
+    Ok(())
+}
+
+#[test]
+fn has_the_words_of_replies(rt: HostRuntime) {
+    assert_eq!(rt; FaultCode::UnusedVariable.number(), 8);
+    assert_eq!(rt; FaultCode::UnusedVariable.word(), "unusedvariable");
+    assert_eq!(rt;
+        FaultCode::Limit.phases(),
+        [Phase::Names, Phase::Declarations, Phase::Bodies].as_slice()
+    );
+    assert_eq!(rt; Phase::Bodies.number(), 7);
+}
+
+#[test]
+fn joins_texts(rt: HostRuntime) -> Result<(), Fail> {
+    let alloc = rt.alloc();
+    let left = Const::Text(Bytes::from_slice(alloc, b"a")?);
+    let right = Const::Text(Bytes::from_slice(alloc, b"bc")?);
+    let joined = fold(alloc, ConstOp::Arith(Op::Add), &left, &right)?;
+    assert!(rt; represent(&joined, Basic::Text));
+    let Const::Text(bytes) = joined else {
+        return Err("a text".into());
+    };
+    assert_eq!(rt; bytes.as_slice(), b"abc".as_slice());
+    Ok(())
+}
+
+#[test]
+fn wraps_integers(rt: HostRuntime) {
+    assert_eq!(rt; wrap::<8, true>(200), -56);
+    assert_eq!(rt; wrap::<16, false>(-1), 65_535);
+    assert!(rt; fits(Kind::Uint8, 255));
+    assert_eq!(rt; arith(Kind::Int8, Op::Add, 100, 100), Ok(-56));
+}
+
+/// The number of a shape whose parts are there.
+fn number(rt: &impl Abort, types: &mut Types, shape: Shape) -> Result<TypeId, Fail> {
+    assert!(rt; types.can_intern(&shape));
+    Ok(types.intern(&shape)?)
+}
+
+#[test]
+fn slices_and_a_declared_type(rt: HostRuntime) -> Result<(), Fail> {
+    let mut types = Types::new(rt.alloc());
+    let int = number(&rt, &mut types, Shape::Int(Kind::Int))?;
+    let ints = number(&rt, &mut types, Shape::Slice { elem: int })?;
+    let named = types.declare()?;
+    assert!(rt; ints < types.count());
+    assert!(rt; named < types.count());
+    assert!(rt; types.is_open(named));
+    assert!(rt; types.can_define(named, ints));
+    types.define(named, ints);
+    assert!(rt; types.is_settled(named));
+    assert!(rt; types.is_settled(ints));
+    assert_eq!(rt; types.underlying(named), ints);
+    assert!(rt; types.assignable(ints, named));
+    assert!(rt; !types.identical(ints, named));
+    Ok(())
+}
+
+#[test]
+fn a_struct_of_a_function(rt: HostRuntime) -> Result<(), Fail> {
+    let alloc = rt.alloc();
+    let mut types = Types::new(alloc);
+    let bool = number(&rt, &mut types, Shape::Bool)?;
+    let params = TypeIds::of(vec![in alloc; bool]?);
+    let results = TypeIds::of(vec![in alloc]?);
+    assert_eq!(rt; params.as_slice().len(), 1);
+    let func = number(&rt, &mut types, Shape::Func { params, results })?;
+    let name = Bytes::from_slice(alloc, b"f")?;
+    let fields = Fields::of(vec![in alloc; Field { name, ty: func }]?);
+    assert_eq!(rt; fields.as_slice().len(), 1);
+    let record = number(&rt, &mut types, Shape::Struct { fields })?;
+    assert!(rt; record < types.count());
+    assert!(rt; !types.shape(record).is_named());
+    Ok(())
+}
+
+#[test]
+fn a_table_is_cut(rt: HostRuntime) -> Result<(), Fail> {
+    let mut types = Types::new(rt.alloc());
+    types.declare()?;
+    types.cut(0);
+    assert_eq!(rt; types.count(), 0);
+    Ok(())
+}
