@@ -1,11 +1,13 @@
 -- Tables with more types: trees stay, and what is told stays told.
-use Rattle.std.proofs.Common.{◌≡◌, ℕ, ◌<◌, [], ◌++◌, Option, Some, None, length, refl, sym, ap, ◌∙◌, subst, append-nil, append_assoc, inl, inr, true}
-use Rattle.std.specs.Prelude.{◌∷◌, slice_get, slice_set, ◌&&◌, ◌||◌, not}
+use Rattle.std.proofs.Common.{◌≡◌, ℕ, ◌<◌, [], ◌++◌, Option, Some, None, length, refl, sym, ap, ◌∙◌, subst, append-nil, append_assoc, inl, inr, true, List, arith, ◌≤◌, suc}
+use Rattle.std.specs.Prelude.{◌∷◌, slice_get, slice_set, count_by, ◌&&◌, ◌||◌, not}
 use Rattle.std.specs.Option.{option_map}
+use Rattle.std.proofs.lemmas.List.{length-append}
 use Rattle.std.proofs.lemmas.Option.{slice_get-map, same_Some}
 use Rattle.go_types.specs.Trees.{TypeTree, declared, is_named}
 use Rattle.go_types.specs.Relations.{HasRight, Underlying, itself, through, Assignable}
-use Rattle.go_types.specs.Tables.{Table, IsTable, HasRightId, type_of, rights_of}
+use Rattle.go_types.specs.Tables.{Table, IsTable, HasRightId, type_of, rights_of, is_declaration}
+use Rattle.go_types.specs.declared.shape.Shape.{Shape}
 use Rattle.go_types.specs.declared.shape.Shape.TheVariants as shape
 use Rattle.go_types.specs.Changes.{IsDeclared, IsOpen, defined, rights_with}
 use Rattle.go_types.proofs.Places.{get_left, get_set_other}
@@ -28,6 +30,37 @@ extends_both s t u h k = record {
   shapes = k.shapes ∙ ap (λ x. x ++ k.added) h.shapes ∙ append_assoc s.shapes h.added k.added;
   rights = λ n r e. k.rights n r (h.rights n r e);
 }
+
+-- tables that extend each other are equal
+nothing_added : {X : Type 0} (xs ys zs : List X) → ys ≡ xs ++ zs → length ys ≤ length xs → ys ≡ xs
+nothing_added xs ys [] e h = e ∙ append-nil xs
+nothing_added xs ys (z ∷ zs) e h =
+    let size = ap length e ∙ length-append xs (z ∷ zs) in
+    absurd (omega (arith, h, size))
+
+entries_same : (xs ys : List (Option ℕ)) → length xs ≡ length ys → ((n r : ℕ) → slice_get xs n ≡ Some (Some r) → slice_get ys n ≡ Some (Some r)) → ((n r : ℕ) → slice_get ys n ≡ Some (Some r) → slice_get xs n ≡ Some (Some r)) → xs ≡ ys
+entries_same [] [] l f g = refl
+entries_same [] (y ∷ ys) l f g = cc
+entries_same (x ∷ xs) [] l f g = cc
+entries_same (x ∷ xs) (y ∷ ys) l f g =
+    let size : length xs ≡ length ys = omega (arith, l) in
+    let rest : xs ≡ ys = entries_same xs ys size (λ n r h. f (suc n) r h) (λ n r h. g (suc n) r h) in
+    let first : x ≡ y = entry_same x y (λ r h. f 0 r (ap Some h)) (λ r h. g 0 r (ap Some h)) in
+    cc
+  where
+    entry_same : (o p : Option ℕ) → ((r : ℕ) → o ≡ Some r → Some p ≡ Some (Some r)) → ((r : ℕ) → p ≡ Some r → Some o ≡ Some (Some r)) → o ≡ p
+    entry_same None None f g = refl
+    entry_same None (Some s) f g = let wrong : Some None ≡ Some (Some s) = g s refl in cc
+    entry_same (Some r) p f g = sym (same_Some p (Some r) (f r refl))
+
+pub extends_same : (s t : Table) → IsTable s → IsTable t → Extends s t → Extends t s → s ≡ t
+extends_same s t ok now e g =
+    let longer = ap length e.shapes ∙ length-append s.shapes e.added in
+    let shorter = ap length g.shapes ∙ length-append t.shapes g.added in
+    let shapes : t.shapes ≡ s.shapes = nothing_added s.shapes t.shapes e.added e.shapes (omega (arith, longer, shorter)) in
+    let sizes : length s.rights ≡ length t.rights = ok.declarations ∙ ap (count_by is_declaration) (sym shapes) ∙ sym now.declarations in
+    let rights : s.rights ≡ t.rights = entries_same s.rights t.rights sizes e.rights g.rights in
+    ap (λ (x : List Shape). let u : Table = record { shapes = x; rights = s.rights } in u) (sym shapes) ∙ ap (λ (x : List (Option ℕ)). let u : Table = record { shapes = t.shapes; rights = x } in u) rights
 
 pub grows_self : (t : Table) → IsTable t → Grows t t
 grows_self t ok = record { extends = extends_self t; rights = refl; table = ok }

@@ -8,6 +8,7 @@ pub mod Counting
 pub mod Zeros
 pub mod Extending
 pub mod Renaming
+pub mod Interning
 pub mod Settled
 pub mod Examples
 pub mod Calls

@@ -1,10 +1,11 @@
 //! Laws of the functions of types: they are the relations, and their answers stay.
-ghost use Rattle.std.specs.Prelude.{◌≡◌, ◌↔◌, ◌<◌, ℕ, Bool, List, Some, true, length};
+ghost use Rattle.std.specs.Prelude.{◌≡◌, ◌↔◌, ◌<◌, ◌++◌, ◌∷◌, [], ℕ, Bool, List, Some, None, true, length, slice_set};
 ghost use Rattle.std.specs.Option.{option_map};
 ghost use Rattle.go_ints.specs.declared.kinds.Kind.{Kind};
+ghost use Rattle.go_types.specs.declared.shape.Shape.TheVariants as shape;
 ghost use Rattle.go_types.specs.Trees.{TypeTree, boolean, text, integer, array, slice, structure, function, declared, TypeRow, none, more, Identical};
 ghost use Rattle.go_types.specs.Relations.{Rights, HasRight, Underlying, Assignable, Comparable, Scalars};
-ghost use Rattle.go_types.specs.Tables.{Table, IsTable, type_of, rights_of};
+ghost use Rattle.go_types.specs.Tables.{Table, IsTable, HasShape, type_of, rights_of};
 ghost use Rattle.go_types.specs.Changes.{IsDeclared, IsOpen, defined};
 ghost use Rattle.type_tests.specs.Questions.{on_both};
 ghost use Rattle.type_tests.specs.Identity.{is_identical};
@@ -50,16 +51,21 @@ pub fn counted_types_have_zero_values()
     ensures count { (rights : Rights) (t : TypeTree) (z : Zero) → zero_of rights t ≡ Some z → (n : ℕ) × (scalars_of rights t ≡ Some n) }
 {}
 
-/// Tables extend themselves, and what extends an extension extends the first.
+/// Tables extend themselves, what extends an extension extends the first, and tables that extend
+/// each other are equal.
 pub fn extending_is_an_order()
     ensures itself { (t : Table) → Extends t t }
     ensures both { (s t u : Table) → Extends s t → Extends t u → Extends s u }
+    ensures same { (s t : Table) → IsTable s → IsTable t → Extends s t → Extends t s → s ≡ t }
 {}
 
-/// A declaration and a definition extend the table.
+/// A declaration and a definition extend the table. The one adds a declared type without a right
+/// side, the other changes the one right side.
 pub fn declarations_extend()
     ensures declared { (old new : Table) (i : ℕ) → IsDeclared old new i → Extends old new }
     ensures defined { (old : Table) (named right : ℕ) → IsOpen old named → Extends old (defined old named right) }
+    ensures declared_rights { (old new : Table) (i : ℕ) → IsTable old → IsDeclared old new i → rights_of new ≡ rights_of old ++ None ∷ [] }
+    ensures defined_rights { (old : Table) (named right n : ℕ) → HasShape old named (shape.Named n) → rights_of (defined old named right) ≡ slice_set (rights_of old) n (Some (type_of old.shapes right)) }
 {}
 
 /// The types of old numbers and the right sides stay when a table grows.

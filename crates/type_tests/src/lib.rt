@@ -8,16 +8,18 @@
 //! stay when a table grows and when declared types get other numbers.
 #![tactic(auto)]
 
-ghost use Rattle.std.specs.Prelude.{◌≡◌, ◌<◌, IfSome, length};
+ghost use Rattle.std.specs.Prelude.{◌≡◌, ◌<◌, IfOk, IfSome, OnErr, length};
 ghost use Rattle.std.specs.Option.{option_map};
-ghost use Rattle.go_types.specs.Tables.{HasPartsBelow, tree_of, type_of, rights_of};
+ghost use Rattle.go_types.specs.Tables.{HasPartsBelow, WasDeclared, tree_of, type_of, rights_of};
 ghost use Rattle.go_types.specs.Verdicts.{kept_count};
 ghost use Rattle.type_tests.specs.Identity.{is_identical};
 ghost use Rattle.type_tests.specs.Tests.{underlying_of, is_comparable, is_assignable};
 ghost use Rattle.type_tests.specs.Sizes.{scalars_of};
+ghost use Rattle.type_tests.specs.Extends.{Grows};
 
 pub mod laws;
 
+use go_base::Memory;
 use go_types::{Shape, TypeId, Types};
 
 /// The shape of a type.
@@ -93,4 +95,20 @@ pub fn scalars(types: &Types, a: TypeId) -> Option<u64>
     } else {
         None
     }
+}
+
+/// The number of the type of a shape, which is added if the table lacks it. After `Memory` the table
+/// is unchanged.
+pub fn intern(types: &mut Types, shape: &Shape) -> Result<TypeId, Memory>
+    requires parts { HasPartsBelow (length types.old.shapes) shape.now }
+    requires declared { WasDeclared types.old shape.now }
+    ensures grows { Grows types.old types.new }
+    ensures err { OnErr result (types.new ≡ types.old) }
+    ensures within { IfOk result (λ i. i < length types.new.shapes) }
+    ensures tree { IfOk result (λ i. type_of types.new.shapes i ≡ tree_of (type_of types.old.shapes) shape.now) }
+{
+    types.count();
+    let interned = types.intern(shape);
+    types.count();
+    interned
 }
