@@ -1,11 +1,11 @@
 -- What is told to be assignable is so.
-use Rattle.std.proofs.Common.{◌≡◌, inl, inr, Option, Some, None, refl, ap, ◌∙◌, Bool, true}
+use Rattle.std.proofs.Common.{◌≡◌, inl, inr, Option, Some, None, refl, ap, ◌∙◌, Bool, true, false}
 use Rattle.std.specs.Prelude.{◌&&◌, ◌||◌, not}
 use Rattle.go_types.specs.Trees.{TypeTree, is_named}
 use Rattle.go_types.specs.Relations.{Rights, SameUnderlying, Assignable}
 use Rattle.type_tests.specs.Identity.{is_identical}
 use Rattle.type_tests.specs.Tests.{underlying_of, both_identical, is_assignable}
-use Rattle.type_tests.proofs.Booleans.{and_parts, or_parts, or_true, not_true}
+use Rattle.type_tests.proofs.Booleans.{and_parts, or_parts, or_true, or_false, not_true}
 use Rattle.type_tests.proofs.Identity.{identical_test, test_identical}
 use Rattle.type_tests.proofs.Underlyings.{underlying_told, told_underlying}
 
@@ -44,3 +44,20 @@ module _ (rights : Rights) (from to : TypeTree) where
       let second = underlying_told rights to s.to_underlying s.to_is in
       let forms : same ≡ true = ap (λ o. both_identical o (underlying_of rights to)) first ∙ ap (both_identical (Some s.from_underlying)) second ∙ identical_test s.from_underlying s.to_underlying s.identical in
       ap (λ b. is_identical from to || (b && unnamed)) forms ∙ ap (λ b. is_identical from to || not b) s.unnamed ∙ or_true (is_identical from to)
+
+-- ---- types without an underlying type
+
+no_second : (o : Option TypeTree) → both_identical o None ≡ false
+no_second None = refl
+no_second (Some t) = refl
+
+pub no_underlying_from : (rights : Rights) (from to : TypeTree) → underlying_of rights from ≡ None → is_assignable rights from to ≡ is_identical from to
+unfolding is_assignable
+no_underlying_from rights from to e = ap (λ o. is_identical from to || (both_identical o (underlying_of rights to) && not (is_named from && is_named to))) e ∙ or_false (is_identical from to)
+
+pub no_underlying_to : (rights : Rights) (from to : TypeTree) → underlying_of rights to ≡ None → is_assignable rights from to ≡ is_identical from to
+unfolding is_assignable
+no_underlying_to rights from to e =
+    ap (λ o. is_identical from to || (both_identical (underlying_of rights from) o && not (is_named from && is_named to))) e
+    ∙ ap (λ b. is_identical from to || (b && not (is_named from && is_named to))) (no_second (underlying_of rights from))
+    ∙ or_false (is_identical from to)

@@ -1,9 +1,10 @@
 -- What the calls of a table tell of trees.
-use Rattle.std.proofs.Common.{◌≡◌, ℕ, ◌<◌, ◌⊎◌, inl, inr, Option, Some, None, length, refl, sym, ap, ◌∙◌, arith, Bool, false}
-use Rattle.std.specs.Prelude.{◌^◌, ◌-◌, min, slice_get, ◌↔◌, IsTrue, ◌&&◌, ◌||◌, not}
+use Rattle.std.proofs.Common.{◌≡◌, ℕ, ◌<◌, ◌⊎◌, inl, inr, Option, Some, None, length, refl, sym, ap, ◌∙◌, arith, Bool}
+use Rattle.std.specs.Prelude.{◌^◌, ◌-◌, min, slice_get, ◌↔◌, IsTrue}
 use Rattle.std.specs.Option.{option_map}
+use Rattle.std.proofs.lemmas.Option.{slice_get-map}
 use Rattle.go_types.specs.declared.shape.Shape.{Shape}
-use Rattle.go_types.specs.Trees.{TypeTree, Identical, is_named}
+use Rattle.go_types.specs.Trees.{Identical}
 use Rattle.go_types.specs.Relations.{Comparable, Assignable, Scalars}
 use Rattle.go_types.specs.Tables.{Table, IsTable, HasShape, HasRightId, HasPartsBelow, parts, type_of, rights_of, tree_of, IsDefined, IsSettled}
 use Rattle.go_types.specs.Verdicts.{kept_count}
@@ -11,17 +12,17 @@ use Rattle.go_types.specs.Changes.{IsOpen}
 use Rattle.go_types.proofs.Places.{get_there, get_within, all_of}
 use Rattle.go_types.proofs.NumberedTypes.{type_of_shape}
 use Rattle.go_types.proofs.Settling.{declared_within}
-use Rattle.go_types.proofs.Underlyings.{declared_type, right_underlying}
+use Rattle.go_types.proofs.Underlyings.{declared_type}
+use Rattle.type_tests.specs.Questions.{flat, entry}
 use Rattle.type_tests.specs.Identity.{is_identical}
-use Rattle.type_tests.specs.Tests.{underlying_of, is_comparable, both_identical, is_assignable}
+use Rattle.type_tests.specs.Tests.{underlying_by, underlying_of, is_comparable, is_assignable}
 use Rattle.type_tests.specs.Sizes.{scalars_of}
-use Rattle.type_tests.proofs.Booleans.{bool_same, or_false}
+use Rattle.type_tests.proofs.Booleans.{bool_same}
+use Rattle.type_tests.proofs.Rounds.{open_answers}
 use Rattle.type_tests.proofs.Identity.{identical_test, test_identical}
-use Rattle.type_tests.proofs.Underlyings.{told_underlying}
 use Rattle.type_tests.proofs.Comparing.{comparable_test, test_comparable}
-use Rattle.type_tests.proofs.Assigning.{assignable_test, test_assignable}
+use Rattle.type_tests.proofs.Assigning.{no_underlying_from, no_underlying_to, assignable_test, test_assignable}
 use Rattle.type_tests.proofs.Counting.{scalars_told}
-use Rattle.type_tests.proofs.Extending.{right_number}
 use Rattle.type_tests.proofs.Settled.{counted_settled}
 
 -- ---- types without a right side
@@ -35,19 +36,12 @@ defined_or_open t ok i closed n h =
     by None e = absurd (closed (n, h, e))
     by (Some r) e = (r, e)
 
-none_told : (t : Table) → IsTable t → (i : ℕ) → IsOpen t i → (u : TypeTree) → underlying_of (rights_of t) (type_of t.shapes i) ≡ Some u → ⊥
-none_told t ok i o u e =
-    let right = right_underlying (rights_of t) o.0 (type_of t.shapes i) u (declared_type t ok i o.0 o.1) (told_underlying (rights_of t) (type_of t.shapes i) u e) in
-    let number = right_number t o.0 right.0 right.1 in
-    let wrong : Some None ≡ Some (Some number.0) = sym o.2 ∙ number.1 in
-    cc
+pub open_entry : (t : Table) (i : ℕ) (o : IsOpen t i) → entry (rights_of t) o.0 ≡ None
+unfolding rights_of
+open_entry t i o = ap flat (slice_get-map (option_map (type_of t.shapes)) t.rights o.0 ∙ ap (option_map (option_map (type_of t.shapes))) o.2)
 
 pub open_told : (t : Table) → IsTable t → (i : ℕ) → IsOpen t i → underlying_of (rights_of t) (type_of t.shapes i) ≡ None
-open_told t ok i o = by (underlying_of (rights_of t) (type_of t.shapes i)) refl
-  where
-    by : (a : Option TypeTree) → underlying_of (rights_of t) (type_of t.shapes i) ≡ a → underlying_of (rights_of t) (type_of t.shapes i) ≡ None
-    by None e = e
-    by (Some u) e = absurd (none_told t ok i o u e)
+open_told t ok i o = ap (underlying_of (rights_of t)) (declared_type t ok i o.0 o.1) ∙ open_answers underlying_by (rights_of t) o.0 (open_entry t i o)
 
 -- ---- the answers
 
@@ -68,20 +62,8 @@ same_comparable t a r h = bool_same r (is_comparable (rights_of t) (type_of t.sh
 
 -- a type without a right side is assignable where it is identical
 pub open_assignable : (t : Table) → IsTable t → (from to : ℕ) → IsOpen t from ⊎ IsOpen t to → is_identical (type_of t.shapes from) (type_of t.shapes to) ≡ is_assignable (rights_of t) (type_of t.shapes from) (type_of t.shapes to)
-unfolding is_assignable
-open_assignable t ok from to o =
-    let x = type_of t.shapes from in
-    let y = type_of t.shapes to in
-    let apart : both_identical (underlying_of (rights_of t) x) (underlying_of (rights_of t) y) ≡ false =
-    elim o [
-      | inl h ↦ ap (λ u. both_identical u (underlying_of (rights_of t) y)) (open_told t ok from h)
-      | inr h ↦ ap (both_identical (underlying_of (rights_of t) x)) (open_told t ok to h) ∙ no_second (underlying_of (rights_of t) x)
-    ] in
-    sym (ap (λ b. is_identical x y || (b && not (is_named x && is_named y))) apart ∙ or_false (is_identical x y))
-  where
-    no_second : (u : Option TypeTree) → both_identical u None ≡ false
-    no_second None = refl
-    no_second (Some u) = refl
+open_assignable t ok from to (inl o) = sym (no_underlying_from (rights_of t) (type_of t.shapes from) (type_of t.shapes to) (open_told t ok from o))
+open_assignable t ok from to (inr o) = sym (no_underlying_to (rights_of t) (type_of t.shapes from) (type_of t.shapes to) (open_told t ok to o))
 
 -- ---- counts
 

@@ -1,8 +1,17 @@
 -- The examples compute.
-use Rattle.std.proofs.Common.{refl}
+use Rattle.std.proofs.Common.{◌≡◌, zero, suc, Some, None, refl}
+use Rattle.go_types.specs.Trees.{slice, declared}
+use Rattle.type_tests.specs.Renaming.{AreRenamed}
 use Rattle.type_tests.specs.Questions.{answers}
 use Rattle.type_tests.specs.Tests.{is_assignable}
-use Rattle.type_tests.specs.Examples.{Examples}
+use Rattle.type_tests.specs.Examples.{own_slice, moved_slice, Examples}
+
+one_later : AreRenamed (λ n. suc n) own_slice moved_slice
+one_later zero = refl
+one_later (suc n) = refl
+
+another : AreRenamed (λ n. suc n) own_slice own_slice → ⊥
+another same = let wrong : None ≡ Some (slice (declared 1)) = same 0 in cc
 
 pub examples_hold : Examples
 unfolding answers is_assignable
@@ -40,4 +49,7 @@ examples_hold = record {
   structs_zero = refl;
   by_slice_zero = refl;
   open_zero = refl;
+  one_later = one_later;
+  each_its_own = λ n m e. cc;
+  another = another;
 }

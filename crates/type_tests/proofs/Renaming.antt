@@ -1,19 +1,18 @@
 -- Renamed types are told the same, renamed.
-use Rattle.std.proofs.Common.{◌≡◌, ℕ, zero, suc, ◌+◌, [], ◌∷◌, Option, Some, None, map, length, refl, sym, ap, ◌∙◌, arith, Bool}
-use Rattle.std.specs.Prelude.{slice_get, ◌&&◌, ◌||◌, not, nat_eq, max}
+use Rattle.std.proofs.Common.{◌≡◌, ℕ, zero, suc, ◌+◌, Option, Some, None, length, refl, sym, ap, ◌∙◌, arith, Bool}
+use Rattle.std.specs.Prelude.{◌&&◌, ◌||◌, not, nat_eq, max}
 use Rattle.std.specs.Option.{option_map}
 use Rattle.std.proofs.lemmas.Bool.{eqb-true, eq-eqb}
-use Rattle.std.proofs.lemmas.Option.{slice_get-map}
 use Rattle.go_types.specs.Trees.{TypeTree, boolean, text, integer, array, slice, structure, function, declared, TypeRow, none, more, is_named}
 use Rattle.go_types.specs.Relations.{Rights, array_scalars}
-use Rattle.type_tests.specs.Questions.{Question, flat, entry, asked_right, rounds, answers, asked, on_both}
+use Rattle.type_tests.specs.Questions.{Question, entry, asked_right, rounds, answers, asked, on_both}
 use Rattle.type_tests.specs.Identity.{same_names, is_identical, are_identical}
 use Rattle.type_tests.specs.Tests.{underlying_by, underlying_of, comparable_by, all_comparable_by, comparability_of, both_identical, is_assignable}
 use Rattle.type_tests.specs.Sizes.{scalars_by, row_scalars_by, scalars_of}
 use Rattle.type_tests.specs.Zeros.{Zero, elements, fields, more_zeros, zero_by, zeros_by, zero_of}
 use Rattle.type_tests.specs.Renaming.{renamed, renamed_row, IsOneToOne, AreRenamed}
 use Rattle.type_tests.proofs.Booleans.{map_itself, same_truth}
-use Rattle.type_tests.proofs.Rounds.{Monotone, settled}
+use Rattle.type_tests.proofs.Rounds.{Monotone, nothing_entry, round_entry, settled}
 use Rattle.type_tests.proofs.Underlyings.{underlying_monotone}
 use Rattle.type_tests.proofs.Comparing.{comparable_monotone}
 use Rattle.type_tests.proofs.Counting.{scalars_monotone}
@@ -50,29 +49,16 @@ abbrev IsNatural : (ℕ → ℕ) → {X : Type 0} → Question X → (X → X) �
 IsNatural name {X} q change = (f g : ℕ → Option X) → ((n : ℕ) → g (name n) ≡ option_map change (f n)) → (t : TypeTree) → q g (renamed name t) ≡ option_map change (q f t)
 
 module _ (name : ℕ → ℕ) {X : Type 0} (q : Question X) (change : X → X) (natural : IsNatural name q change) (old new : Rights) (same : AreRenamed name old new) where
-  nothing : (rs : Rights) (n : ℕ) → entry (map (λ r. let o : Option X = None in o) rs) n ≡ None
-  nothing [] n = refl
-  nothing (r ∷ rs) zero = refl
-  nothing (r ∷ rs) (suc n) = nothing rs n
-
-  by_entry : (known : ℕ → Option X) (o : Option (Option TypeTree)) → flat (option_map (asked_right q known) o) ≡ asked_right q known (flat o)
-  by_entry known None = refl
-  by_entry known (Some None) = refl
-  by_entry known (Some (Some r)) = refl
-
-  round_entry : (known : ℕ → Option X) (rights : Rights) (n : ℕ) → entry (map (asked_right q known) rights) n ≡ asked_right q known (entry rights n)
-  round_entry known rights n = ap flat (slice_get-map (asked_right q known) rights n) ∙ by_entry known (slice_get rights n)
-
   right_renamed : (f g : ℕ → Option X) → ((n : ℕ) → g (name n) ≡ option_map change (f n)) → (o : Option TypeTree) → asked_right q g (option_map (renamed name) o) ≡ option_map change (asked_right q f o)
   right_renamed f g h None = refl
   right_renamed f g h (Some r) = natural f g h r
 
   round_renamed : (k n : ℕ) → entry (rounds q new k) (name n) ≡ option_map change (entry (rounds q old k) n)
-  round_renamed zero n = nothing new (name n) ∙ ap (option_map change) (sym (nothing old n))
+  round_renamed zero n = nothing_entry X new (name n) ∙ ap (option_map change) (sym (nothing_entry X old n))
   round_renamed (suc k) n =
       let f = entry (rounds q old k) in
       let g = entry (rounds q new k) in
-      round_entry g new (name n) ∙ ap (asked_right q g) (same n) ∙ right_renamed f g (round_renamed k) (entry old n) ∙ ap (option_map change) (sym (round_entry f old n))
+      round_entry q g new (name n) ∙ ap (asked_right q g) (same n) ∙ right_renamed f g (round_renamed k) (entry old n) ∙ ap (option_map change) (sym (round_entry q f old n))
 
   answers_renamed : Monotone q → (n : ℕ) → answers q new (name n) ≡ option_map change (answers q old n)
   unfolding answers

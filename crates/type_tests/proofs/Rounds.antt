@@ -68,6 +68,33 @@ same_or_more (Some x ∷ os) (Some y ∷ ps) n l =
     let same : Some y ≡ Some x = l.0 in
     elim (same_or_more os ps m l.1) [ inl e ↦ inl (ap (λ o. o ∷ os) (sym same) ∙ ap (λ xs. Some y ∷ xs) e) | inr h ↦ inr (omega (arith, h)) ]
 
+-- ---- a round at a number
+
+pub nothing_entry : (X : Type 0) (rs : Rights) (n : ℕ) → entry (map (λ r. let o : Option X = None in o) rs) n ≡ None
+nothing_entry X [] n = refl
+nothing_entry X (r ∷ rs) zero = refl
+nothing_entry X (r ∷ rs) (suc n) = nothing_entry X rs n
+
+module _ {X : Type 0} (q : Question X) where
+  by_entry : (known : ℕ → Option X) (o : Option (Option TypeTree)) → flat (option_map (asked_right q known) o) ≡ asked_right q known (flat o)
+  by_entry known None = refl
+  by_entry known (Some None) = refl
+  by_entry known (Some (Some r)) = refl
+
+  pub round_entry : (known : ℕ → Option X) (rights : Rights) (n : ℕ) → entry (map (asked_right q known) rights) n ≡ asked_right q known (entry rights n)
+  round_entry known rights n = ap flat (slice_get-map (asked_right q known) rights n) ∙ by_entry known (slice_get rights n)
+
+  -- of a declared type without a right side nothing is told
+  pub open_answers : (rights : Rights) (n : ℕ) → entry rights n ≡ None → answers q rights n ≡ None
+  unfolding answers
+  open_answers rights n e = by (length rights)
+    where
+      by : (k : ℕ) → entry (rounds q rights k) n ≡ None
+      by zero = nothing_entry X rights n
+      by (suc k) = round_entry (entry (rounds q rights k)) rights n ∙ ap (asked_right q (entry (rounds q rights k))) e
+
+-- ---- as many rounds as there are declared types
+
 module _ {X : Type 0} (q : Question X) (m : Monotone q) where
   asked_stays : (f g : ℕ → Option X) → Within f g → (r : Option TypeTree) → Stays (asked_right q f r) (asked_right q g r)
   asked_stays f g w None = tt
@@ -124,7 +151,7 @@ module _ {X : Type 0} (q : Question X) (m : Monotone q) where
       ]
 
   at_right : (known : ℕ → Option X) (rights : Rights) (n : ℕ) (r : TypeTree) → HasRight rights n r → entry (map (asked_right q known) rights) n ≡ q known r
-  at_right known rights n r h = ap flat (slice_get-map (asked_right q known) rights n ∙ ap (option_map (asked_right q known)) h)
+  at_right known rights n r h = round_entry q known rights n ∙ ap (asked_right q known) (ap flat h)
 
   -- a declared type is told what its right side is told
   pub right_answers : (rights : Rights) (n : ℕ) (r : TypeTree) → HasRight rights n r → answers q rights n ≡ asked q rights r
@@ -134,19 +161,14 @@ module _ {X : Type 0} (q : Question X) (m : Monotone q) where
 -- ---- what holds of all that is told
 
 module _ {X : Type 0} (q : Question X) (rights : Rights) (P : TypeTree → X → Type 0) (by_right : (n : ℕ) (r : TypeTree) (x : X) → HasRight rights n r → P r x → P (declared n) x) (step : (known : ℕ → Option X) → ((n : ℕ) (x : X) → known n ≡ Some x → P (declared n) x) → (t : TypeTree) (x : X) → q known t ≡ Some x → P t x) where
-  nothing : (rs : Rights) (n : ℕ) (x : X) → entry (map (λ r. None) rs) n ≡ Some x → ⊥
-  nothing [] n x e = cc
-  nothing (r ∷ rs) zero x e = cc
-  nothing (r ∷ rs) (suc n) x e = nothing rs n x e
-
-  one : (known : ℕ → Option X) → ((n : ℕ) (x : X) → known n ≡ Some x → P (declared n) x) → (n : ℕ) (x : X) (o : Option (Option TypeTree)) → slice_get rights n ≡ o → flat (option_map (asked_right q known) o) ≡ Some x → P (declared n) x
+  one : (known : ℕ → Option X) → ((n : ℕ) (x : X) → known n ≡ Some x → P (declared n) x) → (n : ℕ) (x : X) (o : Option (Option TypeTree)) → slice_get rights n ≡ o → asked_right q known (flat o) ≡ Some x → P (declared n) x
   one known f n x None h e = cc
   one known f n x (Some None) h e = cc
   one known f n x (Some (Some r)) h e = by_right n r x h (step known f r x e)
 
   round_holds : (k n : ℕ) (x : X) → entry (rounds q rights k) n ≡ Some x → P (declared n) x
-  round_holds zero n x e = absurd (nothing rights n x e)
-  round_holds (suc k) n x e = one (entry (rounds q rights k)) (round_holds k) n x (slice_get rights n) refl (ap flat (sym (slice_get-map (asked_right q (entry (rounds q rights k))) rights n)) ∙ e)
+  round_holds zero n x e = let wrong : None ≡ Some x = sym (nothing_entry X rights n) ∙ e in cc
+  round_holds (suc k) n x e = one (entry (rounds q rights k)) (round_holds k) n x (slice_get rights n) refl (sym (round_entry q (entry (rounds q rights k)) rights n) ∙ e)
 
   pub asked_holds : (t : TypeTree) (x : X) → asked q rights t ≡ Some x → P t x
   unfolding answers

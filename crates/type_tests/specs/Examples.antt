@@ -1,5 +1,5 @@
 -- What the functions say of some types, worked out by hand from the Go specification.
-use Rattle.std.specs.Prelude.{◌≡◌, true, false, [], ◌∷◌, Some, None}
+use Rattle.std.specs.Prelude.{◌≡◌, suc, true, false, [], ◌∷◌, Some, None}
 use Rattle.go_ints.specs.declared.kinds.Kind.TheVariants as kind
 use Rattle.go_types.specs.Trees.{text, integer, array, slice, structure, function, declared, none, row}
 use Rattle.go_types.specs.Relations.{Rights}
@@ -8,10 +8,18 @@ use Rattle.type_tests.specs.Identity.{is_identical}
 use Rattle.type_tests.specs.Tests.{underlying_of, is_comparable, is_assignable}
 use Rattle.type_tests.specs.Sizes.{scalars_of}
 use Rattle.type_tests.specs.Zeros.{zero_of, number_zero, empty_text, elements, fields, nil_slice, nil_function, no_zeros, more_zeros}
+use Rattle.type_tests.specs.Renaming.{IsOneToOne, AreRenamed}
 
 -- `type D0 []int` and `type D1 []int`
 abbrev pub twins : Rights
 twins = Some (slice int) ∷ Some (slice int) ∷ []
+
+-- `type D0 []D0`, and the same after a declared type without a right side
+abbrev pub own_slice : Rights
+own_slice = Some (slice (declared 0)) ∷ []
+
+abbrev pub moved_slice : Rights
+moved_slice = None ∷ Some (slice (declared 1)) ∷ []
 
 pub record Examples : Type 0 where
   -- identity
@@ -53,3 +61,7 @@ pub record Examples : Type 0 where
   pub structs_zero : zero_of rights (declared 2) ≡ Some (elements 3 (fields (more_zeros number_zero (more_zeros empty_text no_zeros))))
   pub by_slice_zero : zero_of rights (declared 4) ≡ Some (fields (more_zeros nil_slice no_zeros))
   pub open_zero : zero_of (None ∷ []) (declared 0) ≡ None
+  -- renaming
+  pub one_later : AreRenamed (λ n. suc n) own_slice moved_slice
+  pub each_its_own : IsOneToOne (λ n. suc n)
+  pub another : AreRenamed (λ n. suc n) own_slice own_slice → ⊥

@@ -7,7 +7,7 @@ ghost use Rattle.go_types.specs.Trees.{TypeTree, boolean, text, integer, array, 
 ghost use Rattle.go_types.specs.Relations.{Rights, HasRight, Underlying, Assignable, Comparable, Scalars};
 ghost use Rattle.go_types.specs.Tables.{Table, IsTable, HasShape, type_of, rights_of};
 ghost use Rattle.go_types.specs.Changes.{IsDeclared, IsOpen, defined};
-ghost use Rattle.type_tests.specs.Questions.{on_both};
+ghost use Rattle.type_tests.specs.Questions.{entry, on_both};
 ghost use Rattle.type_tests.specs.Identity.{is_identical};
 ghost use Rattle.type_tests.specs.Tests.{underlying_of, comparability_of, is_comparable, is_assignable};
 ghost use Rattle.type_tests.specs.Sizes.{scalars_of};
@@ -28,6 +28,17 @@ pub fn functions_are_the_relations()
     ensures comparable { (rights : Rights) (t : TypeTree) → (is_comparable rights t ≡ true) ↔ Comparable rights t }
     ensures assignable { (rights : Rights) (t u : TypeTree) → (is_assignable rights t u ≡ true) ↔ Assignable rights t u }
     ensures scalars { (rights : Rights) (t : TypeTree) (n : ℕ) → (scalars_of rights t ≡ Some n) ↔ Scalars rights t n }
+{}
+
+/// Of a declared type without a right side nothing is told, and it is assignable where it is
+/// identical.
+pub fn types_without_right_sides()
+    ensures underlying { (rights : Rights) (n : ℕ) → entry rights n ≡ None → underlying_of rights (declared n) ≡ None }
+    ensures comparable { (rights : Rights) (n : ℕ) → entry rights n ≡ None → comparability_of rights (declared n) ≡ None }
+    ensures scalars { (rights : Rights) (n : ℕ) → entry rights n ≡ None → scalars_of rights (declared n) ≡ None }
+    ensures zero { (rights : Rights) (n : ℕ) → entry rights n ≡ None → zero_of rights (declared n) ≡ None }
+    ensures from { (rights : Rights) (n : ℕ) (t : TypeTree) → entry rights n ≡ None → is_assignable rights (declared n) t ≡ is_identical (declared n) t }
+    ensures to { (rights : Rights) (n : ℕ) (t : TypeTree) → entry rights n ≡ None → is_assignable rights t (declared n) ≡ is_identical t (declared n) }
 {}
 
 /// Zero values by the form of the type; that of a declared type is that of its right side.
