@@ -12,7 +12,7 @@ ghost use Rattle.type_tests.specs.Identity.{is_identical};
 ghost use Rattle.type_tests.specs.Tests.{underlying_of, comparability_of, is_comparable, is_assignable};
 ghost use Rattle.type_tests.specs.Sizes.{scalars_of};
 ghost use Rattle.type_tests.specs.Zeros.{Zero, false_value, number_zero, empty_text, elements, fields, nil_slice, nil_function, no_zeros, more_zeros, zero_of, zeros_of};
-ghost use Rattle.type_tests.specs.Extends.{Extends};
+ghost use Rattle.type_tests.specs.Extends.{Extends, Grows};
 ghost use Rattle.type_tests.specs.Renaming.{renamed, IsOneToOne, AreRenamed};
 ghost use Rattle.type_tests.specs.Examples.{Examples};
 
@@ -63,11 +63,13 @@ pub fn counted_types_have_zero_values()
 {}
 
 /// Tables extend themselves, what extends an extension extends the first, and tables that extend
-/// each other are equal.
+/// each other are equal. So it is, but for the last, where nothing is declared or defined.
 pub fn extending_is_an_order()
     ensures itself { (t : Table) → Extends t t }
     ensures both { (s t u : Table) → Extends s t → Extends t u → Extends s u }
     ensures same { (s t : Table) → IsTable s → IsTable t → Extends s t → Extends t s → s ≡ t }
+    ensures grows_itself { (t : Table) → IsTable t → Grows t t }
+    ensures grows_both { (s t u : Table) → Grows s t → Grows t u → Grows s u }
 {}
 
 /// A declaration and a definition extend the table. The one adds a declared type without a right
