@@ -1,0 +1,33 @@
+//! Laws of the commands' spellings.
+ghost use Rattle.std.specs.Prelude.{◌≡◌, ◌≤◌, ◌+◌, ◌⊎◌, ℕ, List, [], ◌++◌, length};
+ghost use Rattle.clone_script.specs.declared.command.Command.{Command};
+ghost use Rattle.clone_script.specs.Commands.{most_line};
+ghost use Rattle.clone_script.specs.Grammar.{Fits, spelling, behind_line, Spells, BeginsWith, IsBeginning, IsBad};
+
+/// No spelling of a command is a proper beginning of another one.
+#[tactic(auto, using(crate::proofs::Outcomes::prefix_free))]
+pub fn prefix_free()
+    ensures { (c d : Command) (rest : List ℕ) → Fits c → Fits d → spelling c ≡ spelling d ++ rest → rest ≡ [] }
+{}
+
+/// Bytes spell at most one command.
+pub fn spelled_once()
+    ensures { (bytes : List ℕ) (c d : Command) → Spells bytes c → Spells bytes d → c ≡ d }
+{}
+
+/// Bytes begin with at most one command.
+pub fn one_command()
+    ensures { (bytes : List ℕ) (c d : Command) (x y : List ℕ) → BeginsWith bytes c x → BeginsWith bytes d y → (c ≡ d) × (x ≡ y) }
+{}
+
+/// Bytes begin with a command, or are the beginning of one and not the whole of it, or are bad, and no two of these.
+pub fn three_ways()
+    ensures some { (bytes : List ℕ) → ((c : Command) × (rest : List ℕ) × BeginsWith bytes c rest) ⊎ (IsBeginning bytes ⊎ IsBad bytes) }
+    ensures apart { (bytes : List ℕ) (c : Command) (rest : List ℕ) → BeginsWith bytes c rest → IsBeginning bytes → ⊥ }
+{}
+
+/// A command's line, its newline included, is within the limit on lines.
+#[tactic(auto, using(crate::proofs::Lines::short_lines))]
+pub fn short_lines()
+    ensures { (c : Command) → Fits c → length (spelling c) ≤ most_line + behind_line c }
+{}
