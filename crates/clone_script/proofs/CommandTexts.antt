@@ -1,5 +1,5 @@
 -- A command is read from its spelling and from nothing else.
-use Rattle.std.proofs.Common.{◌≡◌, ℕ, zero, suc, ◌<◌, ◌≤◌, ◌^◌, ◌⊎◌, inl, inr, Bool, true, false, cond, eqb, List, [], ◌∷◌, ◌++◌, length, None, Result, Ok, Err, refl, sym, ap, subst, ◌∙◌, append_assoc, arith}
+use Rattle.std.proofs.Common.{◌≡◌, ℕ, zero, suc, ◌≤◌, ◌⊎◌, inl, inr, true, eqb, List, [], ◌∷◌, ◌++◌, length, None, Ok, Err, refl, sym, ap, subst, ◌∙◌, append_assoc, arith}
 use Rattle.std.proofs.lemmas.List.{append-nil}
 use Rattle.std.proofs.lemmas.Bool.{eqb-true}
 use Rattle.std.specs.Fmt.{decimal}
@@ -8,9 +8,9 @@ use Rattle.clone_script.specs.declared.command.Command.{Command}
 use Rattle.clone_script.specs.declared.command.Command.TheVariants as command
 use Rattle.clone_script.specs.declared.command.Keyword.{Keyword}
 use Rattle.clone_script.specs.declared.command.Keyword.TheVariants as keyword
-use Rattle.clone_script.specs.Reading.{Refusal, bad, more, Read, or_else, first_byte, literal_at, number_at, name_from, name_at, bytes_at}
+use Rattle.clone_script.specs.Reading.{bad, more, Read, first_byte, literal_at, number_at, name_from, name_at, bytes_at}
 use Rattle.clone_script.specs.Commands.{most_number, most_length, blank, newline, spelling_of, keywords, keyword_of, behind_keyword, command_at}
-use Rattle.clone_script.specs.Grammar.{IsName, Fits, spelling, Spells}
+use Rattle.clone_script.specs.Grammar.{IsName, spelling, Spells}
 use Rattle.clone_script.proofs.Readers.{Reads, reads_as, Then, then, then_reads, Only, only_reads, Either, or_reads, none_reads, none_left, pair_is}
 use Rattle.clone_script.proofs.Numbers.{chosen, IsNumberText, number_reads}
 use Rattle.clone_script.proofs.Names.{IsNameText, name_reads}

@@ -5,3 +5,4 @@ pub mod Names
 pub mod CommandTexts
 pub mod Outcomes
 pub mod Lines
+pub mod Scripts

@@ -1,11 +1,11 @@
 -- How long the lines of commands are.
-use Rattle.std.proofs.Common.{◌≡◌, ℕ, ◌+◌, ◌^◌, ◌<◌, ◌≤◌, List, [], ◌∷◌, ◌++◌, length, refl, arith}
+use Rattle.std.proofs.Common.{ℕ, ◌+◌, ◌≤◌, List, [], ◌∷◌, ◌++◌, length, arith}
 use Rattle.std.proofs.lemmas.List.{length-append}
 use Rattle.std.specs.Fmt.{decimal}
 use Rattle.std.proofs.lemmas.Fmt.{length-decimal-le}
 use Rattle.clone_script.specs.declared.command.Command.{Command}
 use Rattle.clone_script.specs.declared.command.Command.TheVariants as command
-use Rattle.clone_script.specs.Commands.{most_number, most_length, most_line, blank, newline}
+use Rattle.clone_script.specs.Commands.{most_number, most_line, blank, newline}
 use Rattle.clone_script.specs.Grammar.{Fits, spelling, behind_line}
 
 ten_digits : (n : ℕ) → n ≤ most_number → length (decimal n) ≤ 10

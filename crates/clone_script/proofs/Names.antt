@@ -1,11 +1,11 @@
 -- A name is read from its bytes and from nothing else.
-use Rattle.std.proofs.Common.{◌≡◌, ℕ, zero, suc, ◌+◌, ◌-◌, ◌<◌, ◌≤◌, ◌⊎◌, inl, inr, Bool, true, false, cond, eqb, List, [], ◌∷◌, ◌++◌, length, take, replicate, Option, Some, None, Result, Ok, Err, refl, sym, ap, subst, ◌∙◌, append_assoc, arith}
+use Rattle.std.proofs.Common.{◌≡◌, ℕ, zero, suc, ◌+◌, ◌-◌, ◌<◌, ◌≤◌, ◌⊎◌, inl, inr, Bool, true, false, cond, eqb, List, [], ◌∷◌, ◌++◌, length, take, replicate, Option, Some, None, Ok, Err, refl, sym, ap, subst, ◌∙◌, append_assoc, arith}
 use Rattle.std.specs.Prelude.{◌&&◌}
-use Rattle.std.proofs.lemmas.List.{append-nil, take_at, length-append, length-replicate}
+use Rattle.std.proofs.lemmas.List.{take_at, length-replicate}
 use Rattle.std.proofs.lemmas.Bool.{eqb-true}
 use Rattle.go_base.specs.Gives.{◌>>=◌}
 use Rattle.clone_script.specs.declared.name.Character.{Character}
-use Rattle.clone_script.specs.Reading.{Refusal, bad, more, Read, or_bad, whole, lies_in, first_byte, next_byte, has_room, is_whole, name_from, name_at}
+use Rattle.clone_script.specs.Reading.{bad, more, Read, or_bad, whole, lies_in, first_byte, next_byte, has_room, is_whole, name_from, name_at}
 use Rattle.clone_script.specs.Grammar.{Continues, AreCharacters, IsName}
 use Rattle.clone_script.proofs.Readers.{Reads, pair_is, none_left, bind_ok, bind_more}
 use Rattle.clone_script.proofs.Numbers.{chosen, or_bad_ok, or_bad_more}

@@ -1,5 +1,5 @@
 -- What the answer of a reading says of the bytes.
-use Rattle.std.proofs.Common.{◌≡◌, ℕ, ◌⊎◌, ◌-◌, ◌+◌, ◌≤◌, List, [], ◌∷◌, ◌++◌, length, take, drop, inl, inr, Result, Ok, Err, refl, sym, ap, subst, ◌∙◌, append_assoc, arith}
+use Rattle.std.proofs.Common.{◌≡◌, ℕ, ◌⊎◌, ◌-◌, ◌+◌, ◌≤◌, List, [], ◌++◌, length, take, drop, inl, inr, Result, Ok, Err, refl, sym, ap, subst, ◌∙◌, arith}
 use Rattle.std.specs.Prelude.{IfOk}
 use Rattle.std.proofs.lemmas.List.{append-nil, take_at, length-append, take-append-drop}
 use Rattle.go_base.specs.Gives.{◌>>=◌, Gives}
@@ -9,7 +9,7 @@ use Rattle.clone_script.specs.declared.error.ScriptError.TheVariants as errors
 use Rattle.clone_script.specs.Reading.{Refusal, bad, more, Read, script_refusal}
 use Rattle.clone_script.specs.Commands.{command_at, command_of, taken_view}
 use Rattle.clone_script.specs.Grammar.{Fits, spelling, Spells, BeginsWith, IsBeginning, IsBad}
-use Rattle.clone_script.proofs.Readers.{Reads, ok, pair_is, bind_ok, bind_more}
+use Rattle.clone_script.proofs.Readers.{pair_is, bind_ok, bind_more}
 use Rattle.clone_script.proofs.CommandTexts.{command_reads}
 
 abbrev Answer : Type 0

@@ -1,6 +1,6 @@
 -- Readers and what they read. A reader takes from the front exactly what is spelled so, and says of other bytes
 -- whether they are the beginning of such a spelling.
-use Rattle.std.proofs.Common.{◌≡◌, ℕ, zero, suc, ◌⊎◌, inl, inr, true, false, eqb, List, [], ◌∷◌, ◌++◌, length, Result, Ok, Err, refl, sym, ap, subst, ◌∙◌, append_assoc, arith}
+use Rattle.std.proofs.Common.{◌≡◌, ℕ, ◌⊎◌, inl, inr, List, [], ◌∷◌, ◌++◌, Result, Ok, Err, refl, sym, ap, subst, ◌∙◌, append_assoc}
 use Rattle.std.proofs.lemmas.List.{append-nil}
 use Rattle.go_base.specs.Gives.{◌>>=◌}
 use Rattle.clone_script.specs.Reading.{Refusal, bad, more, Read, or_else}

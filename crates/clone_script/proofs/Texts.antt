@@ -1,9 +1,9 @@
 -- So many bytes and a newline, found by their number.
-use Rattle.std.proofs.Common.{◌≡◌, ℕ, zero, suc, ◌<◌, ◌≤◌, Bool, true, false, cond, eqb, List, [], ◌∷◌, length, take, drop, replicate, ◌++◌, Result, Ok, Err, refl, sym, ap, ◌∙◌, append_assoc, inl, inr, arith}
+use Rattle.std.proofs.Common.{◌≡◌, ℕ, zero, suc, ◌<◌, ◌≤◌, Bool, true, false, cond, eqb, List, [], ◌∷◌, length, take, drop, replicate, ◌++◌, Ok, Err, refl, sym, ap, ◌∙◌, append_assoc, inl, inr, arith}
 use Rattle.std.proofs.lemmas.List.{length-replicate}
 use Rattle.std.proofs.lemmas.Bool.{eqb-true}
 use Rattle.go_base.specs.Gives.{◌>>=◌}
-use Rattle.clone_script.specs.Reading.{Refusal, bad, more, Read, bytes_at, literal_at}
+use Rattle.clone_script.specs.Reading.{bad, more, Read, bytes_at, literal_at}
 use Rattle.clone_script.proofs.Readers.{Reads, pair_is, none_left, bind_ok, bind_more}
 use Rattle.clone_script.proofs.Numbers.{chosen}
 

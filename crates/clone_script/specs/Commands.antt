@@ -6,7 +6,7 @@ use Rattle.clone_script.specs.declared.command.Command.TheVariants as command
 use Rattle.clone_script.specs.declared.command.Keyword.{Keyword}
 use Rattle.clone_script.specs.declared.error.ScriptError.{ScriptError}
 use Rattle.clone_script.specs.declared.command.Keyword.TheVariants as keyword
-use Rattle.clone_script.specs.Reading.{Refusal, bad, more, Read, script_refusal, or_else, literal_at, number_at, name_at, bytes_at}
+use Rattle.clone_script.specs.Reading.{Refusal, bad, Read, script_refusal, or_else, literal_at, number_at, name_at, bytes_at}
 
 -- the greatest number
 abbrev pub most_number : ℕ

@@ -1,5 +1,5 @@
 -- The replies to commands, as bytes.
-use Rattle.std.specs.Prelude.{ℕ, List, [], ◌∷◌, ◌++◌, length, codes, Option, Some, None}
+use Rattle.std.specs.Prelude.{ℕ, List, ◌++◌, length, codes, Option, Some, None}
 use Rattle.std.specs.Fmt.{decimal}
 use Rattle.go_base.specs.declared.fault.Fault.{Fault}
 use Rattle.go_base.specs.declared.span.Span.{Span}

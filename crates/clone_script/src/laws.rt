@@ -1,6 +1,10 @@
 //! Laws of the commands' spellings.
-ghost use Rattle.std.specs.Prelude.{◌≡◌, ◌≤◌, ◌+◌, ◌⊎◌, ℕ, List, [], ◌++◌, length};
+ghost use Rattle.std.specs.Prelude.{◌≡◌, ◌≤◌, ◌+◌, ◌⊎◌, ℕ, List, [], ◌++◌, length, codes};
 ghost use Rattle.clone_script.specs.declared.command.Command.{Command};
+ghost use Rattle.clone_script.specs.declared.command.Command.TheVariants as command;
+ghost use Rattle.clone_script.specs.Reading.{bad, more};
+ghost use Rattle.clone_script.specs.Script.{Outcome, HasOutcome};
+ghost use Rattle.clone_script.specs.Examples.{Takes, TakesNone};
 ghost use Rattle.clone_script.specs.Commands.{most_line};
 ghost use Rattle.clone_script.specs.Grammar.{Fits, spelling, behind_line, Spells, BeginsWith, IsBeginning, IsBad};
 
@@ -30,4 +34,23 @@ pub fn three_ways()
 #[tactic(auto, using(crate::proofs::Lines::short_lines))]
 pub fn short_lines()
     ensures { (c : Command) → Fits c → length (spelling c) ≤ most_line + behind_line c }
+{}
+
+/// A script has exactly one outcome: done, bad at an offset, or too long.
+pub fn one_outcome()
+    ensures some { (script : List ℕ) → (o : Outcome) × HasOutcome script o }
+    ensures one { (script : List ℕ) (a b : Outcome) → HasOutcome script a → HasOutcome script b → a ≡ b }
+{}
+
+/// Worked examples.
+pub fn examples()
+    ensures classes { Takes (codes "classes\n") command.Classes 8 }
+    ensures edit { Takes (codes "edit a.go 67 68 0\n\n") (command.Edit (codes "a.go") 67 68 []) 19 }
+    ensures add { Takes (codes "add b.go 13\npackage main\n\nquit\n") (command.Add (codes "b.go") (codes "package main\n")) 26 }
+    ensures begun { TakesNone (codes "clas") more }
+    ensures cut_off { TakesNone (codes "edit main.go 0 0 10\nabcd") more }
+    ensures other { TakesNone (codes "extract 1 h all\n") bad }
+    ensures misspelled { TakesNone (codes "clases\n") bad }
+    ensures blank { TakesNone (codes "quit \n") bad }
+    ensures zero { TakesNone (codes "edit a.go 067 68 0\n\n") bad }
 {}
