@@ -1,0 +1,8 @@
+use Rattle.std.proofs.Common.{refl}
+use Rattle.clone_script.specs.Reading.{literal_at, with_digit, next_number, number_from, number_at, first_byte, next_byte, name_from, name_at, bytes_at}
+use Rattle.clone_script.specs.Commands.{keyword_of, behind_keyword, command_at, command_of}
+use Rattle.clone_script.proofs.laws.examples.Goals as goal
+
+pub returns : goal.returns
+unfolding literal_at with_digit next_number number_from number_at first_byte next_byte name_from name_at bytes_at keyword_of behind_keyword command_at command_of
+returns c = record { classes = refl; edit = refl; add = refl; begun = refl; cut_off = refl; other = refl; misspelled = refl; blank = refl; zero = refl }
