@@ -14,6 +14,8 @@ mod names;
 #[cfg(test)]
 mod path_files;
 #[cfg(test)]
+mod script;
+#[cfg(test)]
 mod trees;
 #[cfg(test)]
 mod types;
