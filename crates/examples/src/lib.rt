@@ -1,4 +1,5 @@
-//! Worked examples, run through the public calls of the crates below.
+//! Worked examples, run through the public calls of the lowest crates, of the types, the script and the program's present
+//! language.
 //!
 //! Each crate's contract says what its calls answer; the tests here compare a few answers with values from outside, and call
 //! what takes memory where there is enough of it. They stand in a crate of their own, since the check of a crate with tests
@@ -8,14 +9,8 @@
 #[cfg(test)]
 mod calls;
 #[cfg(test)]
-mod files;
-#[cfg(test)]
-mod names;
-#[cfg(test)]
 mod path_files;
 #[cfg(test)]
 mod script;
-#[cfg(test)]
-mod trees;
 #[cfg(test)]
 mod types;
