@@ -4,7 +4,8 @@ use clone_script::{
     EditAnswer, EditKind, ScriptError, bad_reply, edit_reply, fault_reply, next_command,
     show_reply, stat_reply,
 };
-use go_base::{Fault, FaultCode, Name, Span};
+use go_base::{Bytes, Fault, FaultCode, Memory, Name, Span};
+use std::process::Abort;
 use std::test::Fail;
 
 /// Commands of every kind.
@@ -48,8 +49,27 @@ fn takes_a_script_apart(rt: HostRuntime) -> Result<(), Fail> {
     Ok(())
 }
 
+/// A reply is these bytes.
+fn is_reply(rt: &impl Abort, reply: Result<Bytes, Memory>, wanted: &[u8]) -> Result<(), Fail> {
+    assert_eq!(rt; reply?.as_slice(), wanted);
+    Ok(())
+}
+
 #[test]
 fn writes_replies(rt: HostRuntime) -> Result<(), Fail> {
+    let alloc = rt.alloc();
+    let range = edit_reply(alloc, EditKind::Edit, EditAnswer::Range);
+    is_reply(&rt, range, b"no edit 2 Range\n")?;
+    let done = edit_reply(alloc, EditKind::Drop, EditAnswer::Done);
+    is_reply(&rt, done, b"ok drop\n")?;
+    let stat = stat_reply(alloc, 1, 125, 2, 2, 1, 1);
+    let wanted = b"stat files 1 bytes 125 functions 2 windows 2 hashes 1 classes 1\n";
+    is_reply(&rt, stat, wanted)?;
+    is_reply(&rt, bad_reply(alloc, 8), b"bad 8\n")
+}
+
+#[test]
+fn writes_replies_of_files(rt: HostRuntime) -> Result<(), Fail> {
     let alloc = rt.alloc();
     let name = Name::of(alloc, b"a.go")?;
     let fault = Fault {
@@ -60,31 +80,9 @@ fn writes_replies(rt: HostRuntime) -> Result<(), Fail> {
             end: 124,
         },
     };
-    for (reply, wanted) in [
-        (
-            edit_reply(alloc, EditKind::Edit, EditAnswer::Range)?,
-            b"no edit 2 Range\n".as_slice(),
-        ),
-        (
-            edit_reply(alloc, EditKind::Drop, EditAnswer::Done)?,
-            b"ok drop\n".as_slice(),
-        ),
-        (
-            fault_reply(alloc, &name, &fault)?,
-            b"fault 4 syntax a.go:0-124\n".as_slice(),
-        ),
-        (
-            stat_reply(alloc, 1, 125, 2, 2, 1, 1)?,
-            b"stat files 1 bytes 125 functions 2 windows 2 hashes 1 classes 1\n".as_slice(),
-        ),
-        (show_reply(alloc, None)?, b"no show 1 NoFile\n".as_slice()),
-        (
-            show_reply(alloc, Some(b"ab".as_slice()))?,
-            b"show 2\nab\n".as_slice(),
-        ),
-        (bad_reply(alloc, 8)?, b"bad 8\n".as_slice()),
-    ] {
-        assert_eq!(rt; reply.as_slice(), wanted);
-    }
-    Ok(())
+    let reply = fault_reply(alloc, &name, &fault);
+    is_reply(&rt, reply, b"fault 4 syntax a.go:0-124\n")?;
+    is_reply(&rt, show_reply(alloc, None), b"no show 1 NoFile\n")?;
+    let shown = show_reply(alloc, Some(b"ab".as_slice()));
+    is_reply(&rt, shown, b"show 2\nab\n")
 }

@@ -19,91 +19,6 @@ use std::test::Fail;
 /// A fault: its code, the number of its file, and its place.
 type Place = (u8, u32, u32, u32);
 
-/// Packages with their files and the fault that is reported, if there is one.
-const PACKAGES: [(&[&[u8]], Option<Place>); 24] = [
-    (
-        &[b"package p\nfunc f() { x := 1; x := 2; _ = x }"],
-        Some((6, 0, 29, 30)),
-    ),
-    (
-        &[b"package p\ntype T struct { t T }"],
-        Some((20, 0, 15, 16)),
-    ),
-    (
-        &[b"package p\nconst a = b\nconst b = a"],
-        Some((20, 0, 16, 17)),
-    ),
-    (&[b"package p\nfunc f() { break }"], Some((19, 0, 21, 26))),
-    (
-        &[b"package p\nvar x = f()\nfunc f() int { return 1 }"],
-        Some((24, 0, 18, 19)),
-    ),
-    (&[b"package p\nfunc f() { fmt := 1; _ = fmt }"], None),
-    (&[b"package p\ntype T struct { t []T }"], None),
-    (
-        &[b"package p\n\nfunc f() {\n\tx := 1\n}\n"],
-        Some((8, 0, 23, 24)),
-    ),
-    (&[b"package p\n\nimport \"fmt\"\n"], Some((9, 0, 18, 23))),
-    (&[b"package p\n\nconst a = 1 << 126\n"], None),
-    (
-        &[
-            b"package p\n\nfunc f() int {\n\ta := 1\n\t{\n\t\ta = 2\n\t\ta := 3\n\t\t_ = a\n\t}\n\t{\n\t\ta = 2\n\t\ta := 3\n\t\t_ = a\n\t}\n\treturn a\n}\n",
-        ],
-        None,
-    ),
-    // The import hides, and is hidden by, a name of the package.
-    (
-        &[b"package p\nimport \"fmt\"\nvar fmt int\nfunc f() { fmt.Println() }"],
-        Some((6, 0, 27, 30)),
-    ),
-    (
-        &[b"package p\nimport \"fmt\"\nimport \"fmt\"\nfunc f() { fmt.Println() }"],
-        Some((6, 0, 30, 35)),
-    ),
-    // Clauses come before names.
-    (
-        &[b"package p\nfunc f() { break }\nfunc init() {}"],
-        Some((3, 0, 34, 38)),
-    ),
-    // The least place counts before the least code.
-    (
-        &[b"package p\nfunc f() { var a, a int }"],
-        Some((8, 0, 25, 26)),
-    ),
-    // Two files, in both orders.
-    (
-        &[b"package p\nvar x int", b"package p\nvar x bool"],
-        Some((6, 1, 14, 15)),
-    ),
-    (
-        &[b"package p\nvar x bool", b"package p\nvar x int"],
-        Some((6, 1, 14, 15)),
-    ),
-    (
-        &[b"package p\nconst b = a", b"package p\nconst a = b"],
-        Some((20, 0, 16, 17)),
-    ),
-    (&[b"package p", b"package q"], Some((5, 1, 8, 9))),
-    (&[], None),
-    // A constant without a value has that of the one before.
-    (
-        &[b"package p\nconst (\n\ta, b = 1, d\n\tc, d\n)"],
-        Some((20, 0, 35, 36)),
-    ),
-    // The last clause can't fall through, and there is one default at most.
-    (
-        &[b"package p\nfunc f() { switch 1 { default: fallthrough } }"],
-        Some((19, 0, 41, 52)),
-    ),
-    (
-        &[b"package p\nfunc f() { switch 1 { default: default: } }"],
-        Some((23, 0, 41, 48)),
-    ),
-    // What is wrong with these is no matter of names.
-    (&[b"package p\nvar x int8 = 300\nfunc f() int {\n}"], None),
-];
-
 /// The file with this number and text.
 fn file(alloc: Global, number: u32, text: &[u8]) -> Result<File, Fail> {
     if text.len() > 1_048_576 {
@@ -134,14 +49,6 @@ fn fault(alloc: Global, texts: &[&[u8]]) -> Result<Option<Place>, Fail> {
     }
 }
 
-#[test]
-fn packages(rt: HostRuntime) -> Result<(), Fail> {
-    for (texts, wanted) in PACKAGES {
-        assert!(rt; fault(rt.alloc(), texts)? == wanted);
-    }
-    Ok(())
-}
-
 /// A function with so many statements `f()`, of four bytes each behind the first 21 of the file.
 fn with_statements(alloc: Global, count: usize) -> Result<String, Fail> {
     let mut text = String::from_str(alloc, "package p\nfunc f() {\n")?;
@@ -152,10 +59,11 @@ fn with_statements(alloc: Global, count: usize) -> Result<String, Fail> {
     Ok(text)
 }
 
-/// The statement behind the 65,536 that a package may have.
+/// No file, and the statement behind the 65,536 that a package may have.
 #[test]
 fn statements(rt: HostRuntime) -> Result<(), Fail> {
     let alloc = rt.alloc();
+    assert!(rt; fault(alloc, &[])?.is_none());
     let more = with_statements(alloc, 65_537)?;
     assert!(rt; fault(alloc, &[more.as_bytes()])? == Some((25, 0, 262_165, 262_168)));
     Ok(())

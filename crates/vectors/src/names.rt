@@ -1,4 +1,4 @@
-//! The table `names`: a number, the files of a package in hexadecimal digits, divided by blanks, and `ok` or its fault.
+//! Tables of packages: a number, the files in hexadecimal digits, divided by blanks, and `ok` or the fault of the names.
 use crate::lexing::bytes_of;
 use crate::tables::Table;
 use go_base::{Fault, Memory};
@@ -13,11 +13,15 @@ use std::alloc::Global;
 /// The bytes of the longest file.
 const LONGEST: usize = 1_048_576;
 
-pub struct Names;
+/// A table of packages.
+pub struct Names {
+    /// Its name.
+    pub name: &'static str,
+}
 
 impl Table for Names {
     fn name(&self) -> &'static str {
-        "names"
+        self.name
     }
 
     fn difference(&self, alloc: Global, fields: &[&str]) -> Result<Option<String>, Memory> {

@@ -1,4 +1,4 @@
-//! The table `grammar`: a name, a file in hexadecimal digits (`-` for none), and `tree` or its fault.
+//! Tables of files: a name, a file in hexadecimal digits (`-` for none), and `tree` or its fault.
 
 ghost use Rattle.std.specs.Prelude.{◌≤◌, length};
 
@@ -13,11 +13,15 @@ use std::alloc::Global;
 /// The bytes of the longest file.
 const LONGEST: usize = 1_048_576;
 
-pub struct Parsing;
+/// A table of files.
+pub struct Parsing {
+    /// Its name.
+    pub name: &'static str,
+}
 
 impl Table for Parsing {
     fn name(&self) -> &'static str {
-        "grammar"
+        self.name
     }
 
     fn difference(&self, alloc: Global, fields: &[&str]) -> Result<Option<String>, Memory> {
