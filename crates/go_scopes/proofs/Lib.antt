@@ -1,6 +1,7 @@
 pub mod Gathering
 pub mod Least
 pub mod LookupRules
+pub mod MovedMeanings
 pub mod NamePlaces
 pub mod Numbering
 pub mod Orderly
