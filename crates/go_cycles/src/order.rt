@@ -1,9 +1,11 @@
 //! The order of the declarations of a package by what needs what.
 
 ghost use Rattle.std.specs.Prelude.{◌≡◌, ℕ, List, true, Some, IsPermutation, is_some, IfOk, IfSome, map};
+ghost use Rattle.std.specs.List.Sorted.{IsNonDecreasingBy};
 ghost use Rattle.go_tree.specs.Needs.{needs_itself};
 ghost use Rattle.go_lookup.specs.Views.{found_view, asked_view};
 ghost use Rattle.go_tree.specs.Lookups as rules;
+ghost use Rattle.go_cycles.specs.Ranks.{rank_of};
 ghost use Rattle.go_cycles.specs.Order.{IsOrder, rank_shown, NeedsBelow, is_placed, are_placed, StandInOrder};
 
 use crate::circle::circle;
@@ -53,6 +55,20 @@ pub fn order_of(
         ordered,
         graph,
     })
+}
+
+/// The declarations by their ranks.
+fn by_rank<'a>(
+    alloc: Global,
+    ranks: &Ranks,
+    declared: &[Found<'a>],
+) -> Result<Vec<Found<'a>>, AllocError>
+    ensures all { IfOk result (λ v. IsPermutation declared.now v.items) }
+    ensures order { IfOk result (λ v. IsNonDecreasingBy (λ d. rank_of ranks.now d.file d.declaration.name false) v.items) }
+{
+    let mut sorted = Vec::from_slice(alloc, declared)?;
+    sorted.sort_by_key(|d| rank_of(ranks, d, false))?;
+    Ok(sorted)
 }
 
 impl Order {
@@ -130,9 +146,7 @@ impl Order {
         if !self.are_placed(declared) {
             return Ok(None);
         }
-        let mut sorted = Vec::from_slice(alloc, declared)?;
-        sorted.sort_by_key(|d| rank_of(&self.ranks, d, false))?;
-        Ok(Some(sorted))
+        Ok(Some(by_rank(alloc, &self.ranks, declared)?))
     }
 
     /// Whether a declaration needs itself, by way of at most `rounds` others (Go specification: Type declarations, Package

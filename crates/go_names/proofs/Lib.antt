@@ -8,6 +8,7 @@ pub mod Moved
 pub mod Nesting
 pub mod Rising
 pub mod Scoped
+pub mod Sited
 pub mod Sweeps
 pub mod Told
 pub mod Outer

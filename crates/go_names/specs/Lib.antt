@@ -4,3 +4,4 @@ pub mod Moved
 pub mod Orders
 pub mod Scoped
 pub mod Scopes
+pub mod Sited

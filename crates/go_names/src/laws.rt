@@ -5,6 +5,7 @@ ghost use Rattle.go_tokens.specs.declared.token.TokenKind.{TokenKind};
 ghost use Rattle.go_grammar.specs.Grammar.{IsFile};
 ghost use Rattle.go_grammar.specs.Trees.{Tree, last};
 ghost use Rattle.go_tree.specs.declared.context.Context.{Context};
+ghost use Rattle.go_tree.specs.declared.context.Site.TheVariants as site;
 ghost use Rattle.go_tree.specs.Contexts.{file_context};
 ghost use Rattle.go_tree.specs.Events.{events};
 ghost use Rattle.go_tree.specs.Meanings.{Meaning, meanings, meaning_at};
@@ -14,6 +15,7 @@ ghost use Rattle.go_names.specs.Moved.{moved, moved_context, moved_event};
 ghost use Rattle.go_names.specs.Inside.{LocalsInside, nowhere};
 ghost use Rattle.go_names.specs.Orders.{AreInOrder, EachDeclared, ScopesNest, IsFollowed, LocalsFollow};
 ghost use Rattle.go_names.specs.Scoped.{IsScoped};
+ghost use Rattle.go_names.specs.Sited.{EachUsed, IsSited};
 ghost use Rattle.go_names.specs.Scopes.{AreNested, AreSwept, IsOrderly, AreOrderly, locals_of, reached, inmost, first_by, is_import, is_package};
 
 /// The names that are declared or looked up stand in the order of their tokens.
@@ -63,6 +65,13 @@ pub fn files_are_orderly()
 /// The functions that the tree of a file declares are its functions, in order of place.
 pub fn functions_are_told_in_order()
     ensures { (ts : List TokenKind) (t : Tree) → IsFile ts t → functions_told (events (file_context (last t)) t) ≡ function_names t }
+{}
+
+/// Each name that is looked up stands in the part of a declaration that its place in the tree says: so a constant or variable
+/// needs what its type and its own expression name, a function what its signature names, and a type what its right side names,
+/// with the elements of slices and function types apart. This holds of any tree.
+pub fn names_stand_in_parts_of_declarations()
+    ensures { (t : Tree) → EachUsed (IsSited None site.Elsewhere t) (events (file_context (last t)) t) }
 {}
 
 /// Where the tokens of a tree stand further on, it tells the same of tokens that stand so much further on. This holds of any
