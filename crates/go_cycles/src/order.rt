@@ -1,6 +1,6 @@
 //! The order of the declarations of a package by what needs what.
 
-ghost use Rattle.std.specs.Prelude.{◌≡◌, ℕ, List, true, Some, IsPermutation, is_some, IfOk, IfSome, map};
+ghost use Rattle.std.specs.Prelude.{◌≡◌, ℕ, List, true, false, Some, IsPermutation, is_some, IfOk, IfSome, map};
 ghost use Rattle.std.specs.List.Sorted.{IsNonDecreasingBy};
 ghost use Rattle.go_tree.specs.Needs.{needs_itself};
 ghost use Rattle.go_lookup.specs.Views.{found_view, asked_view};

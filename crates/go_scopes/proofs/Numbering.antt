@@ -13,6 +13,7 @@ use Rattle.go_tree.specs.declared.context.Entity.TheVariants as entity
 use Rattle.go_tree.specs.declared.context.Manner.{Manner}
 use Rattle.go_tree.specs.declared.context.Manner.TheVariants as manner
 use Rattle.go_tree.specs.declared.context.Scope.{Scope}
+use Rattle.go_tree.specs.declared.object.Declared.{Declared}
 use Rattle.go_tree.specs.declared.event.Declaration.{Declaration}
 use Rattle.go_tree.specs.declared.event.Event.{Event}
 use Rattle.go_tree.specs.declared.event.Event.TheVariants as event
@@ -42,14 +43,14 @@ abbrev tops : List Found → List (ℕ × ℕ)
 tops [] = []
 tops (d ∷ ds) = if is_top d then (d.file, d.it.name) ∷ tops ds else tops ds
 
+one_top : (d : Found) (p f : Bool) (ys : List Declared) (xs : List (ℕ × ℕ)) → is_function d.it.entity ≡ f → map spot_of (functions_among ys) ≡ xs → map spot_of (functions_among (if p then declared_by d ∷ ys else ys)) ≡ (if p && f then (d.file, d.it.name) ∷ xs else xs)
+one_top d true true ys xs e h = ap (λ b. map spot_of (if b then declared_by d ∷ functions_among ys else functions_among ys)) e ∙ ap (λ zs. (d.file, d.it.name) ∷ zs) h
+one_top d true false ys xs e h = ap (λ b. map spot_of (if b then declared_by d ∷ functions_among ys else functions_among ys)) e ∙ h
+one_top d false f ys xs e h = h
+
 package_tops : (ds : List Found) → map spot_of (functions_among (declared_in_package ds)) ≡ tops ds
 package_tops [] = refl
-package_tops (d ∷ ds) = by (is_package d.it.block) (is_function d.it.entity) refl
-  where
-    by : (p f : Bool) → f ≡ is_function d.it.entity → map spot_of (functions_among (if p then declared_by d ∷ declared_in_package ds else declared_in_package ds)) ≡ (if p && f then (d.file, d.it.name) ∷ tops ds else tops ds)
-    by true true e = ap (λ b. map spot_of (if b then declared_by d ∷ functions_among (declared_in_package ds) else functions_among (declared_in_package ds))) (sym e) ∙ ap (λ xs. (d.file, d.it.name) ∷ xs) (package_tops ds)
-    by true false e = ap (λ b. map spot_of (if b then declared_by d ∷ functions_among (declared_in_package ds) else functions_among (declared_in_package ds))) (sym e) ∙ package_tops ds
-    by false f e = package_tops ds
+package_tops (d ∷ ds) = one_top d (is_package d.it.block) (is_function d.it.entity) (declared_in_package ds) (tops ds) refl (package_tops ds)
 
 -- ---- each function is new
 
@@ -69,33 +70,33 @@ AreProper (d ∷ ds) = IsProper d × AreProper ds
 proper_new : (all : List Found) (d : Found) → IsProper d → is_top d ≡ true → is_new all d ≡ true
 proper_new all d h e = ap (λ b. not b && not (may_be_reused d.it.manner && is_reused d all)) (h.named e) ∙ ap (λ m. not (may_be_reused m && is_reused d all)) (h.declared e)
 
+one_new : (all : List Found) (d : Found) (n t : Bool) (ys : List Found) (xs : List (ℕ × ℕ)) → IsProper d → is_new all d ≡ n → is_top d ≡ t → tops ys ≡ xs → tops (if n then d ∷ ys else ys) ≡ (if t then (d.file, d.it.name) ∷ xs else xs)
+one_new all d true t ys xs h e f k = ap (λ b. if b then (d.file, d.it.name) ∷ tops ys else tops ys) f ∙ ap (λ zs. if t then (d.file, d.it.name) ∷ zs else zs) k
+one_new all d false true ys xs h e f k = absurd (true_false (is_new all d) (proper_new all d h f) e)
+one_new all d false false ys xs h e f k = k
+
 new_tops : (all ds : List Found) → AreProper ds → tops (new_among all ds) ≡ tops ds
 new_tops all [] h = refl
-new_tops all (d ∷ ds) h = by (is_new all d) (is_top d) refl refl
-  where
-    by : (n t : Bool) → is_new all d ≡ n → is_top d ≡ t → tops (if n then d ∷ new_among all ds else new_among all ds) ≡ (if t then (d.file, d.it.name) ∷ tops ds else tops ds)
-    by true t e f = ap (λ b. if b then (d.file, d.it.name) ∷ tops (new_among all ds) else tops (new_among all ds)) f ∙ ap (λ xs. if t then (d.file, d.it.name) ∷ xs else xs) (new_tops all ds h.1)
-    by false true e f = absurd (true_false (is_new all d) (proper_new all d h.0 f) e)
-    by false false e f = new_tops all ds h.1
+new_tops all (d ∷ ds) h = one_new all d (is_new all d) (is_top d) (new_among all ds) (tops ds) h.0 refl refl (new_tops all ds h.1)
 
 -- ---- what the files tell
 
+one_found : (n x : ℕ) (b : Bool) (ys : List (ℕ × ℕ)) (xs : List ℕ) → ys ≡ map (λ t. (n, t)) xs → (if b then (n, x) ∷ ys else ys) ≡ map (λ t. (n, t)) (if b then x ∷ xs else xs)
+one_found n x true ys xs h = ap (λ zs. (n, x) ∷ zs) h
+one_found n x false ys xs h = h
+
 found_tops : (n : ℕ) (ts : TokenList) (es : List Event) → tops (found_in n ts es) ≡ map (λ t. (n, t)) (functions_told es)
 found_tops n ts [] = refl
-found_tops n ts (event.Declaration d ∷ es) = by (is_package d.block && is_function d.entity)
-  where
-    by : (b : Bool) → (if b then (n, d.name) ∷ tops (found_in n ts es) else tops (found_in n ts es)) ≡ map (λ t. (n, t)) (if b then d.name ∷ functions_told es else functions_told es)
-    by true = ap (λ xs. (n, d.name) ∷ xs) (found_tops n ts es)
-    by false = found_tops n ts es
+found_tops n ts (event.Declaration d ∷ es) = one_found n d.name (is_package d.block && is_function d.entity) (tops (found_in n ts es)) (functions_told es) (found_tops n ts es)
 found_tops n ts (e ∷ es) = found_tops n ts es
+
+one_append : (x : ℕ × ℕ) (b : Bool) (zs xs ys : List (ℕ × ℕ)) → zs ≡ xs ++ ys → (if b then x ∷ zs else zs) ≡ (if b then x ∷ xs else xs) ++ ys
+one_append x true zs xs ys h = ap (λ ws. x ∷ ws) h
+one_append x false zs xs ys h = h
 
 tops_append : (xs ys : List Found) → tops (xs ++ ys) ≡ tops xs ++ tops ys
 tops_append [] ys = refl
-tops_append (d ∷ ds) ys = by (is_top d)
-  where
-    by : (b : Bool) → (if b then (d.file, d.it.name) ∷ tops (ds ++ ys) else tops (ds ++ ys)) ≡ (if b then (d.file, d.it.name) ∷ tops ds else tops ds) ++ tops ys
-    by true = ap (λ xs. (d.file, d.it.name) ∷ xs) (tops_append ds ys)
-    by false = tops_append ds ys
+tops_append (d ∷ ds) ys = one_append (d.file, d.it.name) (is_top d) (tops (ds ++ ys)) (tops ds) (tops ys) (tops_append ds ys)
 
 files_tops : (n : ℕ) (fs : List FileTree) → AreFiles fs → tops (found_from n (units_of fs)) ≡ function_spots n fs
 files_tops n [] h = refl
@@ -173,13 +174,13 @@ proper (d ∷ ds) h e =
 
 -- ---- where no fault is reported, none is found
 
+some_if : (b : Bool) (f g : Failure) → (if b then Some g else Some f) ≡ Some (if b then g else f)
+some_if true f g = refl
+some_if false f g = refl
+
 least_some : (f : Failure) (gs : List Failure) → least_from (Some f) gs ≡ None → ⊥
 least_some f [] e = cc
-least_some f (g ∷ gs) e = by (is_earlier g f) e
-  where
-    by : (b : Bool) → least_from (if b then Some g else Some f) gs ≡ None → ⊥
-    by true h = least_some g gs h
-    by false h = least_some f gs h
+least_some f (g ∷ gs) e = least_some (if is_earlier g f then g else f) gs (sym (ap (λ o. least_from o gs) (some_if (is_earlier g f) f g)) ∙ e)
 
 no_least : (fs : List Failure) → least fs ≡ None → fs ≡ []
 no_least [] e = refl

@@ -8,5 +8,5 @@ pub returns-clause-order : goal.returns-clause-order
 returns-clause-order c asks h =
     let o = c.args.self.now in
     let ds = c.args.declared.now in
-    let placed : are_placed o (map found_view ds) ≡ true = sym c.are_placed.ensures ∙ c.if-are_placed.false in
+    let placed : are_placed o (map found_view ds) ≡ true = sym c.are_placed.ensures ∙ c.if-not-are_placed.false in
     placed_in_order o asks ds _ h placed c.in_ok-by_rank.ensures.all c.in_ok-by_rank.ensures.order
