@@ -16,7 +16,9 @@ use std::marker::Model;
 /// Takes the commands of a script whose bytes come in pieces. Contracts see the pending bytes: those that
 /// came and are in no command that was taken.
 ///
-/// The bytes that follow a command's line are counted, and not looked at again with each piece.
+/// A command's line, of at most 291 bytes, is looked at with each piece until it is whole. The bytes that
+/// follow it are counted, and not looked at again. So the cost is linear in the script's bytes, however they
+/// come.
 #[derive(Debug, Drop)]
 pub struct CommandReader {
     bytes: Vec<u8>,
