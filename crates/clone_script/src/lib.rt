@@ -7,10 +7,19 @@
 mod command;
 mod error;
 pub mod laws;
+mod listing;
 mod name;
 mod number;
+mod reader;
 mod reply;
+mod run;
+mod size;
 
 pub use command::{Command, next_command};
 pub use error::ScriptError;
-pub use reply::{EditAnswer, EditKind, bad_reply, edit_reply, fault_reply, show_reply, stat_reply};
+pub use listing::{ListedClass, class_reply};
+pub use reader::CommandReader;
+pub use reply::{
+    EditAnswer, EditKind, bad_reply, edit_reply, fault_reply, save_reply, show_reply, stat_reply,
+};
+pub use run::{PanicCause, RunAnswer, RunEnd, run_reply};
