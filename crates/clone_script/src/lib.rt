@@ -1,7 +1,8 @@
 //! The script of goclone: commands are taken from its bytes, and their replies are written.
 //!
 //! The contract: `next_command` answers the command at the front exactly where there is one, and says
-//! whether the bytes are the beginning of a command; each writer of a reply answers its bytes.
+//! whether the bytes are the beginning of a command; `CommandReader` answers the same where the bytes
+//! come in pieces; each writer of a reply answers its bytes.
 #![tactic(auto)]
 
 mod command;
