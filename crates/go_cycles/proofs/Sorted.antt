@@ -49,15 +49,17 @@ all_rest P d ds h = λ k e lt. h (suc k) e (omega (arith, lt))
 
 needs_none : (o : Order) (asks : List Asked) (d : Found) (ds : List Found) → IsOrder o asks → Placed o d → All (Placed o) ds → ((j : ℕ) (e : Found) → j < length ds → rank_by o (found_view d) ≤ rank_by o (found_view (get_or ds j e))) → NeedsNone asks (found_view d) (map found_view ds)
 needs_none o asks d [] h p q le = tt
-needs_none o asks d (x ∷ xs) h p q le =
-    (λ k. none_needed o.bounds o.ranks asks k (found_view d) (found_view x) h.0 (sym h.1 ∙ both_left o.holds (is_above o.bounds o.ranks (found_view d)) p) (placed_above o d p) (placed_above o x (q 0 x (omega arith))) (le 0 x (omega arith)),
-    needs_none o asks d xs h p (all_rest (Placed o) x xs q) (λ j e lt. le (suc j) e (omega (arith, lt))))
+needs_none o asks d (x ∷ xs) h p q le = (
+  λ k. none_needed o.bounds o.ranks asks k (found_view d) (found_view x) h.0 (sym h.1 ∙ both_left o.holds (is_above o.bounds o.ranks (found_view d)) p) (placed_above o d p) (placed_above o x (q 0 x (omega arith))) (le 0 x (omega arith)),
+  needs_none o asks d xs h p (all_rest (Placed o) x xs q) (λ j e lt. le (suc j) e (omega (arith, lt))),
+)
 
 pub in_order : (o : Order) (asks : List Asked) (ds : List Found) → IsOrder o asks → All (Placed o) ds → IsNonDecreasingBy (λ d. rank_by o (found_view d)) ds → StandInOrder asks (map found_view ds)
 in_order o asks [] h p up = tt
-in_order o asks (d ∷ ds) h p up =
-    (needs_none o asks d (d ∷ ds) h (p 0 d (omega arith)) p (λ j e lt. up 0 j e (omega arith) lt),
-    in_order o asks ds h (all_rest (Placed o) d ds p) (λ i j e le lt. up (suc i) (suc j) e (omega (arith, le)) (omega (arith, lt))))
+in_order o asks (d ∷ ds) h p up = (
+  needs_none o asks d (d ∷ ds) h (p 0 d (omega arith)) p (λ j e lt. up 0 j e (omega arith) lt),
+  in_order o asks ds h (all_rest (Placed o) d ds p) (λ i j e le lt. up (suc i) (suc j) e (omega (arith, le)) (omega (arith, lt))),
+)
 
 pub placed_in_order : (o : Order) (asks : List Asked) (ds es : List Found) → IsOrder o asks → are_placed o (map found_view ds) ≡ true → IsPermutation ds es → IsNonDecreasingBy (λ d. rank_by o (found_view d)) es → StandInOrder asks (map found_view es)
 placed_in_order o asks ds es h p s up = in_order o asks es h (All-permutation (Placed o) ds es s (all_placed o ds p)) up

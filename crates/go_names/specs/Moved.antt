@@ -64,8 +64,13 @@ moved_site n (site.Right s reach) = site.Right (n + s) reach
 
 abbrev pub moved_context : ℕ → Context → Context
 moved_context n c = record c {
-  block = moved_block n c.block; end = n + c.end; role = moved_role n c.role; site = moved_site n c.site;
-  specification = moved_token n c.specification; source = moved_token n c.source; group = moved_token n c.group;
+  block = moved_block n c.block;
+  end = n + c.end;
+  role = moved_role n c.role;
+  site = moved_site n c.site;
+  specification = moved_token n c.specification;
+  source = moved_token n c.source;
+  group = moved_token n c.group;
   parameters = moved_scopes n c.parameters;
 }
 

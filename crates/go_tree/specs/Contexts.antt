@@ -31,9 +31,22 @@ is_there (Some p) = true
 -- the context of a whole file
 abbrev pub file_context : ℕ → Context
 file_context end = record {
-  block = block.Package; end = end; role = role.Operand; site = site.Elsewhere;
-  specification = None; source = None; column = 0; group = None; parameters = None; constant = false; initial = false;
-  listed = false; breaks = false; continues = false; followed = false; falls = false;
+  block = block.Package;
+  end = end;
+  role = role.Operand;
+  site = site.Elsewhere;
+  specification = None;
+  source = None;
+  column = 0;
+  group = None;
+  parameters = None;
+  constant = false;
+  initial = false;
+  listed = false;
+  breaks = false;
+  continues = false;
+  followed = false;
+  falls = false;
 }
 
 -- Blocks: each block, each clause, and each if, for and switch statement with its header
@@ -273,8 +286,20 @@ falls_in c k b = false
 -- The context of a part.
 abbrev pub enter : Context → Kind → ℕ → ℕ → Trees → Bool → ℕ → Tree → Bool → Context
 enter c k i j ps named n p b = record {
-  block = block_in c k i; end = end_in c k j; role = role_in c k i j named n p; site = site_in c k i ps n p;
-  specification = specification_in c k i; source = source_at c p; column = n; group = group_in c k i;
-  parameters = parameters_in c k j ps n p; constant = constant_in c k; initial = initial_in c k n; listed = listed_in k n;
-  breaks = breaks_in c k; continues = continues_in c k; followed = followed_in k b; falls = falls_in c k b;
+  block = block_in c k i;
+  end = end_in c k j;
+  role = role_in c k i j named n p;
+  site = site_in c k i ps n p;
+  specification = specification_in c k i;
+  source = source_at c p;
+  column = n;
+  group = group_in c k i;
+  parameters = parameters_in c k j ps n p;
+  constant = constant_in c k;
+  initial = initial_in c k n;
+  listed = listed_in k n;
+  breaks = breaks_in c k;
+  continues = continues_in c k;
+  followed = followed_in k b;
+  falls = falls_in c k b;
 }
