@@ -2,8 +2,8 @@
 --
 -- The tokens of names that mean something stand with their objects: those of the package and of the one function are numbered
 -- in the order of their declarations.
-use Rattle.std.specs.Prelude.{◌≡◌, ℕ, ◌+◌, ◌≤◌, suc, List, [], ◌∷◌, map, length, codes, Option, Some, None}
-use Rattle.std.proofs.Common.{arith}
+use Rattle.std.specs.Prelude.{◌≡◌, ℕ, ◌+◌, suc, List, [], ◌∷◌, map, length, codes, Option, Some, None}
+use Rattle.std.proofs.Math.Nat.{le-add_right}
 use Rattle.go_base.specs.declared.Span.{Span}
 use Rattle.go_tokens.specs.declared.token.Token.{Token}
 use Rattle.go_tokens.specs.declared.token.TokenKind.TheVariants as token
@@ -22,12 +22,9 @@ use Rattle.go_tree.specs.Events.{events}
 use Rattle.go_tree.specs.Units as names
 use Rattle.go_tree.specs.Objects.{objects}
 
-ends_behind : (start n : ℕ) → start ≤ start + n
-ends_behind start n = omega arith
-
 -- a token of n bytes; what kind it is of doesn't matter here, since the tree is given
 abbrev pub token_at : ℕ × ℕ → Token
-token_at p = record { kind = token.Identifier; span = record { file = 0; start = p.0; end = p.0 + p.1; ordered = ends_behind p.0 p.1 } }
+token_at p = record { kind = token.Identifier; span = record { file = 0; start = p.0; end = p.0 + p.1; ordered = le-add_right p.0 p.1 } }
 
 -- the file with this text, tokens from these places on and so long, and this tree
 abbrev pub file_of : List ℕ → List (ℕ × ℕ) → Tree → names.Unit
@@ -61,10 +58,8 @@ abbrev pub Says_variable_in_its_own_value : Type 0
 Says_variable_in_its_own_value =
     names_mean (file_variable_in_its_own_value ∷ [])
     ≡
-    ((4, object.Package 0) ∷ (5, object.Predeclared predeclared.Int) ∷ (8, object.Package 1) ∷ (12, object.Local 0 0) ∷ (14, object.Package 0) ∷ (
-      18,
-      object.Local 0 0,
-    ) ∷ []) ∷ []
+    ((4, object.Package 0) ∷ (5, object.Predeclared predeclared.Int) ∷ (8, object.Package 1) ∷ (12, object.Local 0 0) ∷ (14, object.Package 0) ∷
+    (18, object.Local 0 0) ∷ []) ∷ []
 
 abbrev pub file_constant_in_its_own_value : names.Unit
 file_constant_in_its_own_value =
@@ -91,10 +86,8 @@ abbrev pub file_type_in_itself : names.Unit
 file_type_in_itself =
     file_of (codes "package p type T int func f() { type T struct { p []T }; var t T; _ = t }")
     ((0, 7) ∷ (8, 1) ∷ (9, 0) ∷ (10, 4) ∷ (15, 1) ∷ (17, 3) ∷ (20, 0) ∷ (21, 4) ∷ (26, 1) ∷ (27, 1) ∷ (28, 1) ∷ (30, 1) ∷ (32, 4) ∷ (37, 1) ∷ (39, 6)
-    ∷ (46, 1) ∷ (48, 1) ∷ (50, 1) ∷ (51, 1) ∷ (52, 1) ∷ (54, 1) ∷ (55, 1) ∷ (57, 3) ∷ (61, 1) ∷ (63, 1) ∷ (64, 1) ∷ (66, 1) ∷ (68, 1) ∷ (70, 1) ∷ (
-      72,
-      1,
-    ) ∷ (73, 0) ∷ [])
+    ∷ (46, 1) ∷ (48, 1) ∷ (50, 1) ∷ (51, 1) ∷ (52, 1) ∷ (54, 1) ∷ (55, 1) ∷ (57, 3) ∷ (61, 1) ∷ (63, 1) ∷ (64, 1) ∷ (66, 1) ∷ (68, 1) ∷ (70, 1) ∷
+    (72, 1) ∷ (73, 0) ∷ [])
     (node kind.File 0 31 (skip (more (node (kind.Declaration sort.Type) 3 6 (more (node (kind.Specification sort.Type) 4 6 (more (node kind.Name 5 6
     none) none)) none)) (more (node kind.FunctionDeclaration 7 30 (more (node kind.Signature 9 11 (more (node kind.Parameters 9 11 none) (skip none)))
     (more (node kind.Block 11 30 (more (node (kind.Declaration sort.Type) 12 21 (more (node (kind.Specification sort.Type) 13 21 (more (node
@@ -110,10 +103,8 @@ abbrev pub Says_type_in_itself : Type 0
 Says_type_in_itself =
     names_mean (file_type_in_itself ∷ [])
     ≡
-    ((4, object.Package 0) ∷ (5, object.Predeclared predeclared.Int) ∷ (8, object.Package 1) ∷ (13, object.Local 0 0) ∷ (19, object.Local 0 0) ∷ (
-      23,
-      object.Local 0 1,
-    ) ∷ (25, object.Local 0 0) ∷ (28, object.Local 0 1) ∷ []) ∷ []
+    ((4, object.Package 0) ∷ (5, object.Predeclared predeclared.Int) ∷ (8, object.Package 1) ∷ (13, object.Local 0 0) ∷ (19, object.Local 0 0) ∷
+    (23, object.Local 0 1) ∷ (24, object.Local 0 0) ∷ (28, object.Local 0 1) ∷ []) ∷ []
 
 abbrev pub file_names_of_a_range : names.Unit
 file_names_of_a_range =
@@ -133,10 +124,8 @@ abbrev pub Says_names_of_a_range : Type 0
 Says_names_of_a_range =
     names_mean (file_names_of_a_range ∷ [])
     ≡
-    ((4, object.Package 0) ∷ (6, object.Local 0 0) ∷ (9, object.Predeclared predeclared.Int) ∷ (13, object.Local 0 1) ∷ (16, object.Local 0 0) ∷ (
-      20,
-      object.Local 0 1,
-    ) ∷ []) ∷ []
+    ((4, object.Package 0) ∷ (6, object.Local 0 0) ∷ (9, object.Predeclared predeclared.Int) ∷ (13, object.Local 0 1) ∷ (16, object.Local 0 0) ∷
+    (20, object.Local 0 1) ∷ []) ∷ []
 
 abbrev pub file_parameter_named_again : names.Unit
 file_parameter_named_again =
@@ -157,19 +146,15 @@ abbrev pub Says_parameter_named_again : Type 0
 Says_parameter_named_again =
     names_mean (file_parameter_named_again ∷ [])
     ≡
-    ((4, object.Package 0) ∷ (6, object.Local 0 0) ∷ (7, object.Predeclared predeclared.Int) ∷ (10, object.Local 0 0) ∷ (12, object.Local 0 1) ∷ (
-      16,
-      object.Local 0 0,
-    ) ∷ (20, object.Local 0 1) ∷ (24, object.Local 0 0) ∷ []) ∷ []
+    ((4, object.Package 0) ∷ (6, object.Local 0 0) ∷ (7, object.Predeclared predeclared.Int) ∷ (10, object.Local 0 0) ∷ (12, object.Local 0 1) ∷
+    (16, object.Local 0 0) ∷ (20, object.Local 0 1) ∷ (24, object.Local 0 0) ∷ []) ∷ []
 
 abbrev pub file_header_of_an_if : names.Unit
 file_header_of_an_if =
     file_of (codes "package p func f(x int) { if x := 1; x > 0 { _ = x } else { x = 2 }; _ = x }")
     ((0, 7) ∷ (8, 1) ∷ (9, 0) ∷ (10, 4) ∷ (15, 1) ∷ (16, 1) ∷ (17, 1) ∷ (19, 3) ∷ (22, 1) ∷ (24, 1) ∷ (26, 2) ∷ (29, 1) ∷ (31, 2) ∷ (34, 1) ∷ (35, 1)
-    ∷ (37, 1) ∷ (39, 1) ∷ (41, 1) ∷ (43, 1) ∷ (45, 1) ∷ (47, 1) ∷ (49, 1) ∷ (51, 1) ∷ (53, 4) ∷ (58, 1) ∷ (60, 1) ∷ (62, 1) ∷ (64, 1) ∷ (66, 1) ∷ (
-      67,
-      1,
-    ) ∷ (69, 1) ∷ (71, 1) ∷ (73, 1) ∷ (75, 1) ∷ (76, 0) ∷ [])
+    ∷ (37, 1) ∷ (39, 1) ∷ (41, 1) ∷ (43, 1) ∷ (45, 1) ∷ (47, 1) ∷ (49, 1) ∷ (51, 1) ∷ (53, 4) ∷ (58, 1) ∷ (60, 1) ∷ (62, 1) ∷ (64, 1) ∷ (66, 1) ∷
+    (67, 1) ∷ (69, 1) ∷ (71, 1) ∷ (73, 1) ∷ (75, 1) ∷ (76, 0) ∷ [])
     (node kind.File 0 35 (skip (more (node kind.FunctionDeclaration 3 34 (more (node kind.Signature 5 9 (more (node kind.Parameters 5 9 (more (node
     kind.Parameter 6 8 (more (node kind.Name 6 7 none) (more (node kind.Name 7 8 none) none))) none)) (skip none))) (more (node kind.Block 9 34 (more
     (node kind.If 10 29 (more (node kind.InitializedCondition 11 18 (more (node kind.Define 11 14 (more (node kind.NewNames 11 13 (more (node
@@ -188,19 +173,15 @@ abbrev pub Says_header_of_an_if : Type 0
 Says_header_of_an_if =
     names_mean (file_header_of_an_if ∷ [])
     ≡
-    ((4, object.Package 0) ∷ (6, object.Local 0 0) ∷ (7, object.Predeclared predeclared.Int) ∷ (11, object.Local 0 1) ∷ (15, object.Local 0 1) ∷ (
-      21,
-      object.Local 0 1,
-    ) ∷ (25, object.Local 0 1) ∷ (32, object.Local 0 0) ∷ []) ∷ []
+    ((4, object.Package 0) ∷ (6, object.Local 0 0) ∷ (7, object.Predeclared predeclared.Int) ∷ (11, object.Local 0 1) ∷ (15, object.Local 0 1) ∷
+    (21, object.Local 0 1) ∷ (25, object.Local 0 1) ∷ (32, object.Local 0 0) ∷ []) ∷ []
 
 abbrev pub file_fields_and_keys : names.Unit
 file_fields_and_keys =
     file_of (codes "package p type T struct { a int } func f(t T) { _ = t.a; _ = T{a: 1} }")
     ((0, 7) ∷ (8, 1) ∷ (9, 0) ∷ (10, 4) ∷ (15, 1) ∷ (17, 6) ∷ (24, 1) ∷ (26, 1) ∷ (28, 3) ∷ (32, 1) ∷ (33, 0) ∷ (34, 4) ∷ (39, 1) ∷ (40, 1) ∷ (41, 1)
-    ∷ (43, 1) ∷ (44, 1) ∷ (46, 1) ∷ (48, 1) ∷ (50, 1) ∷ (52, 1) ∷ (53, 1) ∷ (54, 1) ∷ (55, 1) ∷ (57, 1) ∷ (59, 1) ∷ (61, 1) ∷ (62, 1) ∷ (63, 1) ∷ (
-      64,
-      1,
-    ) ∷ (66, 1) ∷ (67, 1) ∷ (69, 1) ∷ (70, 0) ∷ [])
+    ∷ (43, 1) ∷ (44, 1) ∷ (46, 1) ∷ (48, 1) ∷ (50, 1) ∷ (52, 1) ∷ (53, 1) ∷ (54, 1) ∷ (55, 1) ∷ (57, 1) ∷ (59, 1) ∷ (61, 1) ∷ (62, 1) ∷ (63, 1) ∷
+    (64, 1) ∷ (66, 1) ∷ (67, 1) ∷ (69, 1) ∷ (70, 0) ∷ [])
     (node kind.File 0 34 (skip (more (node (kind.Declaration sort.Type) 3 10 (more (node (kind.Specification sort.Type) 4 10 (more (node
     kind.StructType 5 10 (more (node kind.Fields 7 9 (more (node kind.NameList 7 8 (more (node kind.DeclaredName 7 8 none) none)) (more (node
     kind.Name 8 9 none) none))) none)) none)) none)) (more (node kind.FunctionDeclaration 11 33 (more (node kind.Signature 13 17 (more (node
@@ -216,10 +197,8 @@ abbrev pub Says_fields_and_keys : Type 0
 Says_fields_and_keys =
     names_mean (file_fields_and_keys ∷ [])
     ≡
-    ((4, object.Package 0) ∷ (8, object.Predeclared predeclared.Int) ∷ (12, object.Package 1) ∷ (14, object.Local 0 0) ∷ (15, object.Package 0) ∷ (
-      20,
-      object.Local 0 0,
-    ) ∷ (26, object.Package 0) ∷ []) ∷ []
+    ((4, object.Package 0) ∷ (8, object.Predeclared predeclared.Int) ∷ (12, object.Package 1) ∷ (14, object.Local 0 0) ∷ (15, object.Package 0) ∷
+    (20, object.Local 0 0) ∷ (26, object.Package 0) ∷ []) ∷ []
 
 abbrev pub file_package_of_two_files_first : names.Unit
 file_package_of_two_files_first =
@@ -266,10 +245,8 @@ abbrev pub Says_hidden_predeclared_name : Type 0
 Says_hidden_predeclared_name =
     names_mean (file_hidden_predeclared_name ∷ [])
     ≡
-    ((4, object.Package 0) ∷ (5, object.Predeclared predeclared.Bool) ∷ (8, object.Package 1) ∷ (9, object.Package 0) ∷ (12, object.Package 2) ∷ (
-      16,
-      object.Local 0 0,
-    ) ∷ (18, object.Package 1) ∷ (22, object.Local 0 0) ∷ []) ∷ []
+    ((4, object.Package 0) ∷ (5, object.Predeclared predeclared.Bool) ∷ (8, object.Package 1) ∷ (9, object.Package 0) ∷ (12, object.Package 2) ∷
+    (16, object.Local 0 0) ∷ (18, object.Package 1) ∷ (22, object.Local 0 0) ∷ []) ∷ []
 
 abbrev pub file_import_and_a_local_of_its_name : names.Unit
 file_import_and_a_local_of_its_name =
@@ -295,10 +272,8 @@ abbrev pub file_clauses_of_a_switch : names.Unit
 file_clauses_of_a_switch =
     file_of (codes "package p func f(x int) { switch x { case 1: y := 1; _ = y; default: y := 2; _ = y } }")
     ((0, 7) ∷ (8, 1) ∷ (9, 0) ∷ (10, 4) ∷ (15, 1) ∷ (16, 1) ∷ (17, 1) ∷ (19, 3) ∷ (22, 1) ∷ (24, 1) ∷ (26, 6) ∷ (33, 1) ∷ (35, 1) ∷ (37, 4) ∷ (42, 1)
-    ∷ (43, 1) ∷ (45, 1) ∷ (47, 2) ∷ (50, 1) ∷ (51, 1) ∷ (53, 1) ∷ (55, 1) ∷ (57, 1) ∷ (58, 1) ∷ (60, 7) ∷ (67, 1) ∷ (69, 1) ∷ (71, 2) ∷ (74, 1) ∷ (
-      75,
-      1,
-    ) ∷ (77, 1) ∷ (79, 1) ∷ (81, 1) ∷ (83, 1) ∷ (85, 1) ∷ (86, 0) ∷ [])
+    ∷ (43, 1) ∷ (45, 1) ∷ (47, 2) ∷ (50, 1) ∷ (51, 1) ∷ (53, 1) ∷ (55, 1) ∷ (57, 1) ∷ (58, 1) ∷ (60, 7) ∷ (67, 1) ∷ (69, 1) ∷ (71, 2) ∷ (74, 1) ∷
+    (75, 1) ∷ (77, 1) ∷ (79, 1) ∷ (81, 1) ∷ (83, 1) ∷ (85, 1) ∷ (86, 0) ∷ [])
     (node kind.File 0 36 (skip (more (node kind.FunctionDeclaration 3 35 (more (node kind.Signature 5 9 (more (node kind.Parameters 5 9 (more (node
     kind.Parameter 6 8 (more (node kind.Name 6 7 none) (more (node kind.Name 7 8 none) none))) none)) (skip none))) (more (node kind.Block 9 35 (more
     (node kind.Switch 10 34 (more (node kind.Name 11 12 none) (more (node kind.Case 13 24 (more (node kind.ExpressionList 14 15 (more (node
@@ -316,19 +291,15 @@ abbrev pub Says_clauses_of_a_switch : Type 0
 Says_clauses_of_a_switch =
     names_mean (file_clauses_of_a_switch ∷ [])
     ≡
-    ((4, object.Package 0) ∷ (6, object.Local 0 0) ∷ (7, object.Predeclared predeclared.Int) ∷ (11, object.Local 0 0) ∷ (16, object.Local 0 1) ∷ (
-      22,
-      object.Local 0 1,
-    ) ∷ (26, object.Local 0 2) ∷ (32, object.Local 0 2) ∷ []) ∷ []
+    ((4, object.Package 0) ∷ (6, object.Local 0 0) ∷ (7, object.Predeclared predeclared.Int) ∷ (11, object.Local 0 0) ∷ (16, object.Local 0 1) ∷
+    (22, object.Local 0 1) ∷ (26, object.Local 0 2) ∷ (32, object.Local 0 2) ∷ []) ∷ []
 
 abbrev pub file_loop_and_its_body : names.Unit
 file_loop_and_its_body =
     file_of (codes "package p func f(n int) { for i := 0; i < n; i++ { i := i; _ = i } }")
     ((0, 7) ∷ (8, 1) ∷ (9, 0) ∷ (10, 4) ∷ (15, 1) ∷ (16, 1) ∷ (17, 1) ∷ (19, 3) ∷ (22, 1) ∷ (24, 1) ∷ (26, 3) ∷ (30, 1) ∷ (32, 2) ∷ (35, 1) ∷ (36, 1)
-    ∷ (38, 1) ∷ (40, 1) ∷ (42, 1) ∷ (43, 1) ∷ (45, 1) ∷ (46, 2) ∷ (49, 1) ∷ (51, 1) ∷ (53, 2) ∷ (56, 1) ∷ (57, 1) ∷ (59, 1) ∷ (61, 1) ∷ (63, 1) ∷ (
-      65,
-      1,
-    ) ∷ (67, 1) ∷ (68, 0) ∷ [])
+    ∷ (38, 1) ∷ (40, 1) ∷ (42, 1) ∷ (43, 1) ∷ (45, 1) ∷ (46, 2) ∷ (49, 1) ∷ (51, 1) ∷ (53, 2) ∷ (56, 1) ∷ (57, 1) ∷ (59, 1) ∷ (61, 1) ∷ (63, 1) ∷
+    (65, 1) ∷ (67, 1) ∷ (68, 0) ∷ [])
     (node kind.File 0 32 (skip (more (node kind.FunctionDeclaration 3 31 (more (node kind.Signature 5 9 (more (node kind.Parameters 5 9 (more (node
     kind.Parameter 6 8 (more (node kind.Name 6 7 none) (more (node kind.Name 7 8 none) none))) none)) (skip none))) (more (node kind.Block 9 31 (more
     (node kind.For 10 30 (more (node kind.InitializedForClause 11 21 (more (node kind.Define 11 14 (more (node kind.NewNames 11 13 (more (node
@@ -345,7 +316,5 @@ abbrev pub Says_loop_and_its_body : Type 0
 Says_loop_and_its_body =
     names_mean (file_loop_and_its_body ∷ [])
     ≡
-    ((4, object.Package 0) ∷ (6, object.Local 0 0) ∷ (7, object.Predeclared predeclared.Int) ∷ (11, object.Local 0 1) ∷ (15, object.Local 0 1) ∷ (
-      17,
-      object.Local 0 0,
-    ) ∷ (19, object.Local 0 1) ∷ (22, object.Local 0 2) ∷ (24, object.Local 0 1) ∷ (28, object.Local 0 2) ∷ []) ∷ []
+    ((4, object.Package 0) ∷ (6, object.Local 0 0) ∷ (7, object.Predeclared predeclared.Int) ∷ (11, object.Local 0 1) ∷ (15, object.Local 0 1) ∷
+    (17, object.Local 0 0) ∷ (19, object.Local 0 1) ∷ (22, object.Local 0 2) ∷ (24, object.Local 0 1) ∷ (28, object.Local 0 2) ∷ []) ∷ []

@@ -39,7 +39,7 @@ unfolding known_names
 returns-clause-hidden_predeclared_name c = refl
 
 pub returns-clause-import_and_a_local_of_its_name : goal.returns-clause-import_and_a_local_of_its_name
-unfolding known_names
+unfolding known_names lib.Utf8.encode
 returns-clause-import_and_a_local_of_its_name c = refl
 
 pub returns-clause-clauses_of_a_switch : goal.returns-clause-clauses_of_a_switch
