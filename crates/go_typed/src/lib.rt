@@ -8,6 +8,7 @@ pub mod lists;
 pub mod locals;
 pub mod node;
 pub mod sort;
+pub mod walk;
 pub mod window;
 
 pub use env::Env;
@@ -17,4 +18,5 @@ pub use lists::StatementLists;
 pub use locals::Locals;
 pub use node::TypedNode;
 pub use sort::{Label, Sort, Untyped};
+pub use walk::{LocalUse, node_at, walk_locals};
 pub use window::{Class, Window, Windows};
