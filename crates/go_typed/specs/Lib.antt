@@ -6,3 +6,5 @@ pub mod Lists
 pub mod Funcs
 pub mod Windows
 pub mod Places
+pub mod Packages
+pub mod Contents
