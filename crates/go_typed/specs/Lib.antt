@@ -8,3 +8,4 @@ pub mod Windows
 pub mod Places
 pub mod Packages
 pub mod Contents
+pub mod Examples

@@ -125,3 +125,8 @@ pub record IsPackage (p : PackageView) : Type 0 where
   pub known_functions : list_all (is_known_func (counts p) (length p.types.shapes)) p.functions ≡ true
   pub numbers : are_numbered 0 p.functions ≡ true
   pub locals : have_locals p.functions p.uses.locals ≡ true
+
+-- an object, but of a function not its number
+abbrev pub without_function : Referent → Referent
+without_function (referent.Function n) = referent.Function 0
+without_function r = r

@@ -29,9 +29,12 @@ abbrev pub range_in : Option (Typed ℕ) → ℕ → ℕ → Option Range
 range_in None i j = None
 range_in (Some l) i j = between (slice_get (statements_of l) i) (slice_get (statements_of l) j)
 
--- the tokens of a window
+-- the tokens of a window of a function with this tree
+abbrev pub tokens_of : Typed ℕ → Window → Option Range
+tokens_of x w = range_in (slice_get (statement_lists x) w.list) w.first (w.first + w.count - 1)
+
 abbrev pub range_of : FuncView → Window → Option Range
-range_of f w = range_in (slice_get (statement_lists (tree_of f)) w.list) w.first (w.first + w.count - 1)
+range_of f w = tokens_of (tree_of f) w
 
 -- that a token names this local
 abbrev pub use_at : ℕ → Option ℕ → List LocalUse
@@ -48,5 +51,8 @@ uses_within tokens None = []
 uses_within tokens (Some r) = uses_from tokens r.from (r.to - r.from)
 
 -- the locals that are named in a window, in the order of tokens
+abbrev pub uses_in : List (Option ℕ) → Typed ℕ → Window → List LocalUse
+uses_in tokens x w = uses_within tokens (tokens_of x w)
+
 abbrev pub local_uses : FuncView → Window → List LocalUse
-local_uses f w = uses_within f.tokens (range_of f w)
+local_uses f w = uses_in f.tokens (tree_of f) w
