@@ -2,12 +2,11 @@
 use Rattle.std.proofs.Common.{◌≡◌, ◌∙◌, ℕ, suc, ◌+◌, Bool, true, false, List, [], ◌∷◌, ◌++◌, map, Option, ap, refl, sym}
 use Rattle.std.proofs.lemmas.List.{map-append}
 use Rattle.std.specs.Prelude.{◌&&◌, ◌||◌, not, nat_le, if◌then◌else◌}
-use Rattle.go_typed.specs.declared.form.Form.{Form}
 use Rattle.go_typed.specs.Forms.{is_statement_list, is_holder, local_of}
 use Rattle.go_typed.specs.Funcs.{is_tiled, are_tiled, is_whole, are_whole, is_full, is_named_so, named_at, size, sizes}
 use Rattle.go_typed.specs.Lists.{own_list, statement_lists, lists_among}
 use Rattle.go_typed.specs.Places.{covers, innermost, innermost_among}
-use Rattle.go_typed.specs.Trees.{Typed, typed, Typeds, none, more, skip, mapped, all_mapped, first_of, last_of}
+use Rattle.go_typed.specs.Trees.{Typed, typed, Typeds, none, more, skip, mapped, all_mapped}
 
 module _ {T U : Type 0} (g : T → U) where
   mutual

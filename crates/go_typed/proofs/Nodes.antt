@@ -1,5 +1,5 @@
 -- The tree of a node by its fields.
-use Rattle.std.proofs.Common.{rules, ◌≡◌, ℕ, suc, ◌++◌, List, drop, subst, sym, refl}
+use Rattle.std.proofs.Common.{rules, ◌≡◌, ℕ, suc, ◌++◌, drop, subst, sym, refl}
 use Rattle.go_typed.specs.declared.node.TypedNode.{TypedNode}
 use Rattle.go_typed.specs.declared.node.TypedNode.TheViews.{out-TypedNode}
 use Rattle.go_typed.specs.declared.node.TypedNode.TheFolds.{fold_out-TypedNode}
@@ -8,7 +8,7 @@ use Rattle.go_typed.specs.Places.{innermost, innermost_among}
 use Rattle.go_typed.specs.Lists.{own_list, statement_lists, lists_among, statements_of, present}
 use Rattle.go_typed.specs.Forms.{values_count}
 use Rattle.go_typed.specs.Trees.{Typed, typed}
-use Rattle.go_typed.specs.Views.{view, view_step, views, label_view}
+use Rattle.go_typed.specs.Views.{view, views, label_view}
 
 pub opened : (n : TypedNode) → view n ≡ typed (out-TypedNode n).form (out-TypedNode n).first (out-TypedNode n).last (label_view (out-TypedNode n).label) (views (out-TypedNode n).parts.items)
 opened n = search (rules, fold_out-TypedNode)

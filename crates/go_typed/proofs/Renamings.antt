@@ -1,14 +1,13 @@
 -- Packages under other numbers of declared types.
-use Rattle.std.proofs.Common.{◌≡◌, ◌∙◌, ℕ, List, [], ◌∷◌, map, Option, Some, None, slice_get, ap, refl, sym}
+use Rattle.std.proofs.Common.{◌≡◌, ◌∙◌, ℕ, List, [], ◌∷◌, map, Option, Some, None, ap, refl, sym}
 use mathlib.Core.Path.{fun_ext}
 use Rattle.std.specs.Option.{option_map}
-use Rattle.go_types.specs.Relations.{Rights}
 use Rattle.go_types.specs.Trees.{TypeTree, boolean, text, integer, array, slice, structure, function, declared, TypeRow}
 use Rattle.go_types.specs.Trees as types
 use Rattle.type_tests.specs.Questions.{entry}
-use Rattle.type_tests.specs.Renaming.{renamed, renamed_row, IsOneToOne, AreRenamed}
+use Rattle.type_tests.specs.Renaming.{renamed, renamed_row}
 use Rattle.go_typed.specs.Contents.{Content, FuncContent, func_renamed, IsRenamed}
-use Rattle.go_typed.specs.Trees.{Sort, Nothing, Unknown, Blank, Nil, Builtin, Println, Package, IsType, Value, Constant, Open, OpenConstant, Results, Label, Typed, typed, Typeds, none, more, skip, sort_mapped, label_mapped, mapped, all_mapped}
+use Rattle.go_typed.specs.Trees.{Sort, Nothing, Unknown, Blank, Nil, Builtin, Println, Package, IsType, Value, Constant, Open, OpenConstant, Results, Typed, typed, Typeds, none, more, skip, sort_mapped, label_mapped, mapped, all_mapped}
 
 abbrev itself : ℕ → ℕ
 itself n = n

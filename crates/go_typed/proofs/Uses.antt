@@ -1,9 +1,9 @@
 -- The locals that are named at the tokens of a range.
-use Rattle.std.proofs.Common.{◌≡◌, ◌∙◌, ◌⊎◌, inl, inr, ℕ, zero, suc, ◌+◌, ◌<◌, ◌≤◌, List, [], ◌∷◌, ◌++◌, length, Option, Some, None, slice_get, ap, sym, subst, refl, arith}
+use Rattle.std.proofs.Common.{◌≡◌, ◌∙◌, ◌⊎◌, inl, inr, ℕ, zero, suc, ◌+◌, ◌<◌, ◌≤◌, List, ◌++◌, length, Option, Some, None, slice_get, ap, sym, subst, refl, arith}
 use Rattle.go_typed.specs.declared.walk.LocalUse.{LocalUse}
 use Rattle.go_typed.specs.Funcs.{named_at}
 use Rattle.go_typed.specs.Windows.{use_at, uses_from}
-use Rattle.go_typed.proofs.ListPlaces.{Behind, get_either, get_left, get_right}
+use Rattle.go_typed.proofs.ListPlaces.{Behind, get_either, get_right}
 
 pub record Named (tokens : List (Option ℕ)) (i n : ℕ) (u : LocalUse) : Type 0 where
   pub from : i ≤ u.token

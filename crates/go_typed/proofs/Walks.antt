@@ -1,13 +1,12 @@
 -- Walks along the parts of a node, and along tokens.
-use Rattle.std.proofs.Common.{◌≡◌, ◌∙◌, ℕ, zero, suc, ◌+◌, ◌-◌, ◌<◌, ◌≤◌, Bool, true, false, List, [], ◌∷◌, ◌++◌, drop, length, Option, Some, None, slice_get, if◌then◌else◌, refl, sym, ap, subst, arith}
+use Rattle.std.proofs.Common.{◌≡◌, ◌∙◌, ℕ, zero, suc, ◌+◌, ◌-◌, ◌<◌, true, false, List, [], ◌∷◌, ◌++◌, drop, Option, Some, None, slice_get, if◌then◌else◌, refl, sym, ap, arith}
 use Rattle.go_typed.specs.declared.node.TypedNode.{TypedNode}
 use Rattle.go_typed.specs.declared.node.TypedNode.TheViews.{out-TypedNode}
-use Rattle.go_typed.specs.declared.walk.LocalUse.{LocalUse}
 use Rattle.go_typed.specs.Funcs.{named_at, size, sizes}
 use Rattle.go_typed.specs.Lists.{present, statements_of}
 use Rattle.go_typed.specs.Forms.{values_count}
 use Rattle.go_typed.specs.Places.{covers, innermost, innermost_among}
-use Rattle.go_typed.specs.Trees.{Typed, typed, Typeds, none, more, skip}
+use Rattle.go_typed.specs.Trees.{Typed, Typeds, more, skip}
 use Rattle.go_typed.specs.Views.{view, views}
 use Rattle.go_typed.specs.Windows.{use_at, uses_from}
 use Rattle.go_typed.proofs.Nodes.{size_opened, statements_opened}

@@ -3,7 +3,7 @@ use Rattle.std.specs.Prelude.{◌≡◌, ℕ, List, map, Option, Some, slice_get
 use Rattle.go_tree.specs.File.{FileTree}
 use Rattle.go_tree.specs.Uses.{UsesView}
 use Rattle.go_types.specs.Relations.{Rights}
-use Rattle.go_types.specs.Tables.{Table, type_of, rights_of}
+use Rattle.go_types.specs.Tables.{type_of, rights_of}
 use Rattle.go_types.specs.Trees.{TypeTree}
 use Rattle.type_tests.specs.Renaming.{renamed, IsOneToOne, AreRenamed}
 use Rattle.go_typed.specs.declared.form.Referent.{Referent}

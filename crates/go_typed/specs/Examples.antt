@@ -17,7 +17,7 @@ use Rattle.go_typed.specs.Funcs.{are_below, is_tiled, is_whole, size}
 use Rattle.go_typed.specs.Lists.{statement_lists, statements_of}
 use Rattle.go_typed.specs.Packages.{referents}
 use Rattle.go_typed.specs.Places.{innermost}
-use Rattle.go_typed.specs.Trees.{Sort, Nothing, Value, Constant, Typed, typed, Typeds, row, form_of}
+use Rattle.go_typed.specs.Trees.{Sort, Nothing, Value, Constant, Typed, typed, row, form_of}
 use Rattle.go_typed.specs.Windows.{uses_in}
 
 -- a node, by its form, tokens, sort, whether a variable is named in it, and parts; all values have the type 0

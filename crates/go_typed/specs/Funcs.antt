@@ -1,5 +1,5 @@
 -- Functions with their types as contracts see them, and what every one of them meets.
-use Rattle.std.specs.Prelude.{◌≡◌, ℕ, suc, ◌+◌, ◌^◌, ◌<◌, ◌≤◌, Bool, true, false, ◌&&◌, ◌||◌, not, nat_eq, nat_lt, nat_le, List, [], ◌∷◌, length, Option, Some, None, slice_get}
+use Rattle.std.specs.Prelude.{◌≡◌, ℕ, suc, ◌+◌, ◌^◌, ◌<◌, Bool, true, false, ◌&&◌, ◌||◌, not, nat_eq, nat_lt, nat_le, List, [], ◌∷◌, length, Option, Some, None, slice_get}
 use Rattle.go_typed.specs.declared.node.TypedNode.{TypedNode}
 use Rattle.go_typed.specs.Views.{view}
 use Rattle.go_typed.specs.Forms.{is_function, is_holder, is_statement_list, local_of}

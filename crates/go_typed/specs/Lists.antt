@@ -1,5 +1,5 @@
 -- The statement lists of a typed tree, in a row, so that they have numbers, and their statements.
-use Rattle.std.specs.Prelude.{ℕ, zero, suc, Bool, true, false, if◌then◌else◌, List, [], ◌∷◌, ◌++◌, Option, Some, None, map, drop}
+use Rattle.std.specs.Prelude.{ℕ, if◌then◌else◌, List, [], ◌∷◌, ◌++◌, map, drop}
 use Rattle.std.specs.Borrow.{Bor}
 use Rattle.go_typed.specs.declared.node.TypedNode.{TypedNode}
 use Rattle.go_typed.specs.declared.lists.StatementLists.{StatementLists}

@@ -1,8 +1,8 @@
 -- Packages that type-check as contracts see them, and what every one of them meets.
-use Rattle.std.specs.Prelude.{◌≡◌, ℕ, zero, suc, ◌+◌, Bool, true, false, ◌&&◌, nat_eq, nat_lt, List, [], ◌∷◌, length, map, Option, Some, None, slice_get}
+use Rattle.std.specs.Prelude.{◌≡◌, ℕ, suc, Bool, true, false, ◌&&◌, nat_eq, nat_lt, List, [], ◌∷◌, length, Option, Some, None}
 use Rattle.std.specs.List.{list_all}
 use Rattle.go_tree.specs.File.{FileTree}
-use Rattle.go_tree.specs.Uses.{UsesView, count_functions}
+use Rattle.go_tree.specs.Uses.{UsesView}
 use Rattle.go_tree.specs.declared.context.Entity.{Entity}
 use Rattle.go_tree.specs.declared.context.Entity.TheVariants as entity
 use Rattle.go_tree.specs.declared.object.Declared.{Declared}
@@ -15,7 +15,7 @@ use Rattle.go_typed.specs.declared.origin.Origin.{Origin}
 use Rattle.go_typed.specs.declared.node.TypedNode.{TypedNode}
 use Rattle.go_typed.specs.Funcs.{FuncView, tree_of}
 use Rattle.go_typed.specs.Scopes.{EnvView}
-use Rattle.go_typed.specs.Trees.{Sort, Typed, sort_has, every, every_form}
+use Rattle.go_typed.specs.Trees.{Typed, sort_has, every, every_form}
 use Rattle.go_typed.specs.Views.{view}
 
 -- The files with their names; what names mean; the types, and where each declared one stands; what the objects of the package

@@ -1,8 +1,8 @@
-use Rattle.std.proofs.Common.{◌≡◌, ◌∙◌, ◌+◌, ◌<◌, ◌≤◌, ◌^◌, drop, length, slice_get, Some, None, true, false, ap, sym, refl, arith}
+use Rattle.std.proofs.Common.{◌≡◌, ◌∙◌, ◌+◌, ◌≤◌, drop, length, slice_get, Some, true, false, ap, sym, refl, arith}
 use Rattle.std.proofs.lemmas.Option.{slice_get_read}
 use Rattle.std.proofs.lemmas.List.{drop_all}
 use Rattle.go_typed.specs.Funcs.{size, sizes}
-use Rattle.go_typed.specs.Places.{covers, innermost, innermost_among}
+use Rattle.go_typed.specs.Places.{covers, innermost_among}
 use Rattle.go_typed.specs.Views.{view, views}
 use Rattle.go_typed.proofs.Nodes.{innermost_opened}
 use Rattle.go_typed.proofs.Walks.{rest, rest_without, room, found, passed}

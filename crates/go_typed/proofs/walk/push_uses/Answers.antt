@@ -1,4 +1,4 @@
-use Rattle.std.proofs.Common.{◌≡◌, ◌∙◌, ◌++◌, ◌+◌, ◌-◌, ap, sym, slice_get}
+use Rattle.std.proofs.Common.{◌∙◌, ◌++◌, ◌+◌, ◌-◌, ap, sym}
 use Rattle.std.proofs.lemmas.List.{append_assoc}
 use Rattle.go_typed.specs.Funcs.{named_at}
 use Rattle.go_typed.specs.Windows.{use_at, uses_from}
