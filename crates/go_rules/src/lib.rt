@@ -1,0 +1,12 @@
+//! The typing of expressions and types, as tables: what each node stands for, which of its rules fail, and what its parts take.
+//!
+//! The definitions (specs/) say for each kind of node what it is by itself, from its parts alone; one engine applies them to a
+//! tree. The contract of each function here is its row of the tables: the sort of a node, or the fault that is reported of it.
+#![tactic(auto)]
+
+mod family;
+mod fault;
+mod laws;
+
+pub use family::{Family, OpenKind};
+pub use fault::{TypeError, TypeFault};
