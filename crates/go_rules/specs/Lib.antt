@@ -1,2 +1,12 @@
 pub mod Faults
-pub mod Stub
+pub mod Sorts
+pub mod Settling
+pub mod Operators
+pub mod Indexes
+pub mod Calls
+pub mod Literals
+pub mod TypeNodes
+pub mod Scopes
+pub mod Names
+pub mod Tables
+pub mod Typing

@@ -2,24 +2,23 @@
 --
 -- An expression is untyped where it holds untyped operands. Where it takes a type, so do these: a node settles at once those
 -- operands that its own type doesn't reach.
-use Rattle.std.specs.Prelude.{ℕ, Bool, true, false, if◌then◌else◌, List, [], ◌∷◌, ◌++◌, Option, Some, None}
+use Rattle.std.specs.Prelude.{ℕ, if◌then◌else◌, List, [], ◌++◌, Option, Some, None}
+use Rattle.go_base.specs.declared.fault.FaultCode.{FaultCode}
 use Rattle.go_base.specs.declared.fault.FaultCode.TheVariants as code
+use Rattle.go_constants.specs.declared.values.Const.{Const}
 use Rattle.go_types.specs.Trees.{TypeTree}
 use Rattle.go_types.specs.Relations.{Rights}
 use Rattle.type_tests.specs.Tests.{underlying_of, is_assignable}
 use Rattle.go_rules.specs.declared.fault.TypeFault.{TypeFault}
 use Rattle.go_rules.specs.declared.family.OpenKind.{OpenKind}
 use Rattle.go_rules.specs.Faults.{fault_at}
-use Rattle.go_rules.specs.Stub.{Sort, Form, Label, Typed, typed, Typeds, none, more, skip}
-use Rattle.go_rules.specs.Stub as sort
-use Rattle.go_rules.specs.Sorts.{Stands, is_open, open_kind, is_constant, constant_of, retyped, represents, default_type, suits, has_nil, value_type}
+use Rattle.go_typed.specs.Trees.{Label, Typed, typed, Typeds, none, more, skip, sort_of}
+use Rattle.go_typed.specs.Trees as sort
+use Rattle.go_rules.specs.Sorts.{Stands, is_open, open_kind, is_constant, constant_of, retyped, represents, default_type, suits, has_nil}
 
 -- a typed node
 abbrev pub Part : Type 0
 Part = Typed TypeTree
-
-abbrev pub sort_of : Part → Stands
-sort_of (typed f i j l ps) = l.sort
 
 -- a rule that fails at the place of a node
 abbrev pub at_part : FaultCode → Part → List TypeFault
@@ -72,6 +71,10 @@ undefaulted_by rights None x = []
 abbrev pub undefaulted : Rights → Part → List TypeFault
 undefaulted rights x = undefaulted_by rights (open_kind (sort_of x)) x
 
+abbrev pub untyped_unassignable : Rights → TypeTree → Option OpenKind → Part → List TypeFault
+untyped_unassignable rights t (Some k) x = if suits rights k t then unrepresented rights t x else at_part code.Assignable x
+untyped_unassignable rights t None x = at_part code.Assignable x
+
 -- A value of this sort is given to a variable of the type t (Go specification, "Assignability").
 abbrev pub unassignable_by : Rights → TypeTree → Stands → Part → List TypeFault
 unassignable_by rights t sort.Unknown x = []
@@ -79,10 +82,6 @@ unassignable_by rights t (sort.Value u) x = if is_assignable rights u t then [] 
 unassignable_by rights t (sort.Constant u c) x = if is_assignable rights u t then [] else at_part code.Assignable x
 unassignable_by rights t sort.Nil x = if has_nil (underlying_of rights t) then [] else at_part code.Assignable x
 unassignable_by rights t s x = untyped_unassignable rights t (open_kind s) x
-
-abbrev pub untyped_unassignable : Rights → TypeTree → Option OpenKind → Part → List TypeFault
-untyped_unassignable rights t (Some k) x = if suits rights k t then unrepresented rights t x else at_part code.Assignable x
-untyped_unassignable rights t None x = at_part code.Assignable x
 
 abbrev pub unassignable : Rights → TypeTree → Part → List TypeFault
 unassignable rights t x = unassignable_by rights t (sort_of x) x

@@ -1,21 +1,23 @@
 -- What nodes stand for, and the questions that rules ask of it.
-use Rattle.std.specs.Prelude.{ℕ, zero, Bool, true, false, ◌&&◌, ◌||◌, not, if◌then◌else◌, Option, Some, None, Result, Ok, Err, ℤ, pos, negsuc, is_some}
+use Rattle.std.specs.Prelude.{ℕ, zero, Bool, true, false, ◌||◌, if◌then◌else◌, Option, Some, None, pos, negsuc, is_some}
 use Rattle.go_ints.specs.declared.kinds.Kind.TheVariants as integer_kind
 use Rattle.go_constants.specs.declared.values.Const.{Const}
 use Rattle.go_constants.specs.declared.values.Const.TheVariants as const
 use Rattle.go_constants.specs.declared.representing.Basic.{Basic}
 use Rattle.go_constants.specs.declared.representing.Basic.TheVariants as basic
 use Rattle.go_constants.specs.Representing.{is_represented}
-use Rattle.go_types.specs.Trees.{TypeTree, boolean, text, integer, array, slice, structure, function, declared}
+use Rattle.go_types.specs.Trees.{TypeTree, boolean, text, integer, array, slice, function}
 use Rattle.go_types.specs.Relations.{Rights}
 use Rattle.type_tests.specs.Tests.{underlying_of}
 use Rattle.type_tests.specs.Identity.{is_identical}
 use Rattle.go_rules.specs.declared.family.Family.{Family}
 use Rattle.go_rules.specs.declared.family.Family.TheVariants as family
 use Rattle.go_rules.specs.declared.family.OpenKind.{OpenKind}
-use Rattle.go_rules.specs.declared.family.OpenKind.TheVariants as open
-use Rattle.go_rules.specs.Stub.{Sort, Untyped, Form, Label, Typed, typed, Typeds}
-use Rattle.go_rules.specs.Stub as sort
+use Rattle.go_rules.specs.declared.family.OpenKind.TheVariants as untyped_kind
+use Rattle.go_typed.specs.declared.sort.Untyped.{Untyped}
+use Rattle.go_typed.specs.declared.sort.Untyped.TheVariants as untyped
+use Rattle.go_typed.specs.Trees.{Sort}
+use Rattle.go_typed.specs.Trees as sort
 
 -- what a node stands for
 abbrev pub Stands : Type 0
@@ -46,21 +48,21 @@ family_of_const (const.Int z rune) = family.Integers
 family_of_const (const.Text bytes) = family.Texts
 
 abbrev pub family_of_open : OpenKind → Family
-family_of_open open.Boolean = family.Booleans
-family_of_open open.Integer = family.Integers
-family_of_open open.Rune = family.Integers
-family_of_open open.Text = family.Texts
+family_of_open untyped_kind.Boolean = family.Booleans
+family_of_open untyped_kind.Integer = family.Integers
+family_of_open untyped_kind.Rune = family.Integers
+family_of_open untyped_kind.Text = family.Texts
 
 -- the kind of an untyped value
 abbrev pub kind_of_untyped : Untyped → OpenKind
-kind_of_untyped sort.Boolean = open.Boolean
-kind_of_untyped sort.Integer = open.Integer
-kind_of_untyped sort.Rune = open.Rune
+kind_of_untyped untyped.Boolean = untyped_kind.Boolean
+kind_of_untyped untyped.Integer = untyped_kind.Integer
+kind_of_untyped untyped.Rune = untyped_kind.Rune
 
 abbrev pub kind_of_const : Const → OpenKind
-kind_of_const (const.Bool b) = open.Boolean
-kind_of_const (const.Int z rune) = if rune then open.Rune else open.Integer
-kind_of_const (const.Text bytes) = open.Text
+kind_of_const (const.Bool b) = untyped_kind.Boolean
+kind_of_const (const.Int z rune) = if rune then untyped_kind.Rune else untyped_kind.Integer
+kind_of_const (const.Text bytes) = untyped_kind.Text
 
 -- the kind of what is untyped
 abbrev pub open_kind : Stands → Option OpenKind
@@ -179,10 +181,10 @@ is_bytes rights t = is_byte (underlying_in rights (slice_element (underlying_of 
 
 -- the type that an untyped value takes where its context wants none (Go specification, "Constants")
 abbrev pub default_type : OpenKind → TypeTree
-default_type open.Boolean = boolean
-default_type open.Integer = int
-default_type open.Rune = rune
-default_type open.Text = text
+default_type untyped_kind.Boolean = boolean
+default_type untyped_kind.Integer = int
+default_type untyped_kind.Rune = rune
+default_type untyped_kind.Text = text
 
 -- the type of a value, or its default type
 abbrev pub value_type : Stands → Option TypeTree
@@ -194,7 +196,7 @@ value_type _ = None
 
 -- a constant with a type is no rune any more
 abbrev pub plain : Const → Const
-plain (const.Int z rune) = const.Int z false
+plain (const.Int z _) = const.Int z false
 plain c = c
 
 -- the basic type that an underlying type is
@@ -213,11 +215,11 @@ abbrev pub represents : Rights → TypeTree → Const → Bool
 represents rights t c = represented_in c (basic_of (underlying_of rights t))
 
 abbrev pub is_zero : Option Const → Bool
-is_zero (Some (const.Int (pos zero) rune)) = true
+is_zero (Some (const.Int (pos zero) _)) = true
 is_zero _ = false
 
 abbrev pub is_negative : Option Const → Bool
-is_negative (Some (const.Int (negsuc n) rune)) = true
+is_negative (Some (const.Int (negsuc n) _)) = true
 is_negative _ = false
 
 -- what is untyped takes the type
