@@ -10,3 +10,11 @@ pub mod Scopes
 pub mod Names
 pub mod Tables
 pub mod Typing
+pub mod Sentences
+pub mod OperatorExamples
+pub mod CallExamples
+pub mod LiteralExamples
+pub mod TypeExamples
+pub mod IndexExamples
+pub mod ComparisonExamples
+pub mod ShiftExamples

@@ -33,7 +33,7 @@ use Rattle.go_rules.specs.declared.family.Family.TheVariants as family
 use Rattle.go_rules.specs.declared.family.OpenKind.{OpenKind}
 use Rattle.go_rules.specs.declared.family.OpenKind.TheVariants as untyped_kind
 use Rattle.go_rules.specs.Faults.{fault_at, or_else}
-use Rattle.go_rules.specs.Sorts.{Stands, is_family, family_of_open, family_of_type, type_of, constant_of, open_kind, is_constant, is_nil, is_whole, suits, has_nil, default_type, plain, represents, is_zero, is_negative, uint, underlying_in}
+use Rattle.go_rules.specs.Sorts.{Stands, is_family, family_of_open, family_of_type, type_of, constant_of, open_kind, is_constant, is_nil, is_whole, suits, has_nil, default_type, represents, is_zero, is_negative, uint, underlying_in}
 use Rattle.go_rules.specs.Settling.{Part, at_part, unrepresented, Take, stay, default, as_type}
 
 -- ---- operators on constants
@@ -135,7 +135,7 @@ value_in (in_type t) = sort.Value t
 value_in (in_kind k) = open_value k
 
 abbrev pub constant_in : Common → Const → Stands
-constant_in (in_type t) c = sort.Constant t (plain c)
+constant_in (in_type t) c = sort.Constant t c
 constant_in (in_kind k) c = sort.OpenConstant c
 
 -- what an operation stands for, whose operands meet in c

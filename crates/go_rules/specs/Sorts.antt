@@ -194,11 +194,6 @@ value_type (sort.Open u) = Some (default_type (kind_of_untyped u))
 value_type (sort.OpenConstant c) = Some (default_type (kind_of_const c))
 value_type _ = None
 
--- a constant with a type is no rune any more
-abbrev pub plain : Const → Const
-plain (const.Int z _) = const.Int z false
-plain c = c
-
 -- the basic type that an underlying type is
 abbrev pub basic_of : Option TypeTree → Option Basic
 basic_of (Some boolean) = Some basic.Bool
@@ -222,8 +217,8 @@ abbrev pub is_negative : Option Const → Bool
 is_negative (Some (const.Int (negsuc n) _)) = true
 is_negative _ = false
 
--- what is untyped takes the type
+-- what is untyped takes the type; a constant keeps its value with its mark
 abbrev pub retyped : TypeTree → Stands → Stands
 retyped t (sort.Open u) = sort.Value t
-retyped t (sort.OpenConstant c) = sort.Constant t (plain c)
+retyped t (sort.OpenConstant c) = sort.Constant t c
 retyped t x = x

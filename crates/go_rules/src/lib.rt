@@ -6,7 +6,7 @@
 
 mod family;
 mod fault;
-mod laws;
+pub mod laws;
 
 pub use family::{Family, OpenKind};
 pub use fault::{TypeError, TypeFault};
