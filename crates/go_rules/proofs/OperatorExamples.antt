@@ -30,7 +30,6 @@ operator_examples_hold = record {
   operand_in_range = refl;
   untyped_range = refl;
   divided = refl;
-  too_wide = refl;
   wide_product = refl;
   declared_and_its_right_side = refl;
   nil_sum = refl;

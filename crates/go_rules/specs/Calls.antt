@@ -16,7 +16,7 @@ use Rattle.go_rules.specs.declared.fault.TypeFault.{TypeFault}
 use Rattle.go_rules.specs.declared.family.Family.TheVariants as family
 use Rattle.go_rules.specs.declared.family.OpenKind.{OpenKind}
 use Rattle.go_rules.specs.Faults.{fault_at}
-use Rattle.go_rules.specs.Sorts.{Stands, is_family, family_of_type, family_of_const, family_of, is_whole, is_text, is_bytes, is_byte, type_of, named_type, constant_of, open_kind, is_constant, underlying_in, form_of_value, value_type, suits, has_nil, element_of, slice_element, array_length, represents, int}
+use Rattle.go_rules.specs.Sorts.{Stands, is_family, family_of_type, family_of_const, family_of, is_whole, is_text, is_bytes, is_byte, own_type, named_type, constant_of, open_kind, is_constant, underlying_in, form_of_value, value_type, suits, has_nil, element_of, slice_element, array_length, represents, int}
 use Rattle.go_rules.specs.Settling.{Part, at_part, unrepresented, undefaulted, unassignable, Take, stay, default, as_type}
 use Rattle.go_rules.specs.Indexes.{bound_failing, disordered, text_length, value_or_unknown}
 
@@ -242,7 +242,7 @@ made_sort (x ∷ xs) = value_or_unknown (named_type (sort_of x))
 made_sort [] = sort.Unknown
 
 abbrev pub appended_sort : List Part → Stands
-appended_sort (x ∷ xs) = value_or_unknown (type_of (sort_of x))
+appended_sort (x ∷ xs) = value_or_unknown (own_type (sort_of x))
 appended_sort [] = sort.Unknown
 
 abbrev pub builtin_sort : Rights → Predeclared → List Part → Stands
@@ -285,7 +285,7 @@ abbrev pub call_sort : Rights → Stands → List Part → Stands
 call_sort rights (sort.IsType t) xs = converted_sort rights t xs
 call_sort rights (sort.Builtin p) xs = builtin_sort rights p xs
 call_sort rights sort.Println xs = no_results
-call_sort rights f xs = function_call_sort rights (type_of f)
+call_sort rights f xs = function_call_sort rights (own_type f)
 
 abbrev pub function_takes : Option TypeRow → List Part → List Take
 function_takes (Some ps) xs = all_as ps

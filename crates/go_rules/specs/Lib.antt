@@ -18,3 +18,4 @@ pub mod TypeExamples
 pub mod IndexExamples
 pub mod ComparisonExamples
 pub mod ShiftExamples
+pub mod Seen

@@ -58,8 +58,6 @@ pub record OperatorExamples : Type 0 where
   pub untyped_range : typed_value (sentence (x8_word ∷ mark ∷ word (codes "300") ∷ []) (infix_of (operator.Compute arithmetic.Add) (name 0) (number 2))) ≡ fault code.Representable 2 3
   -- 7 / -2
   pub divided : typed_value (sentence (word (codes "7") ∷ mark ∷ mark ∷ word (codes "2") ∷ []) (infix_of (operator.Compute arithmetic.Divide) (number 0) (prefix_of sign.Minus (number 3)))) ≡ Ok (sort.OpenConstant (const.Int (neg_ℤ (pos 3)) false))
-  -- 170141183460469231731687303715884105728
-  pub too_wide : typed_value (sentence (word (codes "170141183460469231731687303715884105728") ∷ []) (number 0)) ≡ fault code.Representable 0 1
   -- (1 << 126) * 2
   pub wide_product : typed_value (sentence (mark ∷ word (codes "1") ∷ mark ∷ word (codes "126") ∷ mark ∷ mark ∷ word (codes "2") ∷ []) (infix_of (operator.Compute arithmetic.Multiply) (parens (infix_of (operator.Compute arithmetic.ShiftLeft) (number 1) (number 3))) (number 6))) ≡ fault code.Representable 0 7
   -- d + n

@@ -33,7 +33,7 @@ use Rattle.go_rules.specs.declared.family.Family.TheVariants as family
 use Rattle.go_rules.specs.declared.family.OpenKind.{OpenKind}
 use Rattle.go_rules.specs.declared.family.OpenKind.TheVariants as untyped_kind
 use Rattle.go_rules.specs.Faults.{fault_at, or_else}
-use Rattle.go_rules.specs.Sorts.{Stands, is_family, family_of_open, family_of_type, type_of, constant_of, open_kind, is_constant, is_nil, is_whole, suits, has_nil, default_type, represents, is_zero, is_negative, uint, underlying_in}
+use Rattle.go_rules.specs.Sorts.{Stands, is_family, family_of_open, family_of_type, own_type, constant_of, open_kind, is_constant, is_nil, is_whole, suits, has_nil, default_type, represents, is_zero, is_negative, uint, underlying_in}
 use Rattle.go_rules.specs.Settling.{Part, at_part, unrepresented, Take, stay, default, as_type}
 
 -- ---- operators on constants
@@ -107,7 +107,7 @@ common_by rights a b None (Some u) = one_typed rights u (open_kind a)
 common_by rights a b None None = open_kinds (open_kind a) (open_kind b)
 
 abbrev pub common : Rights → Stands → Stands → Option Common
-common rights a b = common_by rights a b (type_of a) (type_of b)
+common rights a b = common_by rights a b (own_type a) (own_type b)
 
 abbrev pub family_in : Rights → Common → Option Family
 family_in rights (in_type t) = family_of_type (underlying_of rights t)
@@ -183,10 +183,10 @@ own_by None (Some k) = Some (in_kind k)
 own_by None None = None
 
 abbrev pub own : Stands → Option Common
-own a = own_by (type_of a) (open_kind a)
+own a = own_by (own_type a) (open_kind a)
 
 abbrev pub unary_value : Rights → Sign → Stands → Option (Result Const ConstFault)
-unary_value rights o a = signed_value o (complement_mask (underlying_in rights (type_of a))) (constant_of a)
+unary_value rights o a = signed_value o (complement_mask (underlying_in rights (own_type a))) (constant_of a)
 
 abbrev pub sign_family : Sign → Family
 sign_family sign.Not = family.Booleans
@@ -295,9 +295,9 @@ typed_compared rights a b t u = common_by rights a b t u
 
 -- the type in which two values are compared: one is assignable to the other, or one is `nil`
 abbrev pub compared_in : Rights → Stands → Stands → Option Common
-compared_in rights sort.Nil b = nil_common rights (type_of b)
-compared_in rights a sort.Nil = nil_common rights (type_of a)
-compared_in rights a b = typed_compared rights a b (type_of a) (type_of b)
+compared_in rights sort.Nil b = nil_common rights (own_type b)
+compared_in rights a sort.Nil = nil_common rights (own_type a)
+compared_in rights a b = typed_compared rights a b (own_type a) (own_type b)
 
 -- the type that both take
 abbrev pub type_in : Common → TypeTree

@@ -71,10 +71,10 @@ open_kind (sort.OpenConstant c) = Some (kind_of_const c)
 open_kind _ = None
 
 -- the type of what has one
-abbrev pub type_of : Stands → Option TypeTree
-type_of (sort.Value t) = Some t
-type_of (sort.Constant t c) = Some t
-type_of _ = None
+abbrev pub own_type : Stands → Option TypeTree
+own_type (sort.Value t) = Some t
+own_type (sort.Constant t c) = Some t
+own_type _ = None
 
 abbrev pub constant_of : Stands → Option Const
 constant_of (sort.Constant t c) = Some c
@@ -88,7 +88,7 @@ abbrev pub is_constant : Stands → Bool
 is_constant x = is_some (constant_of x)
 
 abbrev pub is_value : Stands → Bool
-is_value x = is_some (type_of x) || is_open x
+is_value x = is_some (own_type x) || is_open x
 
 abbrev pub is_unknown : Stands → Bool
 is_unknown sort.Unknown = true
@@ -110,7 +110,7 @@ underlying_in rights None = None
 
 -- of a value its underlying type, if it has a type
 abbrev pub form_of_value : Rights → Stands → Option TypeTree
-form_of_value rights x = underlying_in rights (type_of x)
+form_of_value rights x = underlying_in rights (own_type x)
 
 abbrev pub family_of_kind : Option OpenKind → Option Family
 family_of_kind (Some k) = Some (family_of_open k)

@@ -4,9 +4,13 @@
 //! tree. The contract of each function here is its row of the tables: the sort of a node, or the fault that is reported of it.
 #![tactic(auto)]
 
+mod basics;
 mod family;
 mod fault;
 pub mod laws;
+mod operators;
+mod sorts;
 
+pub use basics::Basics;
 pub use family::{Family, OpenKind};
 pub use fault::{TypeError, TypeFault};
