@@ -5,3 +5,5 @@ pub mod IndexExamples
 pub mod CallExamples
 pub mod LiteralExamples
 pub mod TypeExamples
+pub mod Firsts
+pub mod Parts

@@ -1,5 +1,8 @@
 //! Faults of expressions, placed by tokens.
 
+ghost use Rattle.std.specs.Prelude.{◌≡◌};
+ghost use Rattle.go_rules.specs.Faults.{before, earlier};
+
 use go_base::{FaultCode, Memory};
 use std::alloc::{AllocError, AllocFailed};
 
@@ -9,6 +12,53 @@ pub struct TypeFault {
     pub code: FaultCode,
     pub first: u32,
     pub last: u32,
+}
+
+/// Where a rule is judged: the tokens from `first` up to `last`, without `last`.
+#[derive(Clone, Copy, Debug, PartialEq, Eq)]
+pub struct Place {
+    pub first: u32,
+    pub last: u32,
+}
+
+impl Place {
+    /// The fault of a rule that fails here.
+    pub(crate) fn fault(self, code: FaultCode) -> TypeFault
+        ensures { result ≡ record { code = code; first = self.first; last = self.last } }
+    {
+        TypeFault {
+            code,
+            first: self.first,
+            last: self.last,
+        }
+    }
+}
+
+impl TypeFault {
+    /// Whether its place is less, or at one place its code.
+    fn is_before(&self, other: &TypeFault) -> bool
+        ensures { result ≡ before self.now other.now }
+    {
+        if self.first != other.first {
+            return self.first < other.first;
+        }
+        if self.last != other.last {
+            return self.last < other.last;
+        }
+        self.code.number() < other.code.number()
+    }
+}
+
+/// The first of two faults, where there is one.
+#[tactic(auto, unfolding(crate::specs::Faults::sooner))]
+pub(crate) fn earlier(one: Option<TypeFault>, other: Option<TypeFault>) -> Option<TypeFault>
+    ensures { result ≡ earlier one other }
+{
+    match (one, other) {
+        (Some(one), Some(other)) => Some(if other.is_before(&one) { other } else { one }),
+        (Some(one), None) => Some(one),
+        (None, other) => other,
+    }
 }
 
 /// Why there is no typed tree.

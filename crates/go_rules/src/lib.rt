@@ -8,9 +8,11 @@ mod basics;
 mod family;
 mod fault;
 pub mod laws;
+mod nodes;
 mod operators;
+mod results;
 mod sorts;
 
 pub use basics::Basics;
 pub use family::{Family, OpenKind};
-pub use fault::{TypeError, TypeFault};
+pub use fault::{Place, TypeError, TypeFault};
