@@ -7,3 +7,4 @@ pub mod LiteralExamples
 pub mod TypeExamples
 pub mod Firsts
 pub mod Parts
+pub mod Comparing

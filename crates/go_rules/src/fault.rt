@@ -1,6 +1,6 @@
 //! Faults of expressions, placed by tokens.
 
-ghost use Rattle.std.specs.Prelude.{◌≡◌};
+ghost use Rattle.std.specs.Prelude.{◌≡◌, Some};
 ghost use Rattle.go_rules.specs.Faults.{before, earlier};
 
 use go_base::{FaultCode, Memory};
@@ -58,6 +58,21 @@ pub(crate) fn earlier(one: Option<TypeFault>, other: Option<TypeFault>) -> Optio
         (Some(one), Some(other)) => Some(if other.is_before(&one) { other } else { one }),
         (Some(one), None) => Some(one),
         (None, other) => other,
+    }
+}
+
+/// The first of two faults, of which one may be none.
+#[tactic(auto, unfolding(crate::specs::Faults::sooner))]
+pub(crate) fn or_earlier(one: Option<TypeFault>, other: TypeFault) -> TypeFault
+    ensures { earlier one (Some other) ≡ Some result }
+{
+    match one {
+        Some(one) => if other.is_before(&one) {
+            other
+        } else {
+            one
+        },
+        None => other,
     }
 }
 

@@ -5,13 +5,17 @@
 #![tactic(auto)]
 
 mod basics;
+mod binary;
+mod compare;
 mod family;
 mod fault;
 pub mod laws;
 mod nodes;
 mod operators;
 mod results;
+mod shift;
 mod sorts;
+mod unary;
 
 pub use basics::Basics;
 pub use family::{Family, OpenKind};

@@ -45,7 +45,7 @@ pub(crate) fn value_in(types: &Types, joint: Joint) -> Sort
 }
 
 /// A constant, where its type has the value.
-fn constant_in(types: &Types, place: Place, joint: Joint, value: Const) -> Result<Sort, TypeFault>
+pub(crate) fn constant_in(types: &Types, place: Place, joint: Joint, value: Const) -> Result<Sort, TypeFault>
     requires { KnownJoint (length types.now.shapes) joint }
     ensures exact { let c = common_seen types.now joint in Gives (sort_seen types.now) one_fault result (judged (least (out_of_range (rights_of types.now) place.first place.last c (Some (Ok value)))) (constant_in c value)) }
     ensures known { IfOk result (KnownSort (length types.now.shapes)) }
