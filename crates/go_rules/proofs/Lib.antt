@@ -8,3 +8,4 @@ pub mod TypeExamples
 pub mod Firsts
 pub mod Parts
 pub mod Comparing
+pub mod TypeRows

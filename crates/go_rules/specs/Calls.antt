@@ -16,7 +16,8 @@ use Rattle.go_rules.specs.declared.fault.TypeFault.{TypeFault}
 use Rattle.go_rules.specs.declared.family.Family.TheVariants as family
 use Rattle.go_rules.specs.declared.family.OpenKind.{OpenKind}
 use Rattle.go_rules.specs.Faults.{fault_at}
-use Rattle.go_rules.specs.Sorts.{Stands, is_family, family_of_type, family_of_const, family_of, is_whole, is_text, is_bytes, is_byte, own_type, named_type, constant_of, open_kind, is_constant, underlying_in, form_of_value, value_type, suits, has_nil, element_of, slice_element, array_length, represents, int}
+use Rattle.go_rules.specs.Sorts.{Stands, is_family, family_of_type, family_of_const, family_of, is_whole, is_text, is_bytes, is_byte, own_type, named_type, constant_of}
+use Rattle.go_rules.specs.Sorts.{open_kind, is_constant, underlying_in, form_of_value, value_type, suits, has_nil, element_of, slice_element, array_length, represents, int}
 use Rattle.go_rules.specs.Settling.{Part, at_part, unrepresented, undefaulted, unassignable, Take, stay, default, as_type}
 use Rattle.go_rules.specs.Indexes.{bound_failing, disordered, text_length, value_or_unknown}
 

@@ -19,3 +19,5 @@ pub mod IndexExamples
 pub mod ComparisonExamples
 pub mod ShiftExamples
 pub mod Seen
+pub mod Hints
+pub mod Takes

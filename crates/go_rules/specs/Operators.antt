@@ -229,7 +229,10 @@ binary_value o a b = folded_both (constant_op o) (constant_of a) (constant_of b)
 
 abbrev pub binary_failing_in : Rights → Operator → ℕ → ℕ → Part → Part → Option Common → List TypeFault
 binary_failing_in rights o i j x y None = fault_at code.Operands i j
-binary_failing_in rights o i j x y (Some c) = if admits o (family_in rights c) then or_else (both_refuse rights c x y ++ zero_divisor o y) (out_of_range rights i j c (binary_value o (sort_of x) (sort_of y))) else both_refuse rights c x y ++ fault_at code.Operands i j
+binary_failing_in rights o i j x y (Some c) =
+    if admits o (family_in rights c)
+    then or_else (both_refuse rights c x y ++ zero_divisor o y) (out_of_range rights i j c (binary_value o (sort_of x) (sort_of y)))
+    else both_refuse rights c x y ++ fault_at code.Operands i j
 
 abbrev pub binary_failing : Rights → Operator → ℕ → ℕ → Part → Part → List TypeFault
 binary_failing rights o i j x y = binary_failing_in rights o i j x y (common rights (sort_of x) (sort_of y))
@@ -261,7 +264,10 @@ is_count rights n = is_whole rights n
 
 abbrev pub shift_failing_in : Rights → Operator → ℕ → ℕ → Part → Part → Option Common → List TypeFault
 shift_failing_in rights o i j x n None = fault_at code.Operands i j
-shift_failing_in rights o i j x n (Some c) = if is_family family.Integers (family_in rights c) && is_count rights (sort_of n) then or_else (unrepresented rights uint n) (out_of_range rights i j c (binary_value o (sort_of x) (sort_of n))) else fault_at code.Operands i j
+shift_failing_in rights o i j x n (Some c) =
+    if is_family family.Integers (family_in rights c) && is_count rights (sort_of n)
+    then or_else (unrepresented rights uint n) (out_of_range rights i j c (binary_value o (sort_of x) (sort_of n)))
+    else fault_at code.Operands i j
 
 abbrev pub shift_failing : Rights → Operator → ℕ → ℕ → Part → Part → List TypeFault
 shift_failing rights o i j x n = shift_failing_in rights o i j x n (own (sort_of x))

@@ -46,7 +46,7 @@ pub data Hint : Type 0 where
   target : Hint
   declares : Hint
   free : Hint
-  -- an element of a literal: of an array or slice with this type of elements, of this struct, or of no such type
+  -- an element of a literal: of an array or slice with this type of elements, of this struct type, or of no such type
   element : TypeTree → Hint
   member : TypeTree → Hint
   elided : Hint

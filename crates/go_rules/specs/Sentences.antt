@@ -84,7 +84,13 @@ parens x = node kind.Parenthesized (first x - 1) (last x + 1) (more x none)
 
 -- the right sides of A, T, D, S and G
 abbrev pub rights : Rights
-rights = Some (array 3 (integer integer_kind.Uint8)) ∷ Some (structure (codes "a" ∷ codes "b" ∷ []) (row ((integer integer_kind.Int) ∷ text ∷ []))) ∷ Some (integer integer_kind.Int) ∷ Some (slice (integer integer_kind.Int)) ∷ Some (function (row ((integer integer_kind.Int) ∷ [])) (row ((integer integer_kind.Int) ∷ []))) ∷ []
+rights =
+    Some (array 3 (integer integer_kind.Uint8)) ∷
+    Some (structure (codes "a" ∷ codes "b" ∷ []) (row ((integer integer_kind.Int) ∷ text ∷ []))) ∷
+    Some (integer integer_kind.Int) ∷
+    Some (slice (integer integer_kind.Int)) ∷
+    Some (function (row ((integer integer_kind.Int) ∷ [])) (row ((integer integer_kind.Int) ∷ []))) ∷ []
+
 -- its locals: the variables and constants, and behind them the types
 abbrev pub locals : List Stands
 locals =
@@ -110,8 +116,10 @@ locals =
     (sort.IsType (declared 3)) ∷
     (sort.IsType (declared 4)) ∷
     []
+
 abbrev pub functions : List Stands
 functions = (sort.Value (function (row ([])) (row ((integer integer_kind.Int) ∷ text ∷ [])))) ∷ (sort.Value (function (row ([])) (row ([])))) ∷ []
+
 abbrev pub known : Option Stands → Stands
 known (Some x) = x
 known None = sort.Unknown

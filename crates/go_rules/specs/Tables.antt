@@ -10,6 +10,7 @@ use Rattle.go_grammar.specs.Grammar.{ends_named, is_name}
 use Rattle.go_tree.specs.declared.object.Predeclared.TheVariants as predeclared
 use Rattle.go_types.specs.Trees.{TypeTree, array, slice, structure}
 use Rattle.go_types.specs.Relations.{Rights}
+use Rattle.type_tests.specs.Tests.{underlying_of}
 use Rattle.go_typed.specs.declared.form.Form.{Form}
 use Rattle.go_typed.specs.declared.form.Form.TheVariants as form
 use Rattle.go_typed.specs.declared.form.Referent.TheVariants as referent
@@ -43,15 +44,16 @@ as_type_place loose = loose
 as_type_place loose_inside = loose_inside
 as_type_place h = type_place
 
--- what an element of a literal is told, whose type has this underlying type
-abbrev pub element_of_form : Option TypeTree → Hint
-element_of_form (Some (array n t)) = element t
-element_of_form (Some (slice t)) = element t
-element_of_form (Some (structure ns ts)) = member (structure ns ts)
-element_of_form u = elided
+-- what an element of a literal of the type t is told, by its underlying type
+abbrev pub element_in : TypeTree → Option TypeTree → Hint
+element_in t (Some (array n e)) = element e
+element_in t (Some (slice e)) = element e
+element_in t (Some (structure ns ts)) = member t
+element_in t u = elided
 
 abbrev pub element_told : Rights → Option TypeTree → Hint
-element_told rights t = element_of_form (underlying_in rights t)
+element_told rights (Some t) = element_in t (underlying_of rights t)
+element_told rights None = elided
 
 -- the type that a literal without a type of its own has
 abbrev pub told_type : Hint → Option TypeTree
@@ -238,9 +240,16 @@ callee_form (sort.IsType t) = form.Conversion
 callee_form s = form.Call
 
 -- the field's number; of a field that there isn't the number of fields
-abbrev pub key_form : Hint → List ℕ → Form
-key_form (member (structure ns ts)) name = form.Keyed (unwrap_or (field_number (Some (structure ns ts)) name) (row_length ts))
-key_form h name = form.Keyed 0
+abbrev pub field_count : Option TypeTree → ℕ
+field_count (Some (structure ns ts)) = row_length ts
+field_count u = 0
+
+abbrev pub key_in_struct : Option TypeTree → List ℕ → Form
+key_in_struct u name = form.Keyed (unwrap_or (field_number u name) (field_count u))
+
+abbrev pub key_form : Rights → Hint → List ℕ → Form
+key_form rights (member t) name = key_in_struct (underlying_of rights t) name
+key_form rights h name = form.Keyed 0
 
 abbrev pub selector_form : Rights → List ℕ → Parts → Form
 selector_form rights name [] = form.Object referent.Println
@@ -264,7 +273,7 @@ form_by s kind.Bracketed h i j ys = bracketed_form ys
 form_by s kind.Call h i j ys = on_first form.Call (λ f xs. callee_form (sort_of f)) ys
 form_by s kind.Composite h i j ys = form.Composite
 form_by s kind.LiteralValue h i j ys = form.Composite
-form_by s kind.Keyed h i j ys = key_form h (s.texts i)
+form_by s kind.Keyed h i j ys = key_form s.rights h (s.texts i)
 form_by s kind.ParenthesizedType h i j ys = form.Type
 form_by s kind.SequenceType h i j ys = form.Type
 form_by s kind.FunctionType h i j ys = form.Type

@@ -21,7 +21,7 @@ pub struct Basics {
 }
 
 /// The type that an untyped value takes where its context wants none (Go specification, "Constants").
-pub(crate) fn default_type(types: &Types, basics: Basics, kind: OpenKind) -> TypeId
+pub fn default_type(types: &Types, basics: Basics, kind: OpenKind) -> TypeId
     requires { AreBasics types.now basics }
     ensures known { result < length types.now.shapes }
     ensures tree { type_of types.now.shapes result ≡ default_type kind }

@@ -144,7 +144,7 @@ fn both_refuse(
 /// What a binary operator makes of its operands (Go specification, "Arithmetic operators", "Logical operators"), or the fault
 /// of its rules.
 #[tactic(auto, using(crate::proofs::Firsts::least_or_else, crate::proofs::Firsts::least_append))]
-pub(crate) fn binary(
+pub fn binary(
     alloc: Global,
     types: &Types,
     place: Place,
@@ -154,7 +154,8 @@ pub(crate) fn binary(
 ) -> Result<Sort, TypeError>
     requires left { Known (length types.now.shapes) left.now }
     requires right { Known (length types.now.shapes) right.now }
-    ensures exact { let x = seen types.now left.now in let y = seen types.now right.now in let rights = rights_of types.now in Gives (sort_seen types.now) refusal_of result (judged (least (binary_failing rights operator place.first place.last x y)) (binary_sort rights operator (sort_of x) (sort_of y))) }
+    ensures exact { let x = seen types.now left.now in let y = seen types.now right.now in let rights = rights_of types.now in
+        Gives (sort_seen types.now) refusal_of result (judged (least (binary_failing rights operator place.first place.last x y)) (binary_sort rights operator (sort_of x) (sort_of y))) }
     ensures known { IfOk result (KnownSort (length types.now.shapes)) }
 {
     let a = sort_of(types, left);

@@ -61,7 +61,7 @@ fn typed_compared(types: &Types, left: &Sort, right: &Sort) -> Option<Joint>
 }
 
 /// Where two values are compared: one is assignable to the other's type, or one is `nil`.
-fn compared_in(types: &Types, left: &Sort, right: &Sort) -> Option<Joint>
+pub(crate) fn compared_in(types: &Types, left: &Sort, right: &Sort) -> Option<Joint>
     requires left { KnownSort (length types.now.shapes) left.now }
     requires right { KnownSort (length types.now.shapes) right.now }
     ensures known { IfSome result (KnownJoint (length types.now.shapes)) }
@@ -147,13 +147,21 @@ fn compared_refuse(
     ensures { result ≡ least (compared_refuse (rights_of types.now) (common_seen types.now joint) (seen types.now left.now) (seen types.now right.now)) }
 {
     match joint {
-        Joint::Type(of) => earlier(unrepresented(types, of, left), unrepresented(types, of, right)),
+        Joint::Type(of) => earlier(
+            unrepresented(types, of, left),
+            unrepresented(types, of, right),
+        ),
         Joint::Kind(kind) => {
-            if is_constant(types, sort_of(types, left)) && is_constant(types, sort_of(types, right)) {
+            if is_constant(types, sort_of(types, left))
+                && is_constant(types, sort_of(types, right))
+            {
                 return None;
             }
             let of = default_type(types, basics, kind);
-            earlier(unrepresented(types, of, left), unrepresented(types, of, right))
+            earlier(
+                unrepresented(types, of, left),
+                unrepresented(types, of, right),
+            )
         }
     }
 }
@@ -170,13 +178,21 @@ fn truth(
     ensures exact { Gives (sort_seen types.now) refusal_of result (Ok (compared_sort operator (sort_seen types.now left.now) (sort_seen types.now right.now))) }
     ensures known { IfOk result (KnownSort (length types.now.shapes)) }
 {
-    operation(alloc, types, place, Joint::Kind(OpenKind::Boolean), comparing(operator), left, right)
+    operation(
+        alloc,
+        types,
+        place,
+        Joint::Kind(OpenKind::Boolean),
+        comparing(operator),
+        left,
+        right,
+    )
 }
 
 /// What a comparison makes of its operands (Go specification, "Comparison operators"), or the fault of its rules: `Operands` or
 /// `NotComparable` here, or `Representable` at an untyped constant that the type doesn't have in which they are compared.
 #[tactic(auto, using(crate::proofs::Firsts::least_or_else, crate::proofs::Firsts::least_append))]
-pub(crate) fn compare(
+pub fn compare(
     alloc: Global,
     types: &Types,
     basics: Basics,
@@ -188,7 +204,8 @@ pub(crate) fn compare(
     requires basics { AreBasics types.now basics }
     requires left { Known (length types.now.shapes) left.now }
     requires right { Known (length types.now.shapes) right.now }
-    ensures exact { let x = seen types.now left.now in let y = seen types.now right.now in let rights = rights_of types.now in Gives (sort_seen types.now) refusal_of result (judged (least (compared_failing rights operator place.first place.last x y)) (compared_sort operator (sort_of x) (sort_of y))) }
+    ensures exact { let x = seen types.now left.now in let y = seen types.now right.now in let rights = rights_of types.now in
+        Gives (sort_seen types.now) refusal_of result (judged (least (compared_failing rights operator place.first place.last x y)) (compared_sort operator (sort_of x) (sort_of y))) }
     ensures known { IfOk result (KnownSort (length types.now.shapes)) }
 {
     let a = sort_of(types, left);

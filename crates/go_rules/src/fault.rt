@@ -67,11 +67,7 @@ pub(crate) fn or_earlier(one: Option<TypeFault>, other: TypeFault) -> TypeFault
     ensures { earlier one (Some other) ≡ Some result }
 {
     match one {
-        Some(one) => if other.is_before(&one) {
-            other
-        } else {
-            one
-        },
+        Some(one) => if other.is_before(&one) { other } else { one },
         None => other,
     }
 }

@@ -4,19 +4,28 @@
 //! tree. The contract of each function here is its row of the tables: the sort of a node, or the fault that is reported of it.
 #![tactic(auto)]
 
-mod basics;
-mod binary;
-mod compare;
+pub mod assign;
+pub mod basics;
+pub mod binary;
+pub mod compare;
+pub mod conversion;
 mod family;
 mod fault;
+mod hint;
+pub mod index;
 pub mod laws;
-mod nodes;
+pub mod literal;
+pub mod nodes;
 mod operators;
+pub mod place;
 mod results;
-mod shift;
+pub mod shift;
 mod sorts;
-mod unary;
+pub mod take;
+pub mod unary;
 
 pub use basics::Basics;
 pub use family::{Family, OpenKind};
 pub use fault::{Place, TypeError, TypeFault};
+pub use hint::Hint;
+pub use take::Take;

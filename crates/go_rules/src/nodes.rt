@@ -33,7 +33,7 @@ pub(crate) fn fault_at(_types: &Types, node: &TypedNode, code: FaultCode) -> Typ
 }
 
 /// The first of the untyped constants in a node that the type, which is of their kind, doesn't represent, where the node takes it.
-pub(crate) fn unrepresented(types: &Types, of: TypeId, node: &TypedNode) -> Option<TypeFault>
+pub fn unrepresented(types: &Types, of: TypeId, node: &TypedNode) -> Option<TypeFault>
     requires of { of < length types.now.shapes }
     requires node { Known (length types.now.shapes) node.now }
     ensures { result ≡ least (unrepresented (rights_of types.now) (type_of types.now.shapes of) (seen types.now node.now)) }

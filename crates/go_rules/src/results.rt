@@ -45,7 +45,12 @@ pub(crate) fn value_in(types: &Types, joint: Joint) -> Sort
 }
 
 /// A constant, where its type has the value.
-pub(crate) fn constant_in(types: &Types, place: Place, joint: Joint, value: Const) -> Result<Sort, TypeFault>
+pub(crate) fn constant_in(
+    types: &Types,
+    place: Place,
+    joint: Joint,
+    value: Const,
+) -> Result<Sort, TypeFault>
     requires { KnownJoint (length types.now.shapes) joint }
     ensures exact { let c = common_seen types.now joint in Gives (sort_seen types.now) one_fault result (judged (least (out_of_range (rights_of types.now) place.first place.last c (Some (Ok value)))) (constant_in c value)) }
     ensures known { IfOk result (KnownSort (length types.now.shapes)) }
@@ -71,7 +76,8 @@ pub(crate) fn computed(
     right: &Const,
 ) -> Result<Sort, TypeError>
     requires { KnownJoint (length types.now.shapes) joint }
-    ensures exact { let c = common_seen types.now joint in let v = Some (folded op left.now right.now) in Gives (sort_seen types.now) refusal_of result (judged (least (out_of_range (rights_of types.now) place.first place.last c v)) (result_in c v)) }
+    ensures exact { let c = common_seen types.now joint in let v = Some (folded op left.now right.now) in
+        Gives (sort_seen types.now) refusal_of result (judged (least (out_of_range (rights_of types.now) place.first place.last c v)) (result_in c v)) }
     ensures known { IfOk result (KnownSort (length types.now.shapes)) }
 {
     match fold(alloc, op, left, right) {
@@ -93,7 +99,8 @@ pub(crate) fn operation(
     right: &Sort,
 ) -> Result<Sort, TypeError>
     requires { KnownJoint (length types.now.shapes) joint }
-    ensures exact { let c = common_seen types.now joint in let v = folded_both op (constant_of (sort_seen types.now left.now)) (constant_of (sort_seen types.now right.now)) in Gives (sort_seen types.now) refusal_of result (judged (least (out_of_range (rights_of types.now) place.first place.last c v)) (result_in c v)) }
+    ensures exact { let c = common_seen types.now joint in let v = folded_both op (constant_of (sort_seen types.now left.now)) (constant_of (sort_seen types.now right.now)) in
+        Gives (sort_seen types.now) refusal_of result (judged (least (out_of_range (rights_of types.now) place.first place.last c v)) (result_in c v)) }
     ensures known { IfOk result (KnownSort (length types.now.shapes)) }
 {
     match (constant_of(types, left), constant_of(types, right)) {

@@ -58,7 +58,7 @@ fn is_count(types: &Types, sort: &Sort) -> bool
 /// What a shift makes of its operands (Go specification, "Arithmetic operators"), or the fault of its rules: `Operands` here,
 /// `Representable` at an untyped count that `uint` doesn't have, or here where the value isn't one of the left operand's type.
 #[tactic(auto, using(crate::proofs::Firsts::least_or_else, crate::proofs::Firsts::least_append))]
-pub(crate) fn shift(
+pub fn shift(
     alloc: Global,
     types: &Types,
     basics: Basics,
@@ -70,7 +70,8 @@ pub(crate) fn shift(
     requires basics { AreBasics types.now basics }
     requires left { Known (length types.now.shapes) left.now }
     requires count { Known (length types.now.shapes) count.now }
-    ensures exact { let x = seen types.now left.now in let n = seen types.now count.now in let rights = rights_of types.now in Gives (sort_seen types.now) refusal_of result (judged (least (shift_failing rights operator place.first place.last x n)) (shift_sort operator (sort_of x) (sort_of n))) }
+    ensures exact { let x = seen types.now left.now in let n = seen types.now count.now in let rights = rights_of types.now in
+        Gives (sort_seen types.now) refusal_of result (judged (least (shift_failing rights operator place.first place.last x n)) (shift_sort operator (sort_of x) (sort_of n))) }
     ensures known { IfOk result (KnownSort (length types.now.shapes)) }
 {
     let a = sort_of(types, left);

@@ -4,7 +4,8 @@ ghost use Rattle.std.specs.Option.{option_map};
 ghost use Rattle.go_types.specs.Tables.{type_of, rights_of};
 ghost use Rattle.type_tests.specs.Tests.{underlying_of};
 ghost use Rattle.go_typed.specs.Views.{sort_seen, KnownSort};
-ghost use Rattle.go_rules.specs.Sorts.{family_of_const, family_of_open, family_of_type, kind_of_const, open_kind, own_type, constant_of, is_open, is_constant, is_nil, family_of, is_family, same_family, suits, has_nil, represents};
+ghost use Rattle.go_rules.specs.Sorts.{family_of_const, family_of_open, family_of_type, kind_of_const, kind_of_untyped, open_kind, own_type, constant_of};
+ghost use Rattle.go_rules.specs.Sorts.{is_open, is_constant, is_nil, family_of, is_family, same_family, suits, has_nil, represents};
 
 use crate::family::{Family, OpenKind};
 use go_constants::{Basic, Const, represent};
@@ -22,7 +23,7 @@ pub(crate) fn const_family(constant: &Const) -> Family
     }
 }
 
-fn const_kind(constant: &Const) -> OpenKind
+pub(crate) fn const_kind(constant: &Const) -> OpenKind
     ensures { result ≡ kind_of_const constant.now }
 {
     match constant {
@@ -40,6 +41,16 @@ pub(crate) fn kind_family(kind: OpenKind) -> Family
         OpenKind::Boolean => Family::Booleans,
         OpenKind::Integer | OpenKind::Rune => Family::Integers,
         OpenKind::Text => Family::Texts,
+    }
+}
+
+pub(crate) fn untyped_kind(untyped: Untyped) -> OpenKind
+    ensures { result ≡ kind_of_untyped untyped }
+{
+    match untyped {
+        Untyped::Boolean => OpenKind::Boolean,
+        Untyped::Integer => OpenKind::Integer,
+        Untyped::Rune => OpenKind::Rune,
     }
 }
 

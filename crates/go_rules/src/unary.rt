@@ -95,7 +95,8 @@ fn signed(
 ) -> Result<Sort, TypeError>
     requires joint { KnownJoint (length types.now.shapes) joint }
     requires of { IfSome of (λ t. t < length types.now.shapes) }
-    ensures exact { let c = common_seen types.now joint in let mask = complement_mask (underlying_in (rights_of types.now) (option_map (type_of types.now.shapes) of)) in let v = Some (signed_const sign mask constant.now) in Gives (sort_seen types.now) refusal_of result (judged (least (out_of_range (rights_of types.now) place.first place.last c v)) (result_in c v)) }
+    ensures exact { let c = common_seen types.now joint in let mask = complement_mask (underlying_in (rights_of types.now) (option_map (type_of types.now.shapes) of)) in let v = Some (signed_const sign mask constant.now) in
+        Gives (sort_seen types.now) refusal_of result (judged (least (out_of_range (rights_of types.now) place.first place.last c v)) (result_in c v)) }
     ensures known { IfOk result (KnownSort (length types.now.shapes)) }
 {
     match sign {
@@ -108,7 +109,15 @@ fn signed(
                 value: 0,
                 rune: false,
             };
-            computed(alloc, types, place, joint, ConstOp::Arith(Op::Sub), &zero, constant)
+            computed(
+                alloc,
+                types,
+                place,
+                joint,
+                ConstOp::Arith(Op::Sub),
+                &zero,
+                constant,
+            )
         }
         Sign::Not => {
             let no = Const::Bool(false);
@@ -116,14 +125,22 @@ fn signed(
         }
         Sign::Complement => {
             let mask = complement_mask(types, of);
-            computed(alloc, types, place, joint, ConstOp::Arith(Op::Xor), &mask, constant)
+            computed(
+                alloc,
+                types,
+                place,
+                joint,
+                ConstOp::Arith(Op::Xor),
+                &mask,
+                constant,
+            )
         }
     }
 }
 
 /// What a unary operator makes of its operand (Go specification, "Arithmetic operators", "Logical operators"), or the fault of
 /// its rules: `Operands` here, or `Representable` where the value isn't one of the type.
-pub(crate) fn unary(
+pub fn unary(
     alloc: Global,
     types: &Types,
     place: Place,
@@ -131,7 +148,8 @@ pub(crate) fn unary(
     operand: &Sort,
 ) -> Result<Sort, TypeError>
     requires { KnownSort (length types.now.shapes) operand.now }
-    ensures exact { let a = sort_seen types.now operand.now in let rights = rights_of types.now in Gives (sort_seen types.now) refusal_of result (judged (least (unary_failing rights sign place.first place.last a)) (unary_sort rights sign a)) }
+    ensures exact { let a = sort_seen types.now operand.now in let rights = rights_of types.now in
+        Gives (sort_seen types.now) refusal_of result (judged (least (unary_failing rights sign place.first place.last a)) (unary_sort rights sign a)) }
     ensures known { IfOk result (KnownSort (length types.now.shapes)) }
 {
     let Some(joint) = own(types, operand) else {

@@ -1,4 +1,4 @@
-use Rattle.std.proofs.Common.{subst, sym, ap, ◌∙◌}
+use Rattle.std.proofs.Common.{subst}
 use Rattle.go_base.specs.Gives.{Gives}
 use Rattle.go_types.specs.Tables.{rights_of}
 use Rattle.go_typed.specs.Views.{sort_seen}

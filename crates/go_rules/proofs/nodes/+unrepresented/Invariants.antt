@@ -1,7 +1,7 @@
-use Rattle.std.proofs.Common.{◌≡◌, length, drop, None}
+use Rattle.std.proofs.Common.{◌≡◌, length, drop}
 use Rattle.go_types.specs.Tables.{type_of, rights_of}
 use Rattle.go_typed.specs.Views.{AllKnown}
-use Rattle.go_rules.specs.Faults.{least, earlier}
+use Rattle.go_rules.specs.Faults.{earlier}
 use Rattle.go_rules.proofs.Parts.{left}
 use Rattle.go_rules.proofs.nodes.+unrepresented.Given as goal
 
