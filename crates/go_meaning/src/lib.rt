@@ -1,0 +1,2 @@
+//! What Go packages do when they run, as definitions, and laws on them.
+#![tactic(auto)]
