@@ -4,3 +4,4 @@ pub mod Computations
 pub mod Operations
 pub mod Plans
 pub mod Doings
+pub mod Laws
