@@ -4,4 +4,6 @@ pub mod Computations
 pub mod Operations
 pub mod Plans
 pub mod Doings
+pub mod Planning
+pub mod Meaning
 pub mod Laws
