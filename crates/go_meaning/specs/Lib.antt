@@ -7,3 +7,5 @@ pub mod Doings
 pub mod Planning
 pub mod Meaning
 pub mod Laws
+pub mod Builders
+pub mod Examples
