@@ -296,16 +296,16 @@ drop_grown zero xs h = h
 drop_grown (suc n) [] h = tt
 drop_grown (suc n) (x ∷ xs) h = drop_grown n xs h.1
 
-local_grown : (n : ℕ) → Grown (local_place n)
+pub local_grown : (n : ℕ) → Grown (local_place n)
 local_grown n = record { value = read_grows n; find = give_grows []; test = λ us. give_grows []; load = λ us. read_grows n; store = λ us v. write_grows n v }
 
-name_grown : (n : ℕ) → Grown (name_place n)
+pub name_grown : (n : ℕ) → Grown (name_place n)
 name_grown n = record { value = give_grows []; find = give_grows []; test = λ us. give_grows []; load = λ us. read_grows n; store = λ us v. write_grows n v }
 
-blank_grown : Grown blank_place
+pub blank_grown : Grown blank_place
 blank_grown = record { value = give_grows []; find = give_grows []; test = λ us. give_grows []; load = λ us. give_grows []; store = λ us v. give_grows [] }
 
-variable_grown : (n : ℕ) → Grown (variable_place n)
+pub variable_grown : (n : ℕ) → Grown (variable_place n)
 variable_grown n = record {
   value = operate_grows (Operations.ReadVariable n) [];
   find = give_grows [];
@@ -318,7 +318,7 @@ variable_grown n = record {
 pub stored_grows : (x : Doing) → Grown x → (o : Operation) (vs us : List Value) → Grows (one (operate o vs) (λ r. x.store us r))
 stored_grows x h o vs us = one_grows (operate o vs) (λ r. x.store us r) (operate_grows o vs) (λ r. h.store us r)
 
-field_grown : (n : ℕ) (x : Doing) → Grown x → Grown (field_place n x)
+pub field_grown : (n : ℕ) (x : Doing) → Grown x → Grown (field_place n x)
 field_grown n x h = record {
   value = one_grows x.value (λ v. operate (Operations.Field n) (v ∷ [])) h.value (λ v. operate_grows (Operations.Field n) (v ∷ []));
   find = h.find;
@@ -336,7 +336,7 @@ index_found_grows i h us = one_grows i.value (λ k. give (k ∷ us)) h.value (λ
 pub element_found_grows : (x i : Doing) → Grown x → Grown i → (us : List Value) → Grows (then_do (x.test us) (λ no. one i.value (λ k. give (k ∷ us))))
 element_found_grows x i h hi us = then_grows (x.test us) (λ no. one i.value (λ k. give (k ∷ us))) (h.test us) (λ no. index_found_grows i hi us)
 
-element_grown : (n : ℕ) (x i : Doing) → Grown x → Grown i → Grown (element_place n x i)
+pub element_grown : (n : ℕ) (x i : Doing) → Grown x → Grown i → Grown (element_place n x i)
 element_grown n x i h hi = record {
   value = each_grows (x.value ∷ i.value ∷ []) (operate (Operations.Element n)) (h.value, (hi.value, tt)) (operate_grows (Operations.Element n));
   find = then_grows x.find (λ us. then_do (x.test us) (λ no. one i.value (λ k. give (k ∷ us)))) h.find (element_found_grows x i h hi);
@@ -346,7 +346,7 @@ element_grown n x i h hi = record {
       (operate_grows (Operations.InArray n) (nth us 0 ∷ [])) (λ no. element_stored_grows x h us v);
 }
 
-cell_grown : (x i : Doing) → Grown x → Grown i → Grown (cell_place x i)
+pub cell_grown : (x i : Doing) → Grown x → Grown i → Grown (cell_place x i)
 cell_grown x i h hi = record {
   value = each_grows (x.value ∷ i.value ∷ []) (operate Operations.Cell) (h.value, (hi.value, tt)) (operate_grows Operations.Cell);
   find = each_grows (x.value ∷ i.value ∷ []) give (h.value, (hi.value, tt)) give_grows;

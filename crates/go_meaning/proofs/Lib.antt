@@ -1,3 +1,4 @@
 pub mod Growing
 pub mod Examples
 pub mod Following
+pub mod Matching
