@@ -12,6 +12,13 @@ use Rattle.go_meaning.proofs.Growing.{Grows, AllGrow, Grown, AllGrown, undecided
 use Rattle.go_meaning.proofs.Following
 use Rattle.go_meaning.proofs.Following.{Likeness, CalledAlike, functions, none, is_function, Frames, Exits, Follows}
 
+-- the plans that speak of no local and give no value
+abbrev pub is_same : Plan → Bool
+is_same (Give v) = false
+is_same (Local n) = false
+is_same (Declare n) = false
+is_same p = true
+
 module _ (L : Likeness) (a p q : ℕ) (R : Frames) where
   -- wherever a computation leaves to, frames stay related
   abbrev pub everywhere : Exits
@@ -372,13 +379,6 @@ module _ (L : Likeness) (a p q : ℕ) (R : Frames) where
         (λ i. assigned_like xs xs' (operate (Item items i) (v ∷ [])) (operate (Item items i) (v' ∷ [])) h (operate_like (Item items i) (v ∷ []) (v' ∷ []) e)) hb 0 (item_count items v))
 
     -- ---- plans
-
-    -- the plans that speak of no local and give no value
-    abbrev pub is_same : Plan → Bool
-    is_same (Give v) = false
-    is_same (Local n) = false
-    is_same (Declare n) = false
-    is_same p = true
 
     module _ (call call' : ℕ → List Value → Comp) (hc : (g g' : ℕ) (vs vs' : List Value) → L.calls g g' → L.values vs vs' → Like (call g vs) (call' g' vs')) where
       pub same_met : (p : Plan) → is_same p ≡ true → (xs xs' : List Doing) → ((vs : List Value) → Grows (applied call' (nth vs 0) (drop 1 vs))) → AllMet xs xs' → Met (act call p xs) (act call' p xs')

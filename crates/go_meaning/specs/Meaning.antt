@@ -7,6 +7,7 @@ use Rattle.go_typed.specs.declared.form.Form.TheVariants as form
 use Rattle.go_typed.specs.Trees.{Typed, typed, Typeds, none, more, skip, parts_of}
 use Rattle.go_meaning.specs.Values.{Value, NilFunction, nth}
 use Rattle.go_meaning.specs.Computations.{World, Panic, Ending, Next, Panics, Outcome, Ends, Undecided, Comp, undecided, then_do, spend, enter, in_order}
+use Rattle.go_meaning.specs.Operations.{ReadByte, operate}
 use Rattle.go_meaning.specs.Doings.{Doing, absent, doing_of}
 use Rattle.go_meaning.specs.Planning.{part_at, is_there, plan}
 
@@ -49,14 +50,17 @@ with_arguments (Some n ∷ ps) vs f = with_arguments ps (drop 1 vs) (slice_set f
 abbrev pub frame_of : Code → List Value → List Value
 frame_of g vs = with_arguments g.parameters vs (replicate g.locals NilFunction)
 
--- A function without a body isn't deeper.
+-- The function without a body reads a byte of the input, and isn't deeper.
 abbrev pub entered : Bool → List Value → Comp → Comp
 entered true frame body = enter frame body
-entered false frame body = body
+entered false frame body = operate ReadByte []
+
+abbrev pub has_body : Code → Bool
+has_body g = is_there (part_at (parts_of g.body) 0)
 
 abbrev pub called : (Typed TypeTree → Comp) → List Value → Option Code → Comp
 called later vs None = undecided
-called later vs (Some g) = spend (entered (is_there (part_at (parts_of g.body) 0)) (frame_of g vs) (later g.body))
+called later vs (Some g) = spend (entered (has_body g) (frame_of g vs) (later g.body))
 
 -- ---- packages
 

@@ -208,7 +208,7 @@ items_of single calls t = Runes
 -- ---- the table: what a node does that is no constant and no `for` without a range; the rest does nothing by itself
 
 abbrev pub form_plan : Rights → Form → TypeTree → Typeds TypeTree → Plan
-form_plan rights form.Function t ps = if is_there (part_at ps 0) then plans.Sequence else plans.Perform does.ReadByte
+form_plan rights form.Function t ps = plans.Sequence
 form_plan rights form.Expression t ps = plans.Perform does.Drop
 form_plan rights (form.Step s) t ps = plans.StepBy (step_operation s (shape_at rights ps 0))
 form_plan rights (form.Assign n) t ps = plans.AssignTo n
