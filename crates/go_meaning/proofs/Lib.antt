@@ -4,3 +4,6 @@ pub mod Examples
 pub mod Following
 pub mod Matching
 pub mod Kin
+pub mod Programs
+pub mod Equal
+pub mod Clock
