@@ -10,20 +10,20 @@ use Rattle.go_meaning.specs.Laws.{IsPrefix, GoesOn, IsAlike}
 use Rattle.go_meaning.proofs.Following.{DeedLike, CalledAlike, functions, none, Likeness, Frames, Exits, after, values_in, ending_with, Meets}
 use Rattle.go_meaning.proofs.Matching.{everywhere}
 
-abbrev EqualValues : List Value → List Value → Type 0
+abbrev pub EqualValues : List Value → List Value → Type 0
 EqualValues vs vs' = vs ≡ vs'
 
-abbrev EqualWorlds : World → World → Type 0
+abbrev pub EqualWorlds : World → World → Type 0
 EqualWorlds w w' = w ≡ w'
 
 deed_refl : (x : Deed) → DeedLike EqualValues EqualWorlds x x
 deed_refl (Gives vs w) = (refl, refl)
 deed_refl (Traps p) = refl
 
-performs_equal : (o : Operation) (vs vs' : List Value) (w w' : World) → vs ≡ vs' → w ≡ w' → DeedLike EqualValues EqualWorlds (perform o vs w) (perform o vs' w')
+pub performs_equal : (o : Operation) (vs vs' : List Value) (w w' : World) → vs ≡ vs' → w ≡ w' → DeedLike EqualValues EqualWorlds (perform o vs w) (perform o vs' w')
 performs_equal o vs vs' w w' e l = subst (λ us. DeedLike EqualValues EqualWorlds (perform o vs w) (perform o us w')) e (subst (λ u. DeedLike EqualValues EqualWorlds (perform o vs w) (perform o vs u)) l (deed_refl (perform o vs w)))
 
-called_refl : (v : Value) → CalledAlike (λ g g'. g ≡ g') v v
+pub called_refl : (v : Value) → CalledAlike (λ g g'. g ≡ g') v v
 called_refl (Truth b) = none refl refl
 called_refl (Whole z) = none refl refl
 called_refl (Text bytes) = none refl refl
@@ -33,10 +33,10 @@ called_refl NilSlice = none refl refl
 called_refl (Function g) = functions refl
 called_refl NilFunction = none refl refl
 
-first_is : (v v' : Value) → (v ∷ []) ≡ (v' ∷ []) → v ≡ v'
+pub first_is : (v v' : Value) → (v ∷ []) ≡ (v' ∷ []) → v ≡ v'
 first_is v v' e = ap (λ vs. nth vs 0) e
 
-pub equal : Likeness
+abbrev pub equal : Likeness
 equal = record {
   values = EqualValues;
   worlds = EqualWorlds;
@@ -85,13 +85,12 @@ ended_goes Fallthrough f f' w w' left left' h = ap (λ x. Ended x.output) (sym h
 ended_goes (Panics p) f f' w w' left left' h = ap (λ x. Panicked p x.output) (sym h)
 
 module _ (R : Frames) where
-  abbrev Meet : (t : ℕ) → (ℕ → Outcome) → Outcome → Type 0
+  abbrev pub Meet : (t : ℕ) → (ℕ → Outcome) → Outcome → Type 0
   Meet t new old = Meets equal 1 R (everywhere equal 1 1 0 R) 0 t new old
 
   -- the new outcome at a number of turns that is enough
   pub met_ends : (t t' left : ℕ) (e : Ending) (f : List Value) (w : World) (new : ℕ → Outcome) → t ≤ t' → Meet t new (Ends e f w left) →
       (f' : List Value) × (left' : ℕ) × after R (everywhere equal 1 1 0 R) e f f' × (left + t' ≤ left' + t) × (new t' ≡ Ends e f' w left')
-  unfolding equal
   met_ends t t' left e f w new le h =
       let s : h.3 + (t' - h.3) ≡ t' = omega (arith, h.7, le) in
       (h.1, t' - h.3, h.5, omega (arith, h.7, le), ap new (sym s) ∙ h.8 (t' - h.3) ∙ ap (λ x. Ends x h.1 h.2 (t' - h.3)) (ending_same e h.0 h.4) ∙ ap (λ x. Ends e h.1 x (t' - h.3)) (sym h.6))

@@ -27,7 +27,7 @@ pub data PlanKin (V : List Value → List Value → Type 0) (linked : ℕ → �
 mutual
   pub data Kin (V : List Value → List Value → Type 0) (linked : ℕ → ℕ → Type 0) (rights rights' : Rights) : Typed TypeTree → Typed TypeTree → Type 0 where
     once : {f f' : Form} {i i' j j' : ℕ} {l l' : Label TypeTree} {ps ps' : Typeds TypeTree} (p p' : Plan) → plan rights f l ps ≡ Once p → plan rights' f' l' ps' ≡ Once p' → PlanKin V linked p p' → AllKin V linked rights rights' ps ps' → Kin V linked rights rights' (typed f i j l ps) (typed f' i' j' l' ps')
-    turns : {i i' j j' : ℕ} {l l' : Label TypeTree} {ps ps' : Typeds TypeTree} → AllKin V linked rights rights' ps ps' → Kin V linked rights rights' (typed form.For i j l ps) (typed form.For i' j' l' ps')
+    round : {i i' j j' : ℕ} {l l' : Label TypeTree} {ps ps' : Typeds TypeTree} → AllKin V linked rights rights' ps ps' → Kin V linked rights rights' (typed form.For i j l ps) (typed form.For i' j' l' ps')
 
   pub data AllKin (V : List Value → List Value → Type 0) (linked : ℕ → ℕ → Type 0) (rights rights' : Rights) : Typeds TypeTree → Typeds TypeTree → Type 0 where
     none : AllKin V linked rights rights' trees.none trees.none
@@ -43,7 +43,7 @@ there_kin (skip hs) (suc n) = there_kin hs n
 
 pub first_kin : {V : List Value → List Value → Type 0} {linked : ℕ → ℕ → Type 0} {rights rights' : Rights} {t t' : Typed TypeTree} → Kin V linked rights rights' t t' → is_there (part_at (trees.parts_of t) 0) ≡ is_there (part_at (trees.parts_of t') 0)
 first_kin (once p p' e e' k all) = there_kin all 0
-first_kin (turns all) = there_kin all 0
+first_kin (round all) = there_kin all 0
 
 rest_kin : {V : List Value → List Value → Type 0} {linked : ℕ → ℕ → Type 0} {rights rights' : Rights} {ts ts' : Typeds TypeTree} → AllKin V linked rights rights' ts ts' → AllKin V linked rights rights' (without_first ts) (without_first ts')
 rest_kin none = none
@@ -80,11 +80,11 @@ module _ (L : Likeness) (a p q : ℕ) (le : 1 ≤ a) (room : Room L) where
           subst (λ c. Met L a p q room.frames (doing_of call again c (meanings rights call later ps)) (doing_of call' again' (plan rights' f' l' ps') (meanings rights' call' later' ps'))) (sym e)
           (subst (λ c. Met L a p q room.frames (doing_of call again (Once b) (meanings rights call later ps)) (doing_of call' again' c (meanings rights' call' later' ps'))) (sym e')
           (plan_met k (meanings rights call later ps) (meanings rights' call' later' ps') (all_kin_met all)))
-      kin_met (turns {i = i} {i' = i'} {j = j} {j' = j'} {l = l} {l' = l'} {ps = ps} {ps' = ps'} all) =
+      kin_met (round {i = i} {i' = i'} {j = j} {j' = j'} {l = l} {l' = l'} {ps = ps} {ps' = ps'} all) =
           let again : Comp = later (typed form.For i j l (without_first ps)) in
           let again' : Comp = later' (typed form.For i' j' l' (without_first ps')) in
           subst (λ c. Met L a p q room.frames (doing_of call again (Loop (is_there (part_at ps 1))) (meanings rights call later ps)) (doing_of call' again' (Loop c) (meanings rights' call' later' ps'))) (there_kin all 1)
-          (looping_met L a p q room.frames le call call' hc again again' (is_there (part_at ps 1)) (meanings rights call later ps) (meanings rights' call' later' ps') (hl (typed form.For i j l (without_first ps)) (typed form.For i' j' l' (without_first ps')) (turns (rest_kin all))) (all_kin_met all))
+          (looping_met L a p q room.frames le call call' hc again again' (is_there (part_at ps 1)) (meanings rights call later ps) (meanings rights' call' later' ps') (hl (typed form.For i j l (without_first ps)) (typed form.For i' j' l' (without_first ps')) (round (rest_kin all))) (all_kin_met all))
 
       pub all_kin_met : {ts ts' : Typeds TypeTree} → AllKin L.values room.linked rights rights' ts ts' → AllMet L a p q room.frames (meanings rights call later ts) (meanings rights' call' later' ts')
       all_kin_met none = tt

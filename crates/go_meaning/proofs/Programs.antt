@@ -8,13 +8,9 @@ use Rattle.go_meaning.specs.Computations.{Comp, undecided, enter, then_do, in_or
 use Rattle.go_meaning.specs.Operations.{ReadByte}
 use Rattle.go_meaning.specs.Meaning.{meaning, Code, frame_of, entered, has_body, called, Program, bounded, all_bounded, program}
 use Rattle.go_meaning.proofs.Trees.{called_grows, bounded_grows}
-use Rattle.go_meaning.proofs.Following.{Likeness, any, undecided_follows, enter_follows}
+use Rattle.go_meaning.proofs.Following.{Likeness, undecided_follows, enter_follows}
 use Rattle.go_meaning.proofs.Matching.{everywhere, Like, AllLike, operate_like, then_like, spend_like, in_order_like}
 use Rattle.go_meaning.proofs.Kin.{Kin, first_kin, Room, kin_met}
-
--- the place of package variables, which have no locals
-abbrev pub outside : (L : Likeness) → Room L
-outside L = record { linked = λ i j. ⊥; frames = any; reads = λ i j h f f' r. absurd h; writes = λ i j h v v' e f f' r. tt }
 
 pub record Mate (L : Likeness) (P P' : Program) (g g' : Code) : Type 1 where
   pub room : Room L
@@ -25,12 +21,15 @@ pub data Mates (L : Likeness) (P P' : Program) : Option Code → Option Code →
   neither : Mates L P P' None None
   both : {g g' : Code} → Mate L P P' g g' → Mates L P P' (Some g) (Some g')
 
-pub data VariablesKin (L : Likeness) (P P' : Program) : List (Typed TypeTree) → List (Typed TypeTree) → Type 0 where
-  none : VariablesKin L P P' [] []
-  more : {t t' : Typed TypeTree} {ts ts' : List (Typed TypeTree)} → Kin L.values (outside L).linked P.rights P'.rights t t' → VariablesKin L P P' ts ts' → VariablesKin L P P' (t ∷ ts) (t' ∷ ts')
+pub data VariablesKin (L : Likeness) (linked : ℕ → ℕ → Type 0) (P P' : Program) : List (Typed TypeTree) → List (Typed TypeTree) → Type 0 where
+  none : VariablesKin L linked P P' [] []
+  more : {t t' : Typed TypeTree} {ts ts' : List (Typed TypeTree)} → Kin L.values linked P.rights P'.rights t t' → VariablesKin L linked P P' ts ts' → VariablesKin L linked P P' (t ∷ ts) (t' ∷ ts')
 
 pub record ProgramsKin (L : Likeness) (P P' : Program) : Type 1 where
-  pub variables : VariablesKin L P P' P.variables P'.variables
+  -- where the package's variables stand
+  pub outer : Room L
+  pub starts : outer.frames [] []
+  pub variables : VariablesKin L outer.linked P P' P.variables P'.variables
   pub functions : (g g' : ℕ) → L.calls g g' → Mates L P P' (slice_get P.functions g) (slice_get P'.functions g')
   pub mains : Mates L P P' (slice_get P.functions P.main) (slice_get P'.functions P'.main)
 
@@ -61,12 +60,12 @@ module _ (L : Likeness) (a p q : ℕ) (le : 1 ≤ a) (deep : 1 ≤ p) (P P' : Pr
       (λ g g' vs vs' c e. called_like n n' (bounded_follow n n' (omega (arith, low))) room (kin.functions g g' c) vs vs' e)
       (bounded_follow n n' (omega (arith, low)) room) h).value
 
-  variables_like : (n n' : ℕ) → n ≤ n' → {ts ts' : List (Typed TypeTree)} → VariablesKin L P P' ts ts' → AllLike L a p q any (all_bounded P n ts) (all_bounded P' n' ts')
+  variables_like : (n n' : ℕ) → n ≤ n' → {ts ts' : List (Typed TypeTree)} → VariablesKin L kin.outer.linked P P' ts ts' → AllLike L a p q kin.outer.frames (all_bounded P n ts) (all_bounded P' n' ts')
   variables_like n n' low none = tt
-  variables_like n n' low (more {t = t} {t' = t'} h hs) = (bounded_follow n n' low (outside L) t t' h, variables_like n n' low hs)
+  variables_like n n' low (more {t = t} {t' = t'} h hs) = (bounded_follow n n' low kin.outer t t' h, variables_like n n' low hs)
 
-  pub program_follows : (n n' : ℕ) → n ≤ n' → Like L a p q any (program P n) (program P' n')
+  pub program_follows : (n n' : ℕ) → n ≤ n' → Like L a p q kin.outer.frames (program P n) (program P' n')
   program_follows n n' low =
-      let main = called_like n n' (bounded_follow n n' low) (outside L) kin.mains [] [] L.nothing in
-      then_like L a p q any (in_order (all_bounded P n P.variables)) (in_order (all_bounded P' n' P'.variables)) (λ no. called (bounded P n) [] (slice_get P.functions P.main)) (λ no. called (bounded P' n') [] (slice_get P'.functions P'.main))
-      (in_order_like L a p q any (all_bounded P n P.variables) (all_bounded P' n' P'.variables) (variables_like n n' low kin.variables)) (λ no. main.grows) (λ no no' e. main)
+      let main = called_like n n' (bounded_follow n n' low) kin.outer kin.mains [] [] L.nothing in
+      then_like L a p q kin.outer.frames (in_order (all_bounded P n P.variables)) (in_order (all_bounded P' n' P'.variables)) (λ no. called (bounded P n) [] (slice_get P.functions P.main)) (λ no. called (bounded P' n') [] (slice_get P'.functions P'.main))
+      (in_order_like L a p q kin.outer.frames (all_bounded P n P.variables) (all_bounded P' n' P'.variables) (variables_like n n' low kin.variables)) (λ no. main.grows) (λ no no' e. main)
