@@ -1,18 +1,19 @@
 -- A package follows itself, at more turns and a greater depth.
-use Rattle.std.proofs.Common.{◌≡◌, ℕ, zero, suc, ◌+◌, ◌*◌, ◌≤◌, List, [], ◌∷◌, refl, sym, ap, ◌∙◌, subst, arith, Option, Some, None}
+use Rattle.std.proofs.Common.{◌≡◌, ℕ, suc, ◌≤◌, List, [], ◌∷◌, refl, ap, ◌∙◌, subst, arith, Option, Some, None}
 use Rattle.std.specs.Prelude.{slice_get, slice_set}
 use Rattle.go_types.specs.Trees.{TypeTree}
 use Rattle.go_types.specs.Relations.{Rights}
-use Rattle.go_typed.specs.declared.form.Form.{Form}
 use Rattle.go_typed.specs.declared.form.Form.TheVariants as form
 use Rattle.go_typed.specs.Trees.{Label, Typed, typed, Typeds}
 use Rattle.go_typed.specs.Trees as trees
 use Rattle.go_meaning.specs.Values.{Value, nth}
-use Rattle.go_meaning.specs.Computations.{World, Ending, Outcome, Ends, Undecided, output_of}
+use Rattle.go_meaning.specs.Computations.{World, Ending, Next, Return, Break, Continue, Fallthrough, Panics, Ends, Undecided, output_of}
 use Rattle.go_meaning.specs.Plans.{Plan, Give, Local, Declare}
 use Rattle.go_meaning.specs.Planning.{sort_type, form_plan, sort_plan}
-use Rattle.go_meaning.specs.Meaning.{Code, frame_of, Program, bounded, program, start, run, run_of}
-use Rattle.go_meaning.specs.Laws.{IsPrefix, GoesOn, EndsLater}
+use Rattle.go_meaning.specs.Meaning.{Code, frame_of, Program, bounded, program, start, run}
+use Rattle.go_meaning.specs.Laws.{IsPrefix, GoesOn, KeepsFrame, EndsLater}
+use Rattle.go_meaning.proofs.Following.{after}
+use Rattle.go_meaning.proofs.Matching.{everywhere}
 use Rattle.go_meaning.proofs.Kin.{PlanKin, gives, reads, declares, same, Kin, once, round, AllKin, none, more, skip, Room}
 use Rattle.go_meaning.proofs.Programs.{Mate, Mates, neither, both, VariablesKin, ProgramsKin, bounded_follow, program_follows}
 use Rattle.go_meaning.proofs.Programs as programs
@@ -44,6 +45,14 @@ same_room = record {
   writes = λ i j e v v' h f f' r. ap (λ x. slice_set x i v) r ∙ ap (λ k. slice_set f' k v) e ∙ ap (slice_set f' j) (first_is v v' h);
 }
 
+frame_kept : (e : Ending) (f f' : List Value) → after same_room.frames (everywhere equal 1 1 0 same_room.frames) e f f' → KeepsFrame e f f'
+frame_kept (Next vs) f f' h = h
+frame_kept (Return vs) f f' h = h
+frame_kept Break f f' h = h
+frame_kept Continue f f' h = h
+frame_kept Fallthrough f f' h = h
+frame_kept (Panics p) f f' h = tt
+
 module _ (P : Program) where
   mate_itself : (g : Code) → Mate equal P P g g
   mate_itself g = record { room = same_room; bodies = kin_itself (λ i j. i ≡ j) (λ i. refl) P.rights g.body; frames = λ vs vs' e. ap (frame_of g) e }
@@ -56,7 +65,7 @@ module _ (P : Program) where
   variables_themselves [] = programs.none
   variables_themselves (t ∷ ts) = programs.more (kin_itself (λ i j. i ≡ j) (λ i. refl) P.rights t) (variables_themselves ts)
 
-  program_itself : ProgramsKin equal P P
+  pub program_itself : ProgramsKin equal P P
   program_itself = record {
     outer = same_room;
     starts = refl;
@@ -78,10 +87,10 @@ module _ (P : Program) where
   tree_meets n n' t d d' f w turns low deeper =
       (bounded_follow equal 1 1 0 (omega arith) (omega arith) P P program_itself n n' low same_room t t (kin_itself (λ i j. i ≡ j) (λ i. refl) P.rights t)).by d d' f f w w turns refl refl (omega (arith, deeper))
 
-  pub tree_ends : (n n' : ℕ) (t : Typed TypeTree) (d d' : ℕ) (f f1 : List Value) (w w1 : World) (turns turns' left : ℕ) (e : Ending) → n ≤ n' → d ≤ d' → turns ≤ turns' → bounded P n t d f w turns ≡ Ends e f1 w1 left → EndsLater P n' t d' f w turns turns' e w1 left
+  pub tree_ends : (n n' : ℕ) (t : Typed TypeTree) (d d' : ℕ) (f f1 : List Value) (w w1 : World) (turns turns' left : ℕ) (e : Ending) → n ≤ n' → d ≤ d' → turns ≤ turns' → bounded P n t d f w turns ≡ Ends e f1 w1 left → EndsLater P n' t d' f w turns turns' e f1 w1 left
   tree_ends n n' t d d' f f1 w w1 turns turns' left e low deeper le h =
       let x = met_ends same_room.frames turns turns' left e f1 w1 (bounded P n' t d' f w) le (subst (Meet same_room.frames turns (bounded P n' t d' f w)) h (tree_meets n n' t d d' f w turns low deeper)) in
-      (x.0, x.1, x.3, x.4)
+      (x.0, x.1, frame_kept e f1 x.0 x.2, x.3, x.4)
 
   pub tree_undecided : (n n' : ℕ) (t : Typed TypeTree) (d d' : ℕ) (f : List Value) (w : World) (turns turns' : ℕ) (o : List ℕ) → n ≤ n' → d ≤ d' → turns ≤ turns' → bounded P n t d f w turns ≡ Undecided o → IsPrefix o (output_of (bounded P n' t d' f w turns'))
   tree_undecided n n' t d d' f w turns turns' o low deeper le h =

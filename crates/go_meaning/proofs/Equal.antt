@@ -1,13 +1,13 @@
 -- Sides with equal values and equal worlds, and what follows for outcomes and runs.
-use Rattle.std.proofs.Common.{◌≡◌, ℕ, zero, suc, ◌+◌, ◌-◌, ◌*◌, ◌≤◌, List, [], ◌∷◌, ◌++◌, refl, sym, ap, ◌∙◌, subst, arith, take, drop, append_assoc}
+use Rattle.std.proofs.Common.{◌≡◌, ℕ, ◌+◌, ◌-◌, ◌≤◌, List, [], ◌∷◌, ◌++◌, refl, sym, ap, ◌∙◌, subst, arith, take, drop, append_assoc}
 use Rattle.std.proofs.Common.{append-nil as append_nil}
-use Rattle.std.specs.Prelude.{ℤ, Bool, true, false, length}
-use Rattle.go_meaning.specs.Values.{Value, Truth, Whole, Text, Parts, Slice, NilSlice, Function, NilFunction, nth, is_true, zero_value}
-use Rattle.go_meaning.specs.Computations.{World, Panic, Ending, Next, Return, Break, Continue, Fallthrough, Panics, Outcome, Ends, Undecided, output_of}
-use Rattle.go_meaning.specs.Operations.{Operation, Items, Deed, Gives, Traps, perform, item_count}
+use Rattle.std.specs.Prelude.{length}
+use Rattle.go_meaning.specs.Values.{Value, Truth, Whole, Text, Parts, Slice, NilSlice, Function, NilFunction, nth, is_true}
+use Rattle.go_meaning.specs.Computations.{World, Ending, Next, Return, Break, Continue, Fallthrough, Panics, Outcome, Ends, Undecided, output_of}
+use Rattle.go_meaning.specs.Operations.{Operation, Deed, Gives, Traps, perform, item_count}
 use Rattle.go_meaning.specs.Meaning.{Run, Ended, Panicked, Unfinished, run_of, printed}
-use Rattle.go_meaning.specs.Laws.{IsPrefix, GoesOn, IsAlike}
-use Rattle.go_meaning.proofs.Following.{DeedLike, CalledAlike, functions, none, Likeness, Frames, Exits, after, values_in, ending_with, Meets}
+use Rattle.go_meaning.specs.Laws.{IsPrefix, GoesOn}
+use Rattle.go_meaning.proofs.Following.{DeedLike, CalledAlike, functions, none, Likeness, Frames, after, values_in, ending_with, Meets}
 use Rattle.go_meaning.proofs.Matching.{everywhere}
 
 abbrev pub EqualValues : List Value → List Value → Type 0
@@ -109,6 +109,7 @@ append_cancels o r h = empty_by_length r (lengths o r (ap length h))
     lengths : (o r : List ℕ) → length o ≡ length (o ++ r) → length r ≡ 0
     lengths [] r h = sym h
     lengths (x ∷ o) r h = lengths o r (omega (arith, h))
+
     empty_by_length : (r : List ℕ) → length r ≡ 0 → r ≡ []
     empty_by_length [] h = refl
     empty_by_length (x ∷ r) h = absurd (omega (arith, h))

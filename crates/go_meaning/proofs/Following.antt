@@ -1,13 +1,13 @@
 -- One simulation: a new computation follows an old one. It ends likewise, in frames, with values and in a world that are like
 -- those of the old one, at turns that grow by no more than a factor and a cost; and it has printed what the old one has.
-use Rattle.std.proofs.Common.{◌≡◌, ℕ, zero, suc, ◌+◌, ◌-◌, ◌*◌, ◌≤◌, List, [], ◌∷◌, ◌++◌, refl, sym, ap, ◌∙◌, subst, arith, take, drop}
-use Rattle.std.specs.Prelude.{ℤ, Bool, true, false, slice_set, get_or}
+use Rattle.std.proofs.Common.{◌≡◌, ℕ, zero, suc, ◌+◌, ◌-◌, ◌*◌, ◌≤◌, List, [], ◌∷◌, ◌++◌, sym, ap, ◌∙◌, subst, arith, take, drop}
+use Rattle.std.specs.Prelude.{ℤ, Bool, true, false, slice_set}
 use Rattle.type_tests.specs.Zeros.{Zero}
-use Rattle.go_meaning.specs.Values.{Value, Truth, Whole, Text, Parts, Slice, NilSlice, Function, NilFunction, nth, is_true, zero_value}
-use Rattle.go_meaning.specs.Computations.{World, Panic, Ending, Next, Return, Break, Continue, Fallthrough, Panics, Outcome, Ends, Undecided, Comp, output_of, go_on, go_round, go_down, leave, undecided, end_by, give, then_do, one, looped, clause, read, write, spend, enter, choose, each, in_order, falling, over}
+use Rattle.go_meaning.specs.Values.{Value, Truth, Whole, Function, nth, is_true, zero_value}
+use Rattle.go_meaning.specs.Computations.{World, Ending, Next, Return, Break, Continue, Fallthrough, Panics, Outcome, Ends, Undecided, Comp, output_of, go_on, go_round, go_down, leave, undecided, end_by, then_do, looped, clause, read, write, spend, enter, choose, over}
 use Rattle.go_meaning.specs.Operations.{Operation, Items, Deed, Gives, Traps, perform, done, operate, item_count}
 use Rattle.go_meaning.specs.Laws.{IsPrefix}
-use Rattle.go_meaning.proofs.Growing.{Grows, AllGrow, go_on_grows, go_round_grows, go_down_grows, leave_grows, undecided_grows, end_grows, operate_grows, read_grows, write_grows, then_grows, looped_grows, clause_grows, spend_grows, enter_grows, over_grows, each_grows, in_order_grows, falling_grows}
+use Rattle.go_meaning.proofs.Growing.{Grows, go_on_grows, go_round_grows, go_down_grows, leave_grows, end_grows, operate_grows, read_grows, write_grows, then_grows, looped_grows, clause_grows, spend_grows, enter_grows, over_grows}
 
 abbrev pub DeedLike : (List Value → List Value → Type 0) → (World → World → Type 0) → Deed → Deed → Type 0
 DeedLike V W (Gives vs w) (Gives vs' w') = V vs vs' × W w w'

@@ -1,7 +1,7 @@
 -- The output only grows.
-use Rattle.std.proofs.Common.{◌≡◌, ℕ, zero, suc, ◌+◌, ◌*◌, List, [], ◌∷◌, ◌++◌, refl, sym, ap, ◌∙◌, append_assoc, take, drop, replicate}
+use Rattle.std.proofs.Common.{ℕ, zero, suc, ◌+◌, ◌*◌, List, [], ◌∷◌, ◌++◌, refl, sym, ap, ◌∙◌, append_assoc, take, drop, replicate}
 use Rattle.std.proofs.Common.{append-nil as append_nil}
-use Rattle.std.specs.Prelude.{ℤ, pos, negsuc, Bool, true, false, ◌&&◌, if◌then◌else◌, Option, Some, None, Result, Ok, Err, length, nat_le, int_le, get_or, max, unsigned_abs}
+use Rattle.std.specs.Prelude.{ℤ, pos, Bool, true, false, ◌&&◌, if◌then◌else◌, Option, Some, None, Result, Ok, Err, length, nat_le, int_le, max, unsigned_abs}
 use Rattle.go_ints.specs.declared.operators.Trap.{Trap}
 use Rattle.go_ints.specs.declared.operators.Trap.TheVariants.{DivideZero, NegativeShift}
 use Rattle.go_ints.specs.Arithmetic.{arithmetic}
@@ -14,7 +14,7 @@ use Rattle.go_meaning.specs.Computations.{World, Panic, Ending, Next, Return, Br
 use Rattle.go_meaning.specs.Operations
 use Rattle.go_meaning.specs.Operations.{Operation, Items, Fixed, Elements, Cells, Runes, Deed, Gives, Traps, computed, found, new_slice, made, longer, appended, with_cells, contents, length_of, capacity_of, within, cut, cut_by, byte_read, perform, done, operate, item_count}
 use Rattle.go_meaning.specs.Plans.{Plan, Give, Local, Variable, Declare, Ignore, Inner, FieldOf, ElementOf, CellOf, Perform, Both, Either, Apply, StepBy, OperateBy, AssignTo, ZeroTo, Skip, Returns, Breaks, Continues, Falls, Sequence, Branch, Select, CaseOf, Otherwise, Iterate, Course, Once, Loop}
-use Rattle.go_meaning.specs.Doings.{Doing, plain, chosen_by, absent, values_of, finds_of, at, local_place, name_place, blank_place, variable_place, field_place, element_place, cell_place, stores, assigned, operated, applied, matches, selected, tag_of, loop, operand_of, iterated, act, condition_of, doing_of}
+use Rattle.go_meaning.specs.Doings.{Doing, plain, chosen_by, values_of, finds_of, at, local_place, name_place, blank_place, variable_place, field_place, element_place, cell_place, stores, assigned, operated, applied, matches, selected, tag_of, loop, operand_of, iterated, act, condition_of, doing_of}
 use Rattle.go_meaning.specs.Laws.{IsPrefix}
 
 pub prefix_refl : (o : List ℕ) → IsPrefix o o

@@ -1,7 +1,7 @@
 -- Trees that are kin: node by node their plans are equal, but for locals that are linked and values that are alike. One follows
 -- the other.
-use Rattle.std.proofs.Common.{◌≡◌, ℕ, zero, suc, ◌+◌, ◌≤◌, List, [], ◌∷◌, refl, sym, ap, ◌∙◌, subst, arith, Option, Some, None, drop}
-use Rattle.std.specs.Prelude.{Bool, true, false, slice_set, slice_get}
+use Rattle.std.proofs.Common.{◌≡◌, ℕ, zero, suc, ◌≤◌, List, [], ◌∷◌, refl, sym, subst, drop}
+use Rattle.std.specs.Prelude.{true, slice_set}
 use Rattle.go_types.specs.Trees.{TypeTree}
 use Rattle.go_types.specs.Relations.{Rights}
 use Rattle.go_typed.specs.declared.form.Form.{Form}
@@ -10,12 +10,12 @@ use Rattle.go_typed.specs.Trees.{Label, Typed, typed, Typeds}
 use Rattle.go_typed.specs.Trees as trees
 use Rattle.go_meaning.specs.Values.{Value, nth}
 use Rattle.go_meaning.specs.Computations.{Comp, give, read, write}
-use Rattle.go_meaning.specs.Plans.{Plan, Give, Local, Declare, Course, Once, Loop}
-use Rattle.go_meaning.specs.Doings.{Doing, applied, act, doing_of}
+use Rattle.go_meaning.specs.Plans.{Plan, Give, Local, Declare, Once, Loop}
+use Rattle.go_meaning.specs.Doings.{Doing, act, doing_of}
 use Rattle.go_meaning.specs.Planning.{part_at, is_there, plan}
 use Rattle.go_meaning.specs.Meaning.{without_first, turned, meaning, meanings}
 use Rattle.go_meaning.proofs.Growing.{Grows, applied_grows}
-use Rattle.go_meaning.proofs.Following.{Likeness, Frames, Follows, read_follows, write_follows}
+use Rattle.go_meaning.proofs.Following.{Likeness, Frames, read_follows, write_follows}
 use Rattle.go_meaning.proofs.Matching.{is_same, everywhere, Like, Met, AllMet, give_like, plain_met, absent_met, local_met, name_met, same_met, looping_met}
 
 pub data PlanKin (V : List Value → List Value → Type 0) (linked : ℕ → ℕ → Type 0) : Plan → Plan → Type 0 where

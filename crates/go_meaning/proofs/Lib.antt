@@ -7,3 +7,4 @@ pub mod Kin
 pub mod Programs
 pub mod Equal
 pub mod Clock
+pub mod Renaming

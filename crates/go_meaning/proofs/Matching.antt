@@ -1,14 +1,14 @@
 -- Doings that match: whatever is asked of the new one follows what is asked of the old one, in frames that stay related.
-use Rattle.std.proofs.Common.{◌≡◌, ℕ, zero, suc, ◌+◌, ◌*◌, ◌≤◌, List, [], ◌∷◌, ◌++◌, refl, sym, ap, ◌∙◌, subst, arith, take, drop, replicate}
-use Rattle.std.specs.Prelude.{ℤ, pos, Bool, true, false, slice_set, get_or}
+use Rattle.std.proofs.Common.{◌≡◌, ℕ, zero, suc, ◌≤◌, List, [], ◌∷◌, ◌++◌, refl, sym, ap, subst, arith, take, drop, replicate}
+use Rattle.std.specs.Prelude.{pos, Bool, true, false}
 use Rattle.go_grammar.specs.declared.kind.Comparison.TheVariants.{Equal}
 use Rattle.type_tests.specs.Zeros.{Zero, nil_function}
 use Rattle.go_meaning.specs.Values.{Value, Truth, Whole, Text, Parts, Slice, NilSlice, Function, NilFunction, nth, is_true, zero_value}
-use Rattle.go_meaning.specs.Computations.{World, Panic, NilCall, Ending, Next, Return, Break, Continue, Fallthrough, Panics, Outcome, Ends, Undecided, Comp, undecided, end_by, give, then_do, one, looped, clause, read, write, spend, enter, choose, each, in_order, falling, over}
+use Rattle.go_meaning.specs.Computations.{Panic, NilCall, Next, Return, Break, Continue, Fallthrough, Panics, Comp, undecided, end_by, give, then_do, one, looped, clause, read, write, spend, choose, each, in_order, falling, over}
 use Rattle.go_meaning.specs.Operations.{Operation, Items, Fixed, Elements, Cells, Runes, Compare, Field, WithField, Element, WithElement, InArray, Cell, SetCell, InSlice, ReadVariable, WriteVariable, Item, operate, item_count}
-use Rattle.go_meaning.specs.Plans.{Plan, Give, Local, Variable, Declare, Ignore, Inner, FieldOf, ElementOf, CellOf, Perform, Both, Either, Apply, StepBy, OperateBy, AssignTo, ZeroTo, Skip, Returns, Breaks, Continues, Falls, Sequence, Branch, Select, CaseOf, Otherwise, Iterate, Course, Once, Loop}
+use Rattle.go_meaning.specs.Plans.{Plan, Give, Local, Variable, Declare, Ignore, Inner, FieldOf, ElementOf, CellOf, Perform, Both, Either, Apply, StepBy, OperateBy, AssignTo, ZeroTo, Skip, Returns, Breaks, Continues, Falls, Sequence, Branch, Select, CaseOf, Otherwise, Iterate, Loop}
 use Rattle.go_meaning.specs.Doings.{Doing, plain, chosen_by, absent, values_of, finds_of, at, local_place, name_place, blank_place, variable_place, field_place, element_place, cell_place, stores, assigned, operated, applied, matches, selected, tag_of, loop, operand_of, iterated, act, condition_of, doing_of}
-use Rattle.go_meaning.proofs.Growing.{Grows, AllGrow, Grown, AllGrown, undecided_grows, end_grows, give_grows, operate_grows, choose_grows, spend_grows, looped_grows, then_grows, one_grows, plain_grown, chosen_grown, at_grown, values_grow, take_grown, drop_grown, stored_grows, element_stored_grows, index_found_grows, element_found_grows, stores_grow, assigned_rest_grows, operated_last_grows, operated_rest_grows, match_rest_grows, matches_grow, selected_grows, falling_grows, turn_grows, iterated_grows, switched_grows, branch_grows, each_grows, local_grown, name_grown, blank_grown, variable_grown, field_grown, element_grown, cell_grown}
+use Rattle.go_meaning.proofs.Growing.{Grows, AllGrow, Grown, AllGrown, undecided_grows, end_grows, give_grows, operate_grows, choose_grows, plain_grown, chosen_grown, values_grow, take_grown, stored_grows, element_stored_grows, index_found_grows, element_found_grows, stores_grow, assigned_rest_grows, operated_last_grows, operated_rest_grows, match_rest_grows, matches_grow, turn_grows, iterated_grows, switched_grows, branch_grows, each_grows, local_grown, name_grown, blank_grown, variable_grown, field_grown, element_grown, cell_grown}
 use Rattle.go_meaning.proofs.Following
 use Rattle.go_meaning.proofs.Following.{Likeness, CalledAlike, functions, none, is_function, Frames, Exits, Follows}
 
@@ -182,13 +182,23 @@ module _ (L : Likeness) (a p q : ℕ) (R : Frames) where
   pub local_met : (i j : ℕ) → Like (read i) (read j) → ((v v' : Value) → L.values (v ∷ []) (v' ∷ []) → Like (write i v) (write j v')) → Met (local_place i) (local_place j)
   local_met i j r w = record {
     grown = local_grown j;
-    width = refl; value = r; find = nothing_like; test = λ us us' u. nothing_like; load = λ us us' u. r; store = λ us us' v v' u e. w v v' e;
+    width = refl;
+    value = r;
+    find = nothing_like;
+    test = λ us us' u. nothing_like;
+    load = λ us us' u. r;
+    store = λ us us' v v' u e. w v v' e;
   }
 
   pub name_met : (i j : ℕ) → Like (read i) (read j) → ((v v' : Value) → L.values (v ∷ []) (v' ∷ []) → Like (write i v) (write j v')) → Met (name_place i) (name_place j)
   name_met i j r w = record {
     grown = name_grown j;
-    width = refl; value = nothing_like; find = nothing_like; test = λ us us' u. nothing_like; load = λ us us' u. r; store = λ us us' v v' u e. w v v' e;
+    width = refl;
+    value = nothing_like;
+    find = nothing_like;
+    test = λ us us' u. nothing_like;
+    load = λ us us' u. r;
+    store = λ us us' v v' u e. w v v' e;
   }
 
   blank_met : Met blank_place blank_place
@@ -369,7 +379,7 @@ module _ (L : Likeness) (a p q : ℕ) (R : Frames) where
     pub loop_like : (first first' condition condition' block block' post post' again again' : Comp) → Like first first' → Like condition condition' → Like block block' → Like post post' → Like again again' → Like (loop first condition block post again) (loop first' condition' block' post' again')
     loop_like first first' condition condition' block block' post post' again again' hf hc hb hp ha =
         let whole : Like (one condition (λ v. choose (is_true v) (spend (looped block (then_do post (λ no1. again)))) (give []))) (one condition' (λ v. choose (is_true v) (spend (looped block' (then_do post' (λ no1. again')))) (give [])))
-            = one_like condition condition' (λ v. choose (is_true v) (spend (looped block (then_do post (λ no1. again)))) (give [])) (λ v. choose (is_true v) (spend (looped block' (then_do post' (λ no1. again')))) (give [])) hc (turn_grows block' post' again' hb.grows hp.grows ha.grows) (turn_like block block' post post' again again' hb hp ha) in
+        = one_like condition condition' (λ v. choose (is_true v) (spend (looped block (then_do post (λ no1. again)))) (give [])) (λ v. choose (is_true v) (spend (looped block' (then_do post' (λ no1. again')))) (give [])) hc (turn_grows block' post' again' hb.grows hp.grows ha.grows) (turn_like block block' post post' again again' hb hp ha) in
         then_like first first' (λ no. one condition (λ v. choose (is_true v) (spend (looped block (then_do post (λ no1. again)))) (give []))) (λ no. one condition' (λ v. choose (is_true v) (spend (looped block' (then_do post' (λ no1. again')))) (give []))) hf (λ no. whole.grows) (λ no no' k. whole)
 
     iterated_like : (items : Items) (xs xs' : List Doing) (block block' : Comp) → AllMet xs xs' → Like block block' → (v v' : Value) → Pair v v' → Like (iterated items xs block v) (iterated items xs' block' v')

@@ -1,12 +1,12 @@
 -- Packages whose functions are kin: one follows the other.
-use Rattle.std.proofs.Common.{◌≡◌, ℕ, zero, suc, ◌+◌, ◌≤◌, List, [], ◌∷◌, refl, sym, ap, ◌∙◌, subst, arith, Option, Some, None}
+use Rattle.std.proofs.Common.{◌≡◌, ℕ, zero, suc, ◌≤◌, List, [], ◌∷◌, subst, arith, Option, Some, None}
 use Rattle.std.specs.Prelude.{Bool, true, false, slice_get}
 use Rattle.go_types.specs.Trees.{TypeTree}
 use Rattle.go_typed.specs.Trees.{Typed}
 use Rattle.go_meaning.specs.Values.{Value}
-use Rattle.go_meaning.specs.Computations.{Comp, undecided, enter, then_do, in_order, spend}
+use Rattle.go_meaning.specs.Computations.{Comp, in_order}
 use Rattle.go_meaning.specs.Operations.{ReadByte}
-use Rattle.go_meaning.specs.Meaning.{meaning, Code, frame_of, entered, has_body, called, Program, bounded, all_bounded, program}
+use Rattle.go_meaning.specs.Meaning.{Code, frame_of, entered, has_body, called, Program, bounded, all_bounded, program}
 use Rattle.go_meaning.proofs.Trees.{called_grows, bounded_grows}
 use Rattle.go_meaning.proofs.Following.{Likeness, undecided_follows, enter_follows}
 use Rattle.go_meaning.proofs.Matching.{everywhere, Like, AllLike, operate_like, then_like, spend_like, in_order_like}

@@ -5,7 +5,7 @@ use Rattle.go_types.specs.Trees.{TypeTree}
 use Rattle.go_types.specs.Relations.{Rights}
 use Rattle.go_typed.specs.Trees.{Typed, typed, Typeds, none, more, skip}
 use Rattle.go_meaning.specs.Values.{Value}
-use Rattle.go_meaning.specs.Computations.{Comp, give, enter, then_do, in_order}
+use Rattle.go_meaning.specs.Computations.{Comp, give, in_order}
 use Rattle.go_meaning.specs.Operations.{ReadByte}
 use Rattle.go_meaning.specs.Planning.{plan}
 use Rattle.go_meaning.specs.Meaning.{turned, meaning, meanings, Code, frame_of, entered, has_body, called, Program, bounded, all_bounded, program}

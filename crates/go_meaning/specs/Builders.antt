@@ -1,16 +1,13 @@
 -- Words for typed trees written by hand, for examples.
-use Rattle.std.specs.Prelude.{ℕ, suc, ℤ, pos, Bool, true, false, List, [], ◌∷◌, map, length, Option, Some, None}
-use Rattle.go_constants.specs.declared.values.Const.{Const}
+use Rattle.std.specs.Prelude.{ℕ, ℤ, Bool, true, false, List, [], ◌∷◌, length, Option, Some}
 use Rattle.go_constants.specs.declared.values.Const.TheVariants as const
 use Rattle.go_ints.specs.declared.kinds.Kind.TheVariants as kind
 use Rattle.go_grammar.specs.declared.kind.Arithmetic.{Arithmetic}
 use Rattle.go_grammar.specs.declared.kind.Comparison.{Comparison}
 use Rattle.go_grammar.specs.declared.kind.Operator.TheVariants as operator
 use Rattle.go_tree.specs.declared.object.Predeclared.{Predeclared}
-use Rattle.go_tree.specs.declared.object.Predeclared.TheVariants as predeclared
 use Rattle.go_types.specs.Trees.{TypeTree, boolean, text, integer, array, slice, structure, function, declared}
 use Rattle.go_types.specs.Trees as types
-use Rattle.go_types.specs.Relations.{Rights}
 use Rattle.go_typed.specs.declared.form.Form.{Form}
 use Rattle.go_typed.specs.declared.form.Form.TheVariants as form
 use Rattle.go_typed.specs.declared.form.Referent.TheVariants as referent

@@ -1,7 +1,7 @@
 -- Computations: what a state and a number of turns become. A turn is the unit of a run's bound: a call spends one, and so does
 -- a turn of a loop.
-use Rattle.std.specs.Prelude.{ℕ, zero, suc, Bool, true, false, List, [], ◌∷◌, ◌++◌, slice_set, get_or}
-use Rattle.go_meaning.specs.Values.{Value, NilFunction, nth}
+use Rattle.std.specs.Prelude.{ℕ, zero, suc, Bool, true, false, List, [], ◌∷◌, ◌++◌, slice_set}
+use Rattle.go_meaning.specs.Values.{Value, nth}
 
 -- What calls share: the arrays of slices, the package's variables, the input that is left and the output so far.
 pub record World : Type 0 where

@@ -1,5 +1,5 @@
 -- What a node can be asked to do, from its plan and what its parts can be asked to do.
-use Rattle.std.specs.Prelude.{ℕ, zero, suc, ℤ, pos, Bool, true, false, List, [], ◌∷◌, take, drop, replicate, get_or}
+use Rattle.std.specs.Prelude.{ℕ, suc, pos, Bool, true, false, List, [], ◌∷◌, take, drop, replicate, get_or}
 use Rattle.go_grammar.specs.declared.kind.Comparison.TheVariants.{Equal}
 use Rattle.go_meaning.specs.Values.{Value, Truth, Whole, Function, NilFunction, nth, is_true, zero_value}
 use Rattle.go_meaning.specs.Computations.{Comp, Return, Break, Continue, Fallthrough, Panics, NilCall, undecided, end_by, give, then_do, one, looped, read, write, spend, choose, each, in_order, falling, over}

@@ -1,19 +1,18 @@
 -- What some packages do, worked out by hand from the Go specification.
-use Rattle.std.specs.Prelude.{◌≡◌, ℕ, suc, ℤ, pos, negsuc, List, [], ◌∷◌, Some, codes}
-use Rattle.go_constants.specs.declared.values.Const.TheVariants as const
+use Rattle.std.specs.Prelude.{◌≡◌, ℕ, pos, negsuc, List, [], ◌∷◌, Some, codes}
 use Rattle.go_ints.specs.declared.kinds.Kind.TheVariants as kind
 use Rattle.go_grammar.specs.declared.kind.Arithmetic.TheVariants.{Add, Subtract, Divide, Remainder, ShiftLeft, ShiftRight}
 use Rattle.go_grammar.specs.declared.kind.Arithmetic.{Arithmetic}
 use Rattle.go_grammar.specs.declared.kind.Comparison.TheVariants.{Equal}
 use Rattle.go_grammar.specs.declared.kind.Operator.TheVariants as operator
 use Rattle.go_tree.specs.declared.object.Predeclared.TheVariants as predeclared
-use Rattle.go_types.specs.Trees.{TypeTree, boolean, text, integer, array, slice, declared}
+use Rattle.go_types.specs.Trees.{TypeTree, text, integer, array, slice, declared}
 use Rattle.go_typed.specs.declared.form.Form.TheVariants as form
 use Rattle.go_typed.specs.declared.form.Referent.TheVariants as referent
-use Rattle.go_typed.specs.Trees.{Nothing, Value, Constant, none, more, skip}
+use Rattle.go_typed.specs.Trees.{none, more, skip}
 use Rattle.go_meaning.specs.Computations.{Divide as ByZero, Shift, Index, Slicing, NilCall, Make, User}
 use Rattle.go_meaning.specs.Meaning.{Code, Run, Ended, Panicked, Unfinished, run}
-use Rattle.go_meaning.specs.Builders.{Tree, node, statement, expression, int, ints, pair, action, source, record_type, a_type, num, string, local, variable, blank, index, field, sum, comparison, conversion, literal, call, call_of, builtin, does, println, block, define, variable_of, assign, returns, forever, range, code, shows, read_byte, package_of, specified, row_of}
+use Rattle.go_meaning.specs.Builders.{Tree, statement, expression, int, ints, pair, action, source, a_type, num, string, local, variable, blank, index, field, sum, comparison, conversion, literal, call, call_of, builtin, does, println, block, define, variable_of, assign, returns, forever, range, code, shows, read_byte, package_of, specified, row_of}
 
 abbrev pub main_of : ℕ → List Tree → Code
 main_of locals ss = code [] locals ss

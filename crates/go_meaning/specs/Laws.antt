@@ -15,10 +15,15 @@ GoesOn (Ended o) r = r ≡ Ended o
 GoesOn (Panicked p o) r = r ≡ Panicked p o
 GoesOn (Unfinished o) r = IsPrefix o (printed r)
 
--- With more turns the tree ends so too, in the same world, and at least as many turns more are left.
-abbrev pub EndsLater : Program → ℕ → Typed TypeTree → (depth : ℕ) → List Value → World → (turns turns' : ℕ) → Ending → World → ℕ → Type 0
-EndsLater P n t depth f w turns turns' e w1 left =
-    (f1 : List Value) × (left' : ℕ) × (left + turns' ≤ left' + turns) × (bounded P n t depth f w turns' ≡ Ends e f1 w1 left')
+-- after a panic no frame counts
+abbrev pub KeepsFrame : Ending → List Value → List Value → Type 0
+KeepsFrame (Panics p) f f' = Unit {0}
+KeepsFrame e f f' = f ≡ f'
+
+-- With more turns the tree ends so too, with the same frame and world, and at least as many turns more are left.
+abbrev pub EndsLater : Program → ℕ → Typed TypeTree → (depth : ℕ) → List Value → World → (turns turns' : ℕ) → Ending → List Value → World → ℕ → Type 0
+EndsLater P n t depth f w turns turns' e f1 w1 left =
+    (f1' : List Value) × (left' : ℕ) × KeepsFrame e f1 f1' × (left + turns' ≤ left' + turns) × (bounded P n t depth f w turns' ≡ Ends e f1' w1 left')
 
 -- Both end alike, in the same world, with as many turns left, and unless they panicked in frames that are related; or both are
 -- undecided and have printed the same.

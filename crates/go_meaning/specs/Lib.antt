@@ -7,5 +7,6 @@ pub mod Doings
 pub mod Planning
 pub mod Meaning
 pub mod Laws
+pub mod Renaming
 pub mod Builders
 pub mod Examples

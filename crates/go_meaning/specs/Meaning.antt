@@ -6,7 +6,7 @@ use Rattle.go_typed.specs.declared.form.Form.{Form}
 use Rattle.go_typed.specs.declared.form.Form.TheVariants as form
 use Rattle.go_typed.specs.Trees.{Typed, typed, Typeds, none, more, skip, parts_of}
 use Rattle.go_meaning.specs.Values.{Value, NilFunction, nth}
-use Rattle.go_meaning.specs.Computations.{World, Panic, Ending, Next, Panics, Outcome, Ends, Undecided, Comp, undecided, then_do, spend, enter, in_order}
+use Rattle.go_meaning.specs.Computations.{World, Panic, Panics, Outcome, Ends, Undecided, Comp, undecided, then_do, spend, enter, in_order}
 use Rattle.go_meaning.specs.Operations.{ReadByte, operate}
 use Rattle.go_meaning.specs.Doings.{Doing, absent, doing_of}
 use Rattle.go_meaning.specs.Planning.{part_at, is_there, plan}

@@ -1,5 +1,5 @@
 -- What operations do to values and the world, once their operands are evaluated.
-use Rattle.std.specs.Prelude.{ℕ, zero, suc, ◌+◌, ◌-◌, ◌*◌, ℤ, pos, negsuc, neg_ℤ, unsigned_abs, int_le, Bool, true, false, ◌&&◌, not, min, max, nat_le, if◌then◌else◌, List, [], ◌∷◌, ◌++◌, length, map, take, drop, replicate, Option, Some, None, Result, Ok, Err, slice_set, slice_index, slice_get, get_or}
+use Rattle.std.specs.Prelude.{ℕ, zero, suc, ◌+◌, ◌-◌, ◌*◌, ℤ, pos, negsuc, neg_ℤ, unsigned_abs, int_le, Bool, true, false, ◌&&◌, not, min, max, nat_le, if◌then◌else◌, List, [], ◌∷◌, ◌++◌, length, map, take, drop, replicate, Option, Some, None, Result, Ok, Err, slice_set, slice_index, get_or}
 use Rattle.std.specs.Ordering.{nat_cmp, int_cmp, is_lt, is_le, is_gt, is_ge}
 use Rattle.std.specs.Cmp.Lexicographic.{slice_cmp}
 use Rattle.std.specs.declared.cmp.Ordering.{Ordering}
@@ -15,7 +15,7 @@ use Rattle.go_grammar.specs.declared.kind.Comparison.TheVariants.{Equal, NotEqua
 use Rattle.type_tests.specs.Zeros.{Zero}
 use Rattle.go_meaning.specs.Values.{Value, Truth, Whole, Text, Parts, Slice, NilSlice, NilFunction, nth, parts_of, whole_of, is_true, text_of, byte_of, zero_value, with_part, index_below, same_value, valued}
 use Rattle.go_meaning.specs.Texts.{Rune, runes_of, text_of_code, line_of}
-use Rattle.go_meaning.specs.Computations.{World, Panic, Divide, Shift, Index, Slicing, Make, User, Ending, Next, Panics, Outcome, Ends, Comp}
+use Rattle.go_meaning.specs.Computations.{World, Panic, Divide, Shift, Index, Slicing, Make, User, Next, Panics, Outcome, Ends, Comp}
 
 -- what a `range` goes over (Go specification, "For statements with range clause")
 pub data Items : Type 0 where

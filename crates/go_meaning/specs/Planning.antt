@@ -1,7 +1,6 @@
 -- The plan of each form of node.
 use Rattle.std.specs.Prelude.{ℕ, zero, suc, Bool, true, false, if◌then◌else◌, List, [], ◌∷◌, Option, Some, None}
 use Rattle.std.specs.Option.{unwrap_or}
-use Rattle.go_constants.specs.declared.values.Const.{Const}
 use Rattle.go_ints.specs.declared.kinds.Kind.{Kind}
 use Rattle.go_ints.specs.declared.kinds.Kind.TheVariants as kind
 use Rattle.go_ints.specs.declared.operators.Op.{Op}
@@ -16,7 +15,7 @@ use Rattle.go_grammar.specs.declared.kind.Step.{Step}
 use Rattle.go_grammar.specs.declared.kind.Step.TheVariants as step
 use Rattle.go_tree.specs.declared.object.Predeclared.{Predeclared}
 use Rattle.go_tree.specs.declared.object.Predeclared.TheVariants as predeclared
-use Rattle.go_types.specs.Trees.{TypeTree, boolean, text, integer, array, slice, structure, function, declared}
+use Rattle.go_types.specs.Trees.{TypeTree, boolean, text, integer, array, slice}
 use Rattle.go_types.specs.Relations.{Rights}
 use Rattle.type_tests.specs.Tests.{underlying_of}
 use Rattle.type_tests.specs.Zeros.{Zero, nil_function, zero_of}
@@ -26,7 +25,7 @@ use Rattle.go_typed.specs.declared.form.Referent.{Referent}
 use Rattle.go_typed.specs.declared.form.Referent.TheVariants as referent
 use Rattle.go_typed.specs.Trees.{Sort, Nothing, Println, Builtin, IsType, Constant, OpenConstant, Label, Typed, Typeds, none, more, skip, form_of, label_of, sort_of}
 use Rattle.go_typed.specs.Trees as trees
-use Rattle.go_meaning.specs.Values.{Value, Function, zero_value, const_value}
+use Rattle.go_meaning.specs.Values.{Function, zero_value, const_value}
 use Rattle.go_meaning.specs.Operations.{Operation, Items, Fixed, Elements, Cells, Runes}
 use Rattle.go_meaning.specs.Operations as does
 use Rattle.go_meaning.specs.Plans.{Plan, Course, Once, Loop}

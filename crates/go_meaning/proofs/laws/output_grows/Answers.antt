@@ -1,4 +1,3 @@
-use Rattle.go_meaning.proofs.Growing.{Grows}
 use Rattle.go_meaning.proofs.Trees.{bounded_grows}
 use Rattle.go_meaning.proofs.laws.output_grows.Goals as goal
 
