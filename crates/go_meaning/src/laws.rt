@@ -18,9 +18,12 @@ pub fn examples()
 /// More turns and a greater depth never change what a run came to: a run that ended or panicked is
 /// the same, and one that is unfinished has printed what the longer run prints first.
 pub fn more_turns_go_on()
-    ensures ended { (P : Program) (input : List ℕ) (turns turns' depth depth' : ℕ) (o : List ℕ) → turns ≤ turns' → depth ≤ depth' → run P input turns depth ≡ Ended o → run P input turns' depth' ≡ Ended o }
-    ensures panicked { (P : Program) (input : List ℕ) (turns turns' depth depth' : ℕ) (p : Panic) (o : List ℕ) → turns ≤ turns' → depth ≤ depth' → run P input turns depth ≡ Panicked p o → run P input turns' depth' ≡ Panicked p o }
-    ensures unfinished { (P : Program) (input : List ℕ) (turns turns' depth depth' : ℕ) (o : List ℕ) → turns ≤ turns' → depth ≤ depth' → run P input turns depth ≡ Unfinished o → IsPrefix o (printed (run P input turns' depth')) }
+    ensures ended { (P : Program) (input : List ℕ) (turns turns' depth depth' : ℕ) (o : List ℕ) → turns ≤ turns' → depth ≤ depth' →
+        run P input turns depth ≡ Ended o → run P input turns' depth' ≡ Ended o }
+    ensures panicked { (P : Program) (input : List ℕ) (turns turns' depth depth' : ℕ) (p : Panic) (o : List ℕ) → turns ≤ turns' → depth ≤ depth' →
+        run P input turns depth ≡ Panicked p o → run P input turns' depth' ≡ Panicked p o }
+    ensures unfinished { (P : Program) (input : List ℕ) (turns turns' depth depth' : ℕ) (o : List ℕ) → turns ≤ turns' → depth ≤ depth' →
+        run P input turns depth ≡ Unfinished o → IsPrefix o (printed (run P input turns' depth')) }
 {}
 
 /// The same for each tree in each state: how it ends, with which values, frame and world, doesn't
