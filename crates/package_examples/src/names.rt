@@ -298,7 +298,7 @@ fn order(rt: HostRuntime) -> Result<(), Fail> {
     for d in sorted.iter().flatten() {
         names.extend_from_slice(d.name)?;
     }
-    assert!(rt; names.as_slice() == b"CBA");
+    assert!(rt; names.as_slice() == b"CBA".as_slice());
     Ok(())
 }
 
