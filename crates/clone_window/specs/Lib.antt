@@ -1,0 +1,4 @@
+pub mod Kinds
+pub mod Masses
+pub mod Windows
+pub mod Sameness
