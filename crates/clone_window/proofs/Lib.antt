@@ -1,1 +1,3 @@
 mod Examples
+pub mod Equivalence
+pub mod Pairing

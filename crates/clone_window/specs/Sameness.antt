@@ -93,17 +93,29 @@ same_literal _ _ = false
 abbrev pub same_outline : Outline → Outline → Bool
 same_outline a b = nat_eq a.kind b.kind && nat_eq a.operator b.operator && nat_eq a.count b.count
 
--- What nodes of a form must also agree in. The type of a type node is compared, and what a constant declaration says of `_`.
-abbrev pub agree_besides : {T : Type 0} → (T → T → Bool) → Form → Sort T → Sort T → Bool
-agree_besides identical form.Type s t = are_alike identical s t
-agree_besides identical form.Blank s t = are_alike identical s t
-agree_besides identical form.Literal s t = same_literal (value_of s) (value_of t)
-agree_besides identical _ s t = true
+-- What two nodes of a form must also agree in: nothing, what they stand for, or the values of literals. The types of type nodes
+-- are compared, and what a declaration of constants says of `_`.
+pub data Compared : Type 0 where
+  by_form : Compared
+  by_sort : Compared
+  by_literal : Compared
+
+abbrev pub compared : Form → Compared
+compared form.Type = by_sort
+compared form.Blank = by_sort
+compared form.Literal = by_literal
+compared _ = by_form
+
+abbrev pub agree_besides : {T : Type 0} → (T → T → Bool) → Compared → Compared → Sort T → Sort T → Bool
+agree_besides identical by_form by_form s t = true
+agree_besides identical by_sort by_sort s t = are_alike identical s t
+agree_besides identical by_literal by_literal s t = same_literal (value_of s) (value_of t)
+agree_besides identical _ _ s t = false
 
 -- A hole stands against a hole of an identical final type; any other node against one of its form, whose parts agree.
 abbrev pub agree_at : {T : Type 0} → (T → T → Bool) → Bool → Bool → Form → Form → Sort T → Sort T → Bool → Bool
 agree_at identical true true f g s t parts = same_final identical (final s) (final t)
-agree_at identical false false f g s t parts = same_outline (outline f) (outline g) && agree_besides identical f s t && parts
+agree_at identical false false f g s t parts = same_outline (outline f) (outline g) && agree_besides identical (compared f) (compared g) s t && parts
 agree_at identical _ _ f g s t parts = false
 
 abbrev mutual
