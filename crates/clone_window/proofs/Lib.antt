@@ -1,3 +1,4 @@
 mod Examples
+pub mod Opened
 pub mod Equivalence
 pub mod Pairing

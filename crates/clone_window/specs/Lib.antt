@@ -1,3 +1,4 @@
+pub mod Caps
 pub mod Kinds
 pub mod Masses
 pub mod Windows

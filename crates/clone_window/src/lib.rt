@@ -5,4 +5,5 @@
 //! `same` say exactly this.
 #![tactic(auto)]
 
+pub mod mass;
 pub mod outline;
