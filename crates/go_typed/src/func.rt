@@ -1,24 +1,108 @@
 //! Functions with their types.
 
+ghost use Rattle.std.specs.Prelude.{◌≡◌, map};
+ghost use Rattle.go_typed.specs.Funcs.{FuncView, IsTypedFunc};
+ghost use Rattle.go_typed.specs.Views.{sort_view};
+
 use crate::node::TypedNode;
 use crate::sort::Sort;
 use go_types::TypeId;
+use std::marker::Model;
 
 /// A function with its types.
 ///
-/// Tokens are counted from the first token of the function, so nothing here depends on where it stands, and no spelling is kept.
+/// Tokens are counted from the first token of the function, and neither spans nor spellings are kept, so nothing here depends on
+/// where it stands. The parts of each node lie one after the other inside its range, and all numbers of locals are in range.
 #[derive(Debug, Drop)]
 pub struct TypedFunc {
-    /// Its number among the functions of the package, from 0, in the order of files and places.
     number: u32,
-    /// Its type (Go specification: Function types).
     signature: TypeId,
-    /// The locals that its parameters are, in order; none for a parameter that is blank or has no name.
     parameters: Vec<Option<u32>>,
-    /// What its locals stand for, by their numbers in order of declaration.
     locals: Vec<Sort>,
-    /// Which local each token names, if it names one.
     tokens: Vec<Option<u32>>,
-    /// Its tree.
     root: TypedNode,
+}
+
+impl Model for TypedFunc {
+    ghost use Rattle.std.specs.Coded.{codes};
+    ghost use Rattle.std.specs.Prelude.{map};
+    ghost use Rattle.go_typed.specs.contracts.node.TypedNode as e;
+    ghost use Rattle.go_typed.specs.Funcs.{FuncView, IsTypedFunc};
+    ghost use Rattle.go_typed.specs.Views.{sort_view};
+
+    ghost Value = { FuncView };
+
+    ghost coded = { Prim.hlevel (codes, e.the_row.coded) };
+
+    ghost view = { λ f. record { number = f.number; signature = f.signature; parameters = f.parameters.items; locals = map sort_view f.locals.items; tokens = f.tokens.items; root = f.root } };
+
+    ghost invariant = { λ f. IsTypedFunc (record { number = f.number; signature = f.signature; parameters = f.parameters.items; locals = map sort_view f.locals.items; tokens = f.tokens.items; root = f.root }) };
+}
+
+impl TypedFunc {
+    /// The function of this number and type, with its locals: which of them each parameter is and each token names, and what
+    /// they stand for.
+    pub fn new(
+        number: u32,
+        signature: TypeId,
+        parameters: Vec<Option<u32>>,
+        locals: Vec<Sort>,
+        tokens: Vec<Option<u32>>,
+        root: TypedNode,
+    ) -> TypedFunc
+        requires { IsTypedFunc (record { number = number; signature = signature; parameters = parameters.items; locals = map sort_view locals.items; tokens = tokens.items; root = root }) }
+        ensures { result ≡ record { number = number; signature = signature; parameters = parameters.items; locals = map sort_view locals.items; tokens = tokens.items; root = root } }
+    {
+        TypedFunc {
+            number,
+            signature,
+            parameters,
+            locals,
+            tokens,
+            root,
+        }
+    }
+
+    /// Its number among the functions of the package, from 0, in the order of files and places.
+    pub fn number(&self) -> u32
+        ensures { result ≡ self.now.number }
+    {
+        self.number
+    }
+
+    /// Its type (Go specification: Function types).
+    pub fn signature(&self) -> TypeId
+        ensures { result ≡ self.now.signature }
+    {
+        self.signature
+    }
+
+    /// The locals that its parameters are, in order; none for a parameter that is blank or has no name.
+    pub fn parameters(&self) -> &[Option<u32>]
+        ensures { result.now ≡ self.now.parameters }
+    {
+        &self.parameters
+    }
+
+    /// What its locals stand for, by their numbers in order of declaration.
+    pub fn locals(&self) -> &[Sort]
+        ensures { map sort_view result.now ≡ self.now.locals }
+    {
+        &self.locals
+    }
+
+    /// Which local each token names, if it names one, inside types too.
+    pub fn tokens(&self) -> &[Option<u32>]
+        ensures { result.now ≡ self.now.tokens }
+    {
+        &self.tokens
+    }
+
+    /// Its tree.
+    pub fn root(&self) -> &TypedNode
+        ensures root { result.now ≡ self.now.root }
+        ensures stands { IsTypedFunc self.now }
+    {
+        &self.root
+    }
 }

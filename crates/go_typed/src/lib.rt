@@ -4,6 +4,7 @@
 pub mod env;
 pub mod form;
 pub mod func;
+pub mod lists;
 pub mod locals;
 pub mod node;
 pub mod sort;
@@ -12,6 +13,7 @@ pub mod window;
 pub use env::Env;
 pub use form::{Form, Referent};
 pub use func::TypedFunc;
+pub use lists::StatementLists;
 pub use locals::Locals;
 pub use node::TypedNode;
 pub use sort::{Label, Sort, Untyped};

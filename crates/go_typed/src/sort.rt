@@ -1,5 +1,8 @@
 //! What the nodes of a typed tree stand for.
 
+ghost use Rattle.std.specs.Prelude.{◌≡◌, IfOk};
+
+use go_base::Memory;
 use go_constants::Const;
 use go_tree::object::Predeclared;
 use go_types::TypeId;
@@ -14,7 +17,7 @@ pub enum Untyped {
 }
 
 /// What a node stands for; a type is a number of a table.
-#[derive(Debug, Drop)]
+#[derive(Clone, Debug, Drop)]
 pub enum Sort {
     /// A statement or a declaration.
     Nothing,
@@ -44,8 +47,21 @@ pub enum Sort {
     Results(TypeId),
 }
 
+impl Sort {
+    /// The same once more; the bytes of a constant are shared.
+    ///
+    /// # Errors
+    ///
+    /// Want of memory.
+    pub fn shared(&self) -> Result<Sort, Memory>
+        ensures { IfOk result (λ s. s ≡ self.now) }
+    {
+        Ok(self.clone()?)
+    }
+}
+
 /// What typing says of a node.
-#[derive(Debug, Drop)]
+#[derive(Clone, Debug, Drop)]
 pub struct Label {
     pub sort: Sort,
     /// Whether a variable is named in it, within types too.

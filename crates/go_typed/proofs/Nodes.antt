@@ -1,0 +1,15 @@
+-- The tree of a node by its fields.
+use Rattle.std.proofs.Common.{rules, ◌≡◌, ℕ, ◌++◌, List, subst, sym, refl}
+use Rattle.go_typed.specs.declared.node.TypedNode.{TypedNode}
+use Rattle.go_typed.specs.declared.node.TypedNode.TheViews.{out-TypedNode}
+use Rattle.go_typed.specs.declared.node.TypedNode.TheFolds.{fold_out-TypedNode}
+use Rattle.go_typed.specs.Lists.{own_list, statement_lists, lists_among}
+use Rattle.go_typed.specs.Trees.{Typed, typed}
+use Rattle.go_typed.specs.Views.{view, view_step, views, label_view}
+
+pub opened : (n : TypedNode) → view n ≡ typed (out-TypedNode n).form (out-TypedNode n).first (out-TypedNode n).last (label_view (out-TypedNode n).label) (views (out-TypedNode n).parts.items)
+opened n = search (rules, fold_out-TypedNode)
+
+-- its statement lists are itself, if it is one, and those of its parts
+pub lists_opened : (n : TypedNode) → statement_lists (view n) ≡ own_list (view n) ++ lists_among (views (out-TypedNode n).parts.items)
+lists_opened n = let P : Typed ℕ → Type 0 = λ x. statement_lists x ≡ own_list x ++ lists_among (views (out-TypedNode n).parts.items) in subst P (sym (opened n)) refl

@@ -1,0 +1,102 @@
+-- Functions with their types as contracts see them, and what every one of them meets.
+use Rattle.std.specs.Prelude.{◌≡◌, ℕ, suc, ◌+◌, ◌^◌, ◌<◌, ◌≤◌, Bool, true, false, ◌&&◌, not, nat_eq, nat_lt, nat_le, List, [], ◌∷◌, length, Option, Some, None, slice_get}
+use Rattle.go_typed.specs.declared.form.Form.{Form}
+use Rattle.go_typed.specs.declared.form.Form.TheVariants as form
+use Rattle.go_typed.specs.declared.node.TypedNode.{TypedNode}
+use Rattle.go_typed.specs.Views.{view}
+use Rattle.go_typed.specs.Trees.{Sort, Typed, typed, Typeds, none, more, skip, form_of, first_of, last_of, Every, SortHas}
+
+-- Its number and the number of its type; which local each parameter is and each token names, if it does; what its locals stand
+-- for; and its tree.
+pub record FuncView : Type 0 where
+  pub number : ℕ
+  pub signature : ℕ
+  pub parameters : List (Option ℕ)
+  pub locals : List (Sort ℕ)
+  pub tokens : List (Option ℕ)
+  pub root : TypedNode
+
+abbrev pub tree_of : FuncView → Typed ℕ
+tree_of f = view f.root
+
+-- ---- trees
+
+abbrev mutual
+  -- whether the parts of each node lie one after the other inside its range
+  pub is_tiled : {T : Type 0} → Typed T → Bool
+  is_tiled (typed f i j l ps) = are_tiled i j ps
+
+  -- whether parts lie one after the other from the token i up to j: each begins where the one before ends, or behind that
+  pub are_tiled : {T : Type 0} → ℕ → ℕ → Typeds T → Bool
+  are_tiled i j none = nat_le i j
+  are_tiled i j (more p ps) = nat_le i (first_of p) && is_tiled p && are_tiled (last_of p) j ps
+  are_tiled i j (skip ps) = are_tiled i j ps
+
+abbrev pub is_holder : Form → Bool
+is_holder (form.Held k) = true
+is_holder f = false
+
+-- the local that a node names, if it names one
+abbrev pub local_of : Form → Option ℕ
+local_of (form.Local n) = Some n
+local_of (form.New n) = Some n
+local_of (form.Declared n) = Some n
+local_of f = None
+
+abbrev pub is_named_at : List (Option ℕ) → ℕ → Option ℕ → Bool
+is_named_at tokens i None = true
+is_named_at tokens i (Some n) = is_this n (slice_get tokens i) where
+  is_this : ℕ → Option (Option ℕ) → Bool
+  is_this n (Some (Some m)) = nat_eq n m
+  is_this n o = false
+
+abbrev mutual
+  -- whether no node is a holder, and each that names a local stands at a token that names the same local
+  pub is_whole : {T : Type 0} → List (Option ℕ) → Typed T → Bool
+  is_whole tokens (typed f i j l ps) = not (is_holder f) && is_named_at tokens i (local_of f) && are_whole tokens ps
+
+  pub are_whole : {T : Type 0} → List (Option ℕ) → Typeds T → Bool
+  are_whole tokens none = true
+  are_whole tokens (more p ps) = is_whole tokens p && are_whole tokens ps
+  are_whole tokens (skip ps) = are_whole tokens ps
+
+abbrev mutual
+  -- how many nodes a tree has
+  pub size : {T : Type 0} → Typed T → ℕ
+  size (typed f i j l ps) = suc (sizes ps)
+
+  pub sizes : {T : Type 0} → Typeds T → ℕ
+  sizes none = 0
+  sizes (more p ps) = size p + sizes ps
+  sizes (skip ps) = sizes ps
+
+-- ---- functions
+
+abbrev pub is_function : Form → Bool
+is_function form.Function = true
+is_function f = false
+
+-- whether the numbers that are there lie below n
+abbrev pub are_below : ℕ → List (Option ℕ) → Bool
+are_below n [] = true
+are_below n (None ∷ ms) = are_below n ms
+are_below n (Some m ∷ ms) = nat_lt m n && are_below n ms
+
+-- What every function meets. Its tokens are counted from its first one, and its tree stands over all of them. The parts of each
+-- node lie one after the other inside its range. No node is left that only holds parts. The locals that parameters are and
+-- tokens and nodes name are among the locals, and a node and its token name the same local. Nodes can be numbered.
+pub record IsTypedFunc (f : FuncView) : Type 0 where
+  pub root : is_function (form_of (tree_of f)) ≡ true
+  pub first : first_of (tree_of f) ≡ 0
+  pub last : last_of (tree_of f) ≡ length f.tokens
+  pub tiles : is_tiled (tree_of f) ≡ true
+  pub whole : is_whole f.tokens (tree_of f) ≡ true
+  pub parameters : are_below (length f.locals) f.parameters ≡ true
+  pub tokens : are_below (length f.locals) f.tokens ≡ true
+  pub nodes : size (tree_of f) < 2 ^ 32
+
+-- its types are among the first n of a table
+pub record KnownFunc (n : ℕ) (f : FuncView) : Type 0 where
+  pub signature : f.signature < n
+  pub locals : (i : ℕ) (s : Sort ℕ) → slice_get f.locals i ≡ Some s → SortHas (λ t. t < n) s
+  pub root : Every (λ t. t < n) (tree_of f)
