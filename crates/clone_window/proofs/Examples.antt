@@ -16,7 +16,7 @@ use Rattle.go_typed.specs.declared.form.Referent.TheVariants as referent
 use Rattle.go_typed.specs.declared.window.Window.{Window}
 use Rattle.go_typed.specs.Trees.{Sort, Nothing, Blank, Builtin, IsType, Value, Constant, OpenConstant, Results, Typed, typed, Typeds, none, more, skip}
 use Rattle.clone_window.specs.Masses.{mass, masses}
-use Rattle.clone_window.specs.Windows.{Bounds, run_at, statement_lists, window_statements, window_mass, windows}
+use Rattle.clone_window.specs.Windows.{run_at, window_mass, windows}
 use Rattle.clone_window.specs.Sameness.{is_same}
 
 -- ---- trees, with types 0 (int), 1 (int8), 2 ([100]int), 3 ([]int), 4 and 5 (two types declared in functions), 6 (func())
@@ -140,7 +140,7 @@ clause_windows : windows (record { fewest = 2; least = 6 }) 0
     ≡ run_at 0 1 0 2 ∷ []
 clause_windows = refl
 
-nested_mass : window_mass (statement_lists (function (called ∷ block (calls 2) ∷ called ∷ []))) (run_at 0 0 1 2) ≡ 10
+nested_mass : window_mass (function (called ∷ block (calls 2) ∷ called ∷ [])) (run_at 0 0 1 2) ≡ 10
 nested_mass = refl
 
 -- ---- holes

@@ -2,3 +2,6 @@ mod Examples
 pub mod Opened
 pub mod Equivalence
 pub mod Pairing
+pub mod Runs
+pub mod Sizes
+pub mod Walks

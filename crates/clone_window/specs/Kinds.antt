@@ -1,5 +1,5 @@
 -- What the forms of nodes are: their kinds by number, operators by number, and how much they weigh.
-use Rattle.std.specs.Prelude.{ℕ, Bool, true, false, List, [], ◌∷◌, Option, Some, None}
+use Rattle.std.specs.Prelude.{ℕ, true, false}
 use Rattle.go_grammar.specs.declared.kind.Arithmetic.{Arithmetic}
 use Rattle.go_grammar.specs.declared.kind.Arithmetic.TheVariants as arithmetic
 use Rattle.go_grammar.specs.declared.kind.Comparison.{Comparison}
@@ -152,22 +152,3 @@ outline (form.Keyed n) = outlined 51 0 n
 outline form.Type = outlined 52 0 0
 outline form.Function = outlined 53 0 0
 outline (form.Held k) = outlined 54 0 0
-
--- the local that is named
-abbrev pub local_of : Form → Option ℕ
-local_of (form.Local n) = Some n
-local_of (form.New n) = Some n
-local_of (form.Declared n) = Some n
-local_of _ = None
-
--- blocks and clauses, which hold statements in order (Go specification: Blocks, Expression switches)
-abbrev pub is_statement_list : Form → Bool
-is_statement_list form.Block = true
-is_statement_list (form.Case n) = true
-is_statement_list form.Default = true
-is_statement_list _ = false
-
--- how many parts stand ahead of the statements
-abbrev pub ahead_of_statements : Form → ℕ
-ahead_of_statements (form.Case n) = n
-ahead_of_statements _ = 0

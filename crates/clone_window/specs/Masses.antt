@@ -46,8 +46,8 @@ abbrev mutual
   masses inside (more p ps) = mass inside p + masses inside ps
   masses inside (skip ps) = masses inside ps
 
--- the masses of statements, one by one
+-- the masses of the parts that are there, which are statements, one by one
 abbrev pub each_mass : {T : Type 0} → Typeds T → List ℕ
 each_mass none = []
 each_mass (more p ps) = mass false p ∷ each_mass ps
-each_mass (skip ps) = 0 ∷ each_mass ps
+each_mass (skip ps) = each_mass ps

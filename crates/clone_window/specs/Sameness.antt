@@ -13,7 +13,8 @@ use Rattle.go_typed.specs.declared.sort.Untyped.{Untyped}
 use Rattle.go_typed.specs.declared.sort.Untyped.TheVariants as untyped
 use Rattle.go_typed.specs.Trees.{Sort, Unknown, IsType, Value, Constant, Open, OpenConstant, Label, Typed, typed, Typeds, none, more, skip}
 use Rattle.clone_window.specs.declared.outline.Outline.{Outline}
-use Rattle.clone_window.specs.Kinds.{outline, local_of}
+use Rattle.go_typed.specs.Funcs.{local_of}
+use Rattle.clone_window.specs.Kinds.{outline}
 use Rattle.clone_window.specs.Masses.{is_hole, is_inside}
 
 -- ---- constants

@@ -5,5 +5,7 @@
 //! `same` say exactly this.
 #![tactic(auto)]
 
+pub mod bounds;
 pub mod mass;
 pub mod outline;
+pub mod windows;

@@ -1,6 +1,6 @@
 //! Holes, and the mass of trees.
 
-ghost use Rattle.std.specs.Prelude.{◌≡◌, [], ◌∷◌, map, IfOk};
+ghost use Rattle.std.specs.Prelude.{◌≡◌, map, IfOk};
 ghost use Rattle.go_typed.specs.Views.{view, views, label_view, sort_view};
 ghost use Rattle.clone_window.specs.Masses as specs;
 ghost use Rattle.clone_window.specs.Masses.{mass, masses, each_mass};
@@ -73,7 +73,7 @@ pub fn masses_of(inside: bool, parts: &[Option<TypedNode>]) -> u32
     sum
 }
 
-/// The masses of statements, one by one.
+/// The masses of the parts that are there, which are statements, one by one.
 ///
 /// # Errors
 ///
@@ -86,17 +86,9 @@ pub fn each_mass_of(
 {
     let mut out = Vec::with_capacity(alloc, statements.len())?;
     for statement in statements {
-        out.push(statement_mass(statement))?;
+        if let Some(node) = statement {
+            out.push(mass_of(false, node))?;
+        }
     }
     Ok(out)
-}
-
-/// The mass of a statement, or 0 where it is left out.
-fn statement_mass(statement: &Option<TypedNode>) -> u32
-    ensures { map capped (each_mass (views (statement.now ∷ []))) ≡ result ∷ [] }
-{
-    match statement {
-        Some(node) => mass_of(false, node),
-        None => 0,
-    }
 }

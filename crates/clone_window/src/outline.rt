@@ -1,8 +1,7 @@
 //! What the forms of nodes show by themselves.
 
-ghost use Rattle.std.specs.Prelude.{◌≡◌, nat_lt, nat_le, ◌&&◌};
+ghost use Rattle.std.specs.Prelude.{◌≡◌};
 ghost use Rattle.clone_window.specs.Kinds as kinds;
-ghost use Rattle.clone_window.specs.Kinds.{local_of, ahead_of_statements};
 ghost use Rattle.clone_window.specs.Masses as masses;
 
 use go_grammar::kind::{Arithmetic, Comparison, Operator, Sign, Step};
@@ -189,15 +188,5 @@ pub fn is_expression(form: Form) -> bool
             let kind = outline_of(form).kind;
             30 <= kind && kind < 50
         }
-    }
-}
-
-/// The local that is named.
-pub fn local_of(form: Form) -> Option<u32>
-    ensures { result ≡ kinds.local_of form }
-{
-    match form {
-        Form::Local(number) | Form::New(number) | Form::Declared(number) => Some(number),
-        _ => None,
     }
 }
