@@ -1,5 +1,5 @@
 -- The windows of a row of parts, part by part.
-use Rattle.std.proofs.Common.{◌≡◌, ℕ, zero, suc, ◌+◌, ◌-◌, ◌^◌, ◌<◌, ◌≤◌, List, [], ◌∷◌, ◌++◌, length, map, drop, get_or, Option, Some, None, refl, sym, ap, ◌∙◌, arith, length-append, append_assoc, drop-cons, add-one}
+use Rattle.std.proofs.Common.{◌≡◌, ℕ, zero, suc, ◌+◌, ◌-◌, ◌^◌, ◌<◌, ◌≤◌, false, List, [], ◌∷◌, ◌++◌, length, map, take, drop, get_or, Option, Some, None, refl, sym, ap, ◌∙◌, arith, length-append, length-drop, append_assoc, drop-cons}
 use Rattle.std.proofs.lemmas.List.{append-nil}
 use Rattle.go_typed.specs.declared.window.Window.{Window}
 use Rattle.go_typed.specs.declared.node.TypedNode.{TypedNode}
@@ -29,6 +29,16 @@ drop-some zero [] ys x h = cc
 drop-some zero (z ∷ xs) ys x h = omega arith
 drop-some (suc i) [] ys x h = cc
 drop-some (suc i) (z ∷ xs) ys x h = let k : i < length xs = drop-some i xs ys x h in omega arith
+
+take-whole : {A : Type 0} (xs : List A) (n : ℕ) → length xs ≤ n → take n xs ≡ xs
+take-whole [] zero h = refl
+take-whole [] (suc n) h = refl
+take-whole (x ∷ xs) zero h = absurd (omega arith)
+take-whole (x ∷ xs) (suc n) h = ap (λ l. x ∷ l) (take-whole xs n (omega arith))
+
+-- a slice up to the end
+pub take-rest : {A : Type 0} (i : ℕ) (xs : List A) → take (length xs - i) (drop i xs) ≡ drop i xs
+take-rest i xs = take-whole (drop i xs) (length xs - i) (omega (arith, length-drop i xs))
 
 -- ---- a node that is no statement list
 

@@ -1,0 +1,3 @@
+mod Examples
+pub mod Groups
+pub mod Sameness
