@@ -109,10 +109,12 @@ led-members : {A : Type 0} (same : A → A → Bool) → IsEquivalent same → (
 led-members {A} same q earlier window later class h = record {
   first = window;
   among = λ x k. inside x (subst (λ (c : List A). Among c x) h.members k);
-  alike = λ x k. like x (subst (λ (c : List A). Among c x) h.members k) } where
+  alike = λ x k. like x (subst (λ (c : List A). Among c x) h.members k);
+} where
   inside : (x : A) → (x ≡ window) ⊎ Among (filter (same window) later) x → (x ≡ window) ⊎ Among later x
   inside x (inl e) = inl e
   inside x (inr k) = inr (kept (same window) later x k).among
+
   like : (x : A) → (x ≡ window) ⊎ Among (filter (same window) later) x → same window x ≡ true
   like x (inl e) = ap (same window) e ∙ q.reflexive window
   like x (inr k) = (kept (same window) later x k).holds
@@ -121,10 +123,10 @@ members-from : {A : Type 0} (same : A → A → Bool) → IsEquivalent same → 
 members-from same q earlier [] class h = absurd h
 members-from {A} same q earlier (w ∷ later) class h =
     step (λ k. members-from same q (earlier ++ w ∷ []) later class k) (among-append (class_led_by same earlier w later) (classes_from same (earlier ++ w ∷ []) later) class h) where
-  step : (Among (classes_from same (earlier ++ w ∷ []) later) class → Members same later class) →
-      Among (class_led_by same earlier w later) class ⊎ Among (classes_from same (earlier ++ w ∷ []) later) class → Members same (w ∷ later) class
-  step below (inl k) = led-members same q earlier w later class (led same earlier w later class k)
-  step below (inr k) = let m = below k in record { first = m.first; among = λ x a. inr (m.among x a); alike = m.alike }
+      step : (Among (classes_from same (earlier ++ w ∷ []) later) class → Members same later class) →
+          Among (class_led_by same earlier w later) class ⊎ Among (classes_from same (earlier ++ w ∷ []) later) class → Members same (w ∷ later) class
+      step below (inl k) = led-members same q earlier w later class (led same earlier w later class k)
+      step below (inr k) = let m = below k in record { first = m.first; among = λ x a. inr (m.among x a); alike = m.alike }
 
 -- The members of a class are windows.
 pub members-are-windows : {A : Type 0} (same : A → A → Bool) → IsEquivalent same → (windows class : List A) → Among (classes same windows) class →
@@ -146,39 +148,45 @@ contrary p e f = let c : true ≡ false = sym e ∙ f in cc
 -- No member of a class is the same as a window in front of the first one.
 new-members : {A : Type 0} (same : A → A → Bool) → IsEquivalent same → (earlier here class : List A) → Among (classes_from same earlier here) class →
     (x e : A) → Among class x → Among earlier e → same x e ≡ true → ⊥
+unfolding led-members
 new-members same q earlier [] class h x e a b s = absurd h
 new-members {A} same q earlier (w ∷ later) class h x e a b s =
     step (λ k. new-members same q (earlier ++ w ∷ []) later class k x e a (among-front earlier (w ∷ []) e b) s)
     (among-append (class_led_by same earlier w later) (classes_from same (earlier ++ w ∷ []) later) class h) where
-  step : (Among (classes_from same (earlier ++ w ∷ []) later) class → ⊥) →
-      Among (class_led_by same earlier w later) class ⊎ Among (classes_from same (earlier ++ w ∷ []) later) class → ⊥
-  step below (inl k) =
-      let l = led same earlier w later class k in
-      let m = led-members same q earlier w later class l in
-      contrary (list_any (same w) earlier) (any-holds (same w) earlier e (q.transitive w x e (m.alike x a) s) b) l.new
-  step below (inr k) = below k
+      step : (Among (classes_from same (earlier ++ w ∷ []) later) class → ⊥) →
+          Among (class_led_by same earlier w later) class ⊎ Among (classes_from same (earlier ++ w ∷ []) later) class → ⊥
+      step below (inl k) =
+          let l = led same earlier w later class k in
+          let m = led-members same q earlier w later class l in
+          contrary (list_any (same w) earlier) (any-holds (same w) earlier e (q.transitive w x e (m.alike x a) s) b) l.new
+      step below (inr k) = below k
 
 apart-from : {A : Type 0} (same : A → A → Bool) → IsEquivalent same → (earlier here : List A) → AllApart (classes_from same earlier here)
+unfolding led-members
 apart-from same q earlier [] = tt
 apart-from {A} same q earlier (w ∷ later) =
     step (apart-from same q (earlier ++ w ∷ []) later) (class_led_by same earlier w later) (λ c k. k) (single (list_any (same w) earlier || not (list_any (same w) later)) (w ∷ filter (same w) later)) where
-  rest : List (List A)
-  rest = classes_from same (earlier ++ w ∷ []) later
-  Single : List (List A) → Type 0
-  Single [] = Unit {0}
-  Single (c ∷ []) = Unit {0}
-  Single (c ∷ d ∷ ds) = ⊥
-  single : (b : Bool) (c : List A) → Single (if b then [] else c ∷ [])
-  single true c = tt
-  single false c = tt
-  step : AllApart rest → (cs : List (List A)) → ((c : List A) → Among cs c → Among (class_led_by same earlier w later) c) → Single cs → AllApart (cs ++ rest)
-  step below [] f s = below
-  step below (c ∷ []) f s =
-      let l = led same earlier w later c (f c (inl refl)) in
-      let m = led-members same q earlier w later c l in
-      ((λ d k x a b. new-members same q (earlier ++ w ∷ []) later d k x w b (among-back earlier (w ∷ []) w (inl refl)) (q.symmetric w x (m.alike x a))),
-      below)
-  step below (c ∷ d ∷ ds) f s = absurd s
+      rest : List (List A)
+      rest = classes_from same (earlier ++ w ∷ []) later
+
+      Single : List (List A) → Type 0
+      Single [] = Unit {0}
+      Single (c ∷ []) = Unit {0}
+      Single (c ∷ d ∷ ds) = ⊥
+
+      single : (b : Bool) (c : List A) → Single (if b then [] else c ∷ [])
+      single true c = tt
+      single false c = tt
+
+      step : AllApart rest → (cs : List (List A)) → ((c : List A) → Among cs c → Among (class_led_by same earlier w later) c) → Single cs → AllApart (cs ++ rest)
+      step below [] f s = below
+      step below (c ∷ []) f s =
+          let l = led same earlier w later c (f c (inl refl)) in
+          let m = led-members same q earlier w later c l in (
+            (λ d k x a b. new-members same q (earlier ++ w ∷ []) later d k x w b (among-back earlier (w ∷ []) w (inl refl)) (q.symmetric w x (m.alike x a))),
+            below,
+          )
+      step below (c ∷ d ∷ ds) f s = absurd s
 
 pub no-window-in-two : {A : Type 0} (same : A → A → Bool) → IsEquivalent same → (windows : List A) → AllApart (classes same windows)
 no-window-in-two same q windows = apart-from same q [] windows
@@ -196,37 +204,43 @@ together-from : {A : Type 0} (same : A → A → Bool) → IsEquivalent same →
 together-from same q earlier [] x y n s new a b = absurd a
 together-from {A} same q earlier (w ∷ later) x y n s new a b =
     step (λ newer k j. together-from same q (earlier ++ w ∷ []) later x y n s newer k j) (same w x) refl a b where
-  cs : List (List A)
-  cs = class_led_by same earlier w later
-  rest : List (List A)
-  rest = classes_from same (earlier ++ w ∷ []) later
-  in_class : (z : A) → same w z ≡ true → (z ≡ w) ⊎ Among later z → Among (w ∷ filter (same w) later) z
-  in_class z h (inl e) = inl e
-  in_class z h (inr k) = inr (keeps (same w) later z h k)
-  follows : same w x ≡ true → (x ≡ w) ⊎ Among later x → (y ≡ w) ⊎ Among later y → list_any (same w) later ≡ true
-  follows h (inl e) (inl f) = absurd (n (e ∙ sym f))
-  follows h (inl e) (inr k) = any-holds (same w) later y (q.transitive w x y h s) k
-  follows h (inr k) j = any-holds (same w) later x h k
-  newer : same w x ≡ false → (e : A) → Among (earlier ++ w ∷ []) e → same x e ≡ true → ⊥
-  newer h e k g = turn (among-append earlier (w ∷ []) e k) where
-    turn : Among earlier e ⊎ Among (w ∷ []) e → ⊥
-    turn (inl a) = new e a g
-    turn (inr (inl i)) = contrary (same w x) (q.symmetric x w (subst (λ (z : A). same x z ≡ true) i g)) h
-    turn (inr (inr z)) = z
-  step : (((e : A) → Among (earlier ++ w ∷ []) e → same x e ≡ true → ⊥) → Among later x → Among later y → Together rest x y) →
-      (b : Bool) → same w x ≡ b → (x ≡ w) ⊎ Among later x → (y ≡ w) ⊎ Among later y → Together (cs ++ rest) x y
-  step below true h i j =
-      let free : list_any (same w) earlier ≡ false = none-holds (same w) earlier (λ e k g. new e k (q.transitive x w e (q.symmetric w x h) g)) in
-      record {
-        class = w ∷ filter (same w) later;
-        listed = among-front cs rest (w ∷ filter (same w) later) (leads same earlier w later free (follows h i j));
-        one = in_class x h i;
-        other = in_class y (q.transitive w x y h s) j }
-  step below false h (inl e) j = absurd (contrary (same w x) (ap (same w) e ∙ q.reflexive w) h)
-  step below false h (inr k) (inl f) = absurd (contrary (same w x) (q.symmetric x w (subst (λ (z : A). same x z ≡ true) f s)) h)
-  step below false h (inr k) (inr j) =
-      let t = below (newer h) k j in
-      record { class = t.class; listed = among-back cs rest t.class t.listed; one = t.one; other = t.other }
+      cs : List (List A)
+      cs = class_led_by same earlier w later
+
+      rest : List (List A)
+      rest = classes_from same (earlier ++ w ∷ []) later
+
+      in_class : (z : A) → same w z ≡ true → (z ≡ w) ⊎ Among later z → Among (w ∷ filter (same w) later) z
+      in_class z h (inl e) = inl e
+      in_class z h (inr k) = inr (keeps (same w) later z h k)
+
+      follows : same w x ≡ true → (x ≡ w) ⊎ Among later x → (y ≡ w) ⊎ Among later y → list_any (same w) later ≡ true
+      follows h (inl e) (inl f) = absurd (n (e ∙ sym f))
+      follows h (inl e) (inr k) = any-holds (same w) later y (q.transitive w x y h s) k
+      follows h (inr k) j = any-holds (same w) later x h k
+
+      newer : same w x ≡ false → (e : A) → Among (earlier ++ w ∷ []) e → same x e ≡ true → ⊥
+      newer h e k g = turn (among-append earlier (w ∷ []) e k) where
+        turn : Among earlier e ⊎ Among (w ∷ []) e → ⊥
+        turn (inl a) = new e a g
+        turn (inr (inl i)) = contrary (same w x) (q.symmetric x w (subst (λ (z : A). same x z ≡ true) i g)) h
+        turn (inr (inr z)) = z
+
+      step : (((e : A) → Among (earlier ++ w ∷ []) e → same x e ≡ true → ⊥) → Among later x → Among later y → Together rest x y) →
+          (b : Bool) → same w x ≡ b → (x ≡ w) ⊎ Among later x → (y ≡ w) ⊎ Among later y → Together (cs ++ rest) x y
+      step below true h i j =
+          let free : list_any (same w) earlier ≡ false = none-holds (same w) earlier (λ e k g. new e k (q.transitive x w e (q.symmetric w x h) g)) in
+          record {
+            class = w ∷ filter (same w) later;
+            listed = among-front cs rest (w ∷ filter (same w) later) (leads same earlier w later free (follows h i j));
+            one = in_class x h i;
+            other = in_class y (q.transitive w x y h s) j;
+          }
+      step below false h (inl e) j = absurd (contrary (same w x) (ap (same w) e ∙ q.reflexive w) h)
+      step below false h (inr k) (inl f) = absurd (contrary (same w x) (q.symmetric x w (subst (λ (z : A). same x z ≡ true) f s)) h)
+      step below false h (inr k) (inr j) =
+          let t = below (newer h) k j in
+          record { class = t.class; listed = among-back cs rest t.class t.listed; one = t.one; other = t.other }
 
 pub same-stand-together : {A : Type 0} (same : A → A → Bool) → IsEquivalent same → (windows : List A) (x y : A) → (x ≡ y → ⊥) → same x y ≡ true →
     Among windows x → Among windows y → Together (classes same windows) x y

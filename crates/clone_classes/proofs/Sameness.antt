@@ -22,10 +22,12 @@ pub within : (identical : ℕ → ℕ → Bool) → IsEquivalent identical → (
 within identical q bodies = record {
   reflexive = λ w. same-refl identical q.reflexive (locals_in (slice_get bodies w.func)) (statements_at (slice_get bodies w.func) w);
   symmetric = λ w v. between-sym identical identical q.symmetric bodies bodies w v;
-  transitive = λ w v x. between-trans identical identical identical q.transitive bodies bodies bodies w v x }
+  transitive = λ w v x. between-trans identical identical identical q.transitive bodies bodies bodies w v x;
+}
 
 pub numbers : IsEquivalent nat_eq
 numbers = record {
   reflexive = λ a. eq-eqb a a refl;
   symmetric = λ a b h. eq-eqb b a (sym (eqb-true a b h));
-  transitive = λ a b c h g. eq-eqb a c (eqb-true a b h ∙ eqb-true b c g) }
+  transitive = λ a b c h g. eq-eqb a c (eqb-true a b h ∙ eqb-true b c g);
+}

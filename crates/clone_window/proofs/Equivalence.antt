@@ -208,7 +208,8 @@ alike-trans d e f r s t u h g =
     (record {
       first = number-trans (standing s) (standing t) (standing u) p.first q.first;
       second = final-trans d e f r (final s) (final t) (final u) p.second q.second;
-      third = values-trans (value_of s) (value_of t) (value_of u) p.third q.third })
+      third = values-trans (value_of s) (value_of t) (value_of u) p.third q.third;
+    })
 
 -- ---- nodes
 
@@ -231,7 +232,8 @@ outline-trans a b c h g =
     (record {
       first = number-trans a.kind b.kind c.kind p.first q.first;
       second = number-trans a.operator b.operator c.operator p.second q.second;
-      third = number-trans a.count b.count c.count p.third q.third })
+      third = number-trans a.count b.count c.count p.third q.third;
+    })
 
 besides-refl : {T : Type 0} (d : T → T → Bool) → IsReflexive d → (a : Compared) (s : Sort T) → agree_besides d a a s s ≡ true
 besides-refl d r by_form s = refl
@@ -298,7 +300,8 @@ at-trans d e f r false false false a b c s t u p q o k h g =
     (record {
       first = outline-trans (outline a) (outline b) (outline c) i.first j.first;
       second = besides-trans d e f r (compared a) (compared b) (compared c) s t u i.second j.second;
-      third = k i.third j.third })
+      third = k i.third j.third;
+    })
 
 -- ---- trees
 
@@ -468,7 +471,8 @@ same-refl d r here ps =
     (record {
       first = all-refl d r false ps;
       second = one-refl xs;
-      third = along-refl (tests d here here) (λ x. alike-refl d r (sort_at here x)) xs })
+      third = along-refl (tests d here here) (λ x. alike-refl d r (sort_at here x)) xs;
+    })
 
 pub same-sym : {T : Type 0} (d e : T → T → Bool) → IsTurned d e → (here there : List (Sort T)) (ps qs : Typeds T) →
     is_same d here there ps qs ≡ true → is_same e there here qs ps ≡ true
@@ -480,7 +484,8 @@ same-sym d e r here there ps qs h =
     (record {
       first = all-sym d e r false false ps qs c.first;
       second = one-sym xs ys c.second;
-      third = along-sym (tests d here there) (tests e there here) (λ x y. alike-sym d e r (sort_at here x) (sort_at there y)) xs ys c.third })
+      third = along-sym (tests d here there) (tests e there here) (λ x y. alike-sym d e r (sort_at here x) (sort_at there y)) xs ys c.third;
+    })
 
 pub same-trans : {T : Type 0} (d e f : T → T → Bool) → IsJoined d e f → (one two three : List (Sort T)) (ps qs rs : Typeds T) →
     is_same d one two ps qs ≡ true → is_same e two three qs rs ≡ true → is_same f one three ps rs ≡ true
@@ -496,4 +501,5 @@ same-trans d e f r one two three ps qs rs h g =
     (record {
       first = all-trans d e f r false false false ps qs rs c.first k.first;
       second = one-trans xs ys zs m n c.second k.second;
-      third = along-trans (tests d one two) (tests e two three) (tests f one three) (λ x y z. alike-trans d e f r (sort_at one x) (sort_at two y) (sort_at three z)) xs ys zs m n c.third k.third })
+      third = along-trans (tests d one two) (tests e two three) (tests f one three) (λ x y z. alike-trans d e f r (sort_at one x) (sort_at two y) (sort_at three z)) xs ys zs m n c.third k.third;
+    })

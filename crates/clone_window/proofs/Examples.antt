@@ -1,7 +1,6 @@
 -- Worked examples: masses, windows, and windows that are the same and not.
 use Rattle.std.proofs.Common.{◌≡◌, ℕ, suc, Bool, true, false, List, [], ◌∷◌, map, refl}
 use Rattle.std.specs.Prelude.{nat_eq, pos, replicate}
-
 use Rattle.go_grammar.specs.declared.kind.Arithmetic.TheVariants as arithmetic
 use Rattle.go_grammar.specs.declared.kind.Operator.{Operator}
 use Rattle.go_grammar.specs.declared.kind.Operator.TheVariants as operator

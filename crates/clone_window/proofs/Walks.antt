@@ -58,10 +58,11 @@ among-more bounds func first next next' all p ps old out out' h n e = record {
   number = omega (arith, h.number, length-append (statement_lists p) (lists_among ps));
   room = omega (arith, h.room, lists-few p);
   windows =
-    h.windows
-    ∙ sym (append_assoc out (windows_in bounds func next p) (windows_among bounds func (next + list_count p) ps))
-    ∙ ap (λ o. o ++ windows_among bounds func (next + list_count p) ps) (sym e)
-    ∙ ap (λ k. out' ++ windows_among bounds func k ps) (sym n) }
+      h.windows
+      ∙ sym (append_assoc out (windows_in bounds func next p) (windows_among bounds func (next + list_count p) ps))
+      ∙ ap (λ o. o ++ windows_among bounds func (next + list_count p) ps) (sym e)
+      ∙ ap (λ k. out' ++ windows_among bounds func k ps) (sym n);
+}
 
 pub among-skip : (bounds : Bounds) (func first next : ℕ) (all ps : Typeds ℕ) (old out : List Window) →
     AmongLeft bounds func first next all (skip ps) old out → AmongLeft bounds func first next all ps old out
@@ -99,11 +100,12 @@ along-more bounds func list ahead first next next' index index' all p ps masses 
       small = omega (arith, h.small, some-size p);
       masses_left = ap (λ k. drop k masses) s ∙ drop-tail index masses (map capped (each_mass ps)) (capped (mass false p)) h.masses_left;
       windows =
-        h.windows
-        ∙ sym (append_assoc out (a ++ b) (windows_along bounds func list ahead (next + list_count p) (suc index) ps))
-        ∙ ap (λ o. o ++ windows_along bounds func list ahead (next + list_count p) (suc index) ps) (sym (append_assoc out a b) ∙ ap (λ o. o ++ b) (sym m) ∙ sym e)
-        ∙ ap (λ k. out' ++ windows_along bounds func list ahead k (suc index) ps) (sym n)
-        ∙ ap (λ k. out' ++ windows_along bounds func list ahead next' k ps) (sym s) }
+          h.windows
+          ∙ sym (append_assoc out (a ++ b) (windows_along bounds func list ahead (next + list_count p) (suc index) ps))
+          ∙ ap (λ o. o ++ windows_along bounds func list ahead (next + list_count p) (suc index) ps) (sym (append_assoc out a b) ∙ ap (λ o. o ++ b) (sym m) ∙ sym e)
+          ∙ ap (λ k. out' ++ windows_along bounds func list ahead k (suc index) ps) (sym n)
+          ∙ ap (λ k. out' ++ windows_along bounds func list ahead next' k ps) (sym s);
+    }
 
 pub along-skip : (bounds : Bounds) (func list ahead first next index : ℕ) (all ps : Typeds ℕ) (masses : List ℕ) (old out : List Window) →
     AlongLeft bounds func list ahead first next index all (skip ps) masses old out → AlongLeft bounds func list ahead first next index all ps masses old out

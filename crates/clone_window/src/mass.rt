@@ -78,10 +78,7 @@ pub fn masses_of(inside: bool, parts: &[Option<TypedNode>]) -> u32
 /// # Errors
 ///
 /// Want of memory.
-pub fn each_mass_of(
-    alloc: Global,
-    statements: &[Option<TypedNode>],
-) -> Result<Vec<u32>, AllocError>
+pub fn each_mass_of(alloc: Global, statements: &[Option<TypedNode>]) -> Result<Vec<u32>, AllocError>
     ensures { IfOk result (λ v. v.items ≡ map capped (each_mass (views statements.now))) }
 {
     let mut out = Vec::with_capacity(alloc, statements.len())?;

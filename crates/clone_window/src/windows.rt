@@ -26,12 +26,7 @@ const MOST: usize = 32;
 /// # Errors
 ///
 /// Want of memory.
-pub fn windows_of(
-    alloc: Global,
-    f: &TypedFunc,
-    min: u32,
-    mass: u32,
-) -> Result<Vec<Window>, Memory>
+pub fn windows_of(alloc: Global, f: &TypedFunc, min: u32, mass: u32) -> Result<Vec<Window>, Memory>
     requires some { 1 ≤ min }
     requires at_most { min ≤ 32 }
     requires heavy { 1 ≤ mass }

@@ -18,9 +18,9 @@ mass_of-returns t c =
     let n = out-TypedNode c.args.node.now in
     let inside = specs.is_inside c.args.inside n.form (label_view n.label) in
     let e : c.masses_of.result ≡ capped (masses inside (views n.parts.items)) =
-      c.masses_of.ensures
-      ∙ ap (λ a. capped (masses a (views c.deref.result.now))) c.is_inside-within.ensures
-      ∙ ap (λ ps. capped (masses inside (views ps))) c.deref.ensures.value in
+    c.masses_of.ensures
+    ∙ ap (λ a. capped (masses a (views c.deref.result.now))) c.is_inside-within.ensures
+    ∙ ap (λ ps. capped (masses inside (views ps))) c.deref.ensures.value in
     summed (specs.is_hole c.args.inside n.form (label_view n.label)) (specs.weight n.form) (masses inside (views n.parts.items)) c.masses_of.result c.saturating_add.result
     (sym c.is_hole.ensures ∙ c.if-is_hole.false) e
     (c.saturating_add.ensures ∙ ap (λ w. capped (w + c.masses_of.result)) c.weight.ensures)

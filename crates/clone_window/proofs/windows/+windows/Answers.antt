@@ -29,17 +29,18 @@ push_windows_among-loop-part-preserved t c =
     let P : Typeds ℕ → Type 0 = λ ps. AmongLeft b f first c.loop-part.next (views parts) ps old out in
     let here : views (drop i parts) ≡ views (c.part-item.result ∷ drop (i + 1) parts) = views-at parts i c.part-item.result c.loop-part-test.true c.part-item.is in
     elim c.match-part.branch [
-      push_windows_among-in-Some+in_ok-next w ↦
-        among-more b f first c.loop-part.next c.match-part.next (views parts) (view w.in-Some.node) rest old out c.match-part.out.items
-        (subst P (here ∙ ap (λ p. views (p ∷ drop (i + 1) parts)) w.in-Some.is) c.loop-part.invariant)
-        (w.next-is ∙ w.in_ok-next.ensures.number)
-        (same-items c.match-part.out w.push_windows_in.new.out w.out-is ∙ w.in_ok-next.ensures.windows)
-    | push_windows_among-in_default w ↦
-        let Q : ℕ → Type 0 = λ n. AmongLeft b f first n (views parts) rest old c.match-part.out.items in
-        let R : List Window → Type 0 = λ o. AmongLeft b f first c.loop-part.next (views parts) rest old o in
-        subst Q (sym w.next-is) (subst R (sym (same-items c.match-part.out c.loop-part.out w.out-is))
-        (among-skip b f first c.loop-part.next (views parts) rest old out
-        (subst P (here ∙ ap (λ p. views (p ∷ drop (i + 1) parts)) w.in_default.is) c.loop-part.invariant))) ]
+      | push_windows_among-in-Some+in_ok-next w ↦
+          among-more b f first c.loop-part.next c.match-part.next (views parts) (view w.in-Some.node) rest old out c.match-part.out.items
+          (subst P (here ∙ ap (λ p. views (p ∷ drop (i + 1) parts)) w.in-Some.is) c.loop-part.invariant)
+          (w.next-is ∙ w.in_ok-next.ensures.number)
+          (same-items c.match-part.out w.push_windows_in.new.out w.out-is ∙ w.in_ok-next.ensures.windows)
+      | push_windows_among-in_default w ↦
+          let Q : ℕ → Type 0 = λ n. AmongLeft b f first n (views parts) rest old c.match-part.out.items in
+          let R : List Window → Type 0 = λ o. AmongLeft b f first c.loop-part.next (views parts) rest old o in
+          subst Q (sym w.next-is) (subst R (sym (same-items c.match-part.out c.loop-part.out w.out-is))
+          (among-skip b f first c.loop-part.next (views parts) rest old out
+          (subst P (here ∙ ap (λ p. views (p ∷ drop (i + 1) parts)) w.in_default.is) c.loop-part.invariant)))
+    ]
 
 pub push_windows_along-loop-part-preserved : goal.push_windows_along-loop-part-preserved
 push_windows_along-loop-part-preserved t c =
@@ -59,19 +60,20 @@ push_windows_along-loop-part-preserved t c =
     let P : Typeds ℕ → Type 0 = λ ps. AlongLeft b f list ahead first next index (views parts) ps masses old out in
     let here : views (drop i parts) ≡ views (c.part-item.result ∷ drop (i + 1) parts) = views-at parts i c.part-item.result c.loop-part-test.true c.part-item.is in
     elim c.match-part.branch [
-      push_windows_along-in-Some+in_ok-push_windows_from+in_ok-next w ↦
-        let left : AlongLeft b f list ahead first next index (views parts) (views (drop i parts)) masses old out = c.loop-part.invariant in
-        let there : views (drop i parts) ≡ views (Some w.in-Some.node ∷ drop (i + 1) parts) = here ∙ ap (λ p. views (p ∷ drop (i + 1) parts)) w.in-Some.is in
-        along-more b f list ahead first next c.match-part.next index c.match-part.index (views parts) (view w.in-Some.node) rest masses old out w.push_windows_from.new.out.items c.match-part.out.items
-        (subst P there c.loop-part.invariant)
-        (w.in_ok-push_windows_from.ensures (each_mass (views (Some w.in-Some.node ∷ drop (i + 1) parts))) (take-rest index masses ∙ left.masses_left ∙ ap (λ ps. map capped (each_mass ps)) there))
-        (w.next-is ∙ w.in_ok-next.ensures.number)
-        (same-items c.match-part.out w.push_windows_in.new.out w.out-is ∙ w.in_ok-next.ensures.windows)
-        w.index-is
-    | push_windows_along-in_default w ↦
-        let Q : ℕ → Type 0 = λ n. AlongLeft b f list ahead first n c.match-part.index (views parts) rest masses old c.match-part.out.items in
-        let S : ℕ → Type 0 = λ n. AlongLeft b f list ahead first next n (views parts) rest masses old c.match-part.out.items in
-        let R : List Window → Type 0 = λ o. AlongLeft b f list ahead first next index (views parts) rest masses old o in
-        subst Q (sym w.next-is) (subst S (sym w.index-is) (subst R (sym (same-items c.match-part.out c.loop-part.out w.out-is))
-        (along-skip b f list ahead first next index (views parts) rest masses old out
-        (subst P (here ∙ ap (λ p. views (p ∷ drop (i + 1) parts)) w.in_default.is) c.loop-part.invariant)))) ]
+      | push_windows_along-in-Some+in_ok-push_windows_from+in_ok-next w ↦
+          let left : AlongLeft b f list ahead first next index (views parts) (views (drop i parts)) masses old out = c.loop-part.invariant in
+          let there : views (drop i parts) ≡ views (Some w.in-Some.node ∷ drop (i + 1) parts) = here ∙ ap (λ p. views (p ∷ drop (i + 1) parts)) w.in-Some.is in
+          along-more b f list ahead first next c.match-part.next index c.match-part.index (views parts) (view w.in-Some.node) rest masses old out w.push_windows_from.new.out.items c.match-part.out.items
+          (subst P there c.loop-part.invariant)
+          (w.in_ok-push_windows_from.ensures (each_mass (views (Some w.in-Some.node ∷ drop (i + 1) parts))) (take-rest index masses ∙ left.masses_left ∙ ap (λ ps. map capped (each_mass ps)) there))
+          (w.next-is ∙ w.in_ok-next.ensures.number)
+          (same-items c.match-part.out w.push_windows_in.new.out w.out-is ∙ w.in_ok-next.ensures.windows)
+          w.index-is
+      | push_windows_along-in_default w ↦
+          let Q : ℕ → Type 0 = λ n. AlongLeft b f list ahead first n c.match-part.index (views parts) rest masses old c.match-part.out.items in
+          let S : ℕ → Type 0 = λ n. AlongLeft b f list ahead first next n (views parts) rest masses old c.match-part.out.items in
+          let R : List Window → Type 0 = λ o. AlongLeft b f list ahead first next index (views parts) rest masses old o in
+          subst Q (sym w.next-is) (subst S (sym w.index-is) (subst R (sym (same-items c.match-part.out c.loop-part.out w.out-is))
+          (along-skip b f list ahead first next index (views parts) rest masses old out
+          (subst P (here ∙ ap (λ p. views (p ∷ drop (i + 1) parts)) w.in_default.is) c.loop-part.invariant))))
+    ]
