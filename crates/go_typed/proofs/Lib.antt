@@ -1,1 +1,9 @@
+mod Examples
+mod Innermost
+mod ListPlaces
+mod Mapped
 mod Nodes
+mod Referents
+mod Renamings
+mod Uses
+mod Walks

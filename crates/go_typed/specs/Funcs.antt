@@ -1,9 +1,8 @@
 -- Functions with their types as contracts see them, and what every one of them meets.
-use Rattle.std.specs.Prelude.{◌≡◌, ℕ, suc, ◌+◌, ◌^◌, ◌<◌, ◌≤◌, Bool, true, false, ◌&&◌, not, nat_eq, nat_lt, nat_le, List, [], ◌∷◌, length, Option, Some, None, slice_get}
-use Rattle.go_typed.specs.declared.form.Form.{Form}
-use Rattle.go_typed.specs.declared.form.Form.TheVariants as form
+use Rattle.std.specs.Prelude.{◌≡◌, ℕ, suc, ◌+◌, ◌^◌, ◌<◌, Bool, true, false, ◌&&◌, ◌||◌, not, nat_eq, nat_lt, nat_le, List, [], ◌∷◌, length, Option, Some, None, slice_get}
 use Rattle.go_typed.specs.declared.node.TypedNode.{TypedNode}
 use Rattle.go_typed.specs.Views.{view}
+use Rattle.go_typed.specs.Forms.{is_function, is_holder, is_statement_list, local_of}
 use Rattle.go_typed.specs.Trees.{Sort, Typed, typed, Typeds, none, more, skip, form_of, first_of, last_of, Every, SortHas}
 
 -- Its number and the number of its type; which local each parameter is and each token names, if it does; what its locals stand
@@ -32,28 +31,35 @@ abbrev mutual
   are_tiled i j (more p ps) = nat_le i (first_of p) && is_tiled p && are_tiled (last_of p) j ps
   are_tiled i j (skip ps) = are_tiled i j ps
 
-abbrev pub is_holder : Form → Bool
-is_holder (form.Held k) = true
-is_holder f = false
+-- the local that a token names, if it names one
+abbrev pub named : Option (Option ℕ) → Option ℕ
+named None = None
+named (Some o) = o
 
--- the local that a node names, if it names one
-abbrev pub local_of : Form → Option ℕ
-local_of (form.Local n) = Some n
-local_of (form.New n) = Some n
-local_of (form.Declared n) = Some n
-local_of f = None
+abbrev pub named_at : List (Option ℕ) → ℕ → Option ℕ
+named_at tokens t = named (slice_get tokens t)
 
-abbrev pub is_named_at : List (Option ℕ) → ℕ → Option ℕ → Bool
-is_named_at tokens i None = true
-is_named_at tokens i (Some n) = is_this n (slice_get tokens i) where
-  is_this : ℕ → Option (Option ℕ) → Bool
-  is_this n (Some (Some m)) = nat_eq n m
-  is_this n o = false
+-- whether it is this local
+abbrev pub is_this : ℕ → Option ℕ → Bool
+is_this n None = false
+is_this n (Some m) = nat_eq n m
+
+-- whether a node at a token names what the token names, if it names a local
+abbrev pub is_named_so : Option ℕ → Option ℕ → Bool
+is_named_so named None = true
+is_named_so named (Some n) = is_this n named
+
+-- whether no part is left out
+abbrev pub is_full : {T : Type 0} → Typeds T → Bool
+is_full none = true
+is_full (more p ps) = is_full ps
+is_full (skip ps) = false
 
 abbrev mutual
-  -- whether no node is a holder, and each that names a local stands at a token that names the same local
+  -- whether no node is a holder, each that names a local stands at a token that names the same local, and statement lists have
+  -- all their parts
   pub is_whole : {T : Type 0} → List (Option ℕ) → Typed T → Bool
-  is_whole tokens (typed f i j l ps) = not (is_holder f) && is_named_at tokens i (local_of f) && are_whole tokens ps
+  is_whole tokens (typed f i j l ps) = not (is_holder f) && is_named_so (named_at tokens i) (local_of f) && (not (is_statement_list f) || is_full ps) && are_whole tokens ps
 
   pub are_whole : {T : Type 0} → List (Option ℕ) → Typeds T → Bool
   are_whole tokens none = true
@@ -72,10 +78,6 @@ abbrev mutual
 
 -- ---- functions
 
-abbrev pub is_function : Form → Bool
-is_function form.Function = true
-is_function f = false
-
 -- whether the numbers that are there lie below n
 abbrev pub are_below : ℕ → List (Option ℕ) → Bool
 are_below n [] = true
@@ -83,7 +85,8 @@ are_below n (None ∷ ms) = are_below n ms
 are_below n (Some m ∷ ms) = nat_lt m n && are_below n ms
 
 -- What every function meets. Its tokens are counted from its first one, and its tree stands over all of them. The parts of each
--- node lie one after the other inside its range. No node is left that only holds parts. The locals that parameters are and
+-- node lie one after the other inside its range. No node is left that only holds parts, and of a statement list no part is left
+-- out. The locals that parameters are and
 -- tokens and nodes name are among the locals, and a node and its token name the same local. Nodes can be numbered.
 pub record IsTypedFunc (f : FuncView) : Type 0 where
   pub root : is_function (form_of (tree_of f)) ≡ true

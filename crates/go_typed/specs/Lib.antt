@@ -1,5 +1,11 @@
 pub mod Trees
 pub mod Views
 pub mod Scopes
+pub mod Forms
 pub mod Lists
 pub mod Funcs
+pub mod Windows
+pub mod Places
+pub mod Packages
+pub mod Contents
+pub mod Examples

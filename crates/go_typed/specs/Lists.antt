@@ -1,19 +1,11 @@
 -- The statement lists of a typed tree, in a row, so that they have numbers, and their statements.
-use Rattle.std.specs.Prelude.{ℕ, zero, suc, Bool, true, false, if◌then◌else◌, List, [], ◌∷◌, ◌++◌, Option, Some, None, map, drop}
+use Rattle.std.specs.Prelude.{ℕ, if◌then◌else◌, List, [], ◌∷◌, ◌++◌, map, drop}
 use Rattle.std.specs.Borrow.{Bor}
-use Rattle.go_typed.specs.declared.form.Form.{Form}
-use Rattle.go_typed.specs.declared.form.Form.TheVariants as form
 use Rattle.go_typed.specs.declared.node.TypedNode.{TypedNode}
 use Rattle.go_typed.specs.declared.lists.StatementLists.{StatementLists}
+use Rattle.go_typed.specs.Forms.{is_statement_list, values_count}
 use Rattle.go_typed.specs.Trees.{Typed, typed, Typeds, none, more, skip, form_of, parts_of}
 use Rattle.go_typed.specs.Views.{view}
-
--- forms of nodes that hold statements in order (Go specification: Blocks, Expression switches)
-abbrev pub is_statement_list : Form → Bool
-is_statement_list form.Block = true
-is_statement_list (form.Case n) = true
-is_statement_list form.Default = true
-is_statement_list f = false
 
 -- the tree itself, if it is a statement list
 abbrev pub own_list : {T : Type 0} → Typed T → List (Typed T)
@@ -35,11 +27,6 @@ abbrev pub present : {T : Type 0} → Typeds T → List (Typed T)
 present none = []
 present (more p ps) = p ∷ present ps
 present (skip ps) = present ps
-
--- how many parts of a statement list stand in front of its statements: the values of a case
-abbrev pub values_count : Form → ℕ
-values_count (form.Case n) = n
-values_count f = 0
 
 -- the statements of a statement list
 abbrev pub statements_of : {T : Type 0} → Typed T → List (Typed T)

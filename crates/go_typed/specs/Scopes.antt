@@ -1,5 +1,5 @@
 -- What names stand for: the objects of a package, and the locals of a function.
-use Rattle.std.specs.Prelude.{ℕ, List, Option, Some, None, slice_get}
+use Rattle.std.specs.Prelude.{ℕ, List, Option, Some, None}
 use Rattle.go_typed.specs.declared.form.Referent.{Referent}
 use Rattle.go_typed.specs.Trees.{Sort}
 

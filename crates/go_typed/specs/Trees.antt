@@ -1,5 +1,5 @@
 -- Typed trees, over what stands for types: numbers of a table in the program, trees of types in definitions.
-use Rattle.std.specs.Prelude.{ℕ, Bool, List, [], ◌∷◌, Option, Some, None}
+use Rattle.std.specs.Prelude.{ℕ, Bool, true, ◌&&◌, List, [], ◌∷◌, Option, Some, None}
 use Rattle.go_constants.specs.declared.values.Const.{Const}
 use Rattle.go_tree.specs.declared.object.Predeclared.{Predeclared}
 use Rattle.go_typed.specs.declared.form.Form.{Form}
@@ -122,3 +122,32 @@ abbrev mutual
   EveryPart P none = Unit {0}
   EveryPart P (more p ps) = Every P p × EveryPart P ps
   EveryPart P (skip ps) = EveryPart P ps
+
+-- ---- tests of all types and of all forms
+
+abbrev pub sort_has : {T : Type 0} → (T → Bool) → Sort T → Bool
+sort_has p (IsType t) = p t
+sort_has p (Value t) = p t
+sort_has p (Constant t c) = p t
+sort_has p (Results t) = p t
+sort_has p s = true
+
+abbrev mutual
+  -- whether all types pass
+  pub every : {T : Type 0} → (T → Bool) → Typed T → Bool
+  every p (typed f i j l ps) = sort_has p l.sort && every_part p ps
+
+  pub every_part : {T : Type 0} → (T → Bool) → Typeds T → Bool
+  every_part p none = true
+  every_part p (more x ps) = every p x && every_part p ps
+  every_part p (skip ps) = every_part p ps
+
+abbrev mutual
+  -- whether the forms of all nodes pass
+  pub every_form : {T : Type 0} → (Form → Bool) → Typed T → Bool
+  every_form p (typed f i j l ps) = p f && forms_among p ps
+
+  pub forms_among : {T : Type 0} → (Form → Bool) → Typeds T → Bool
+  forms_among p none = true
+  forms_among p (more x ps) = every_form p x && forms_among p ps
+  forms_among p (skip ps) = forms_among p ps

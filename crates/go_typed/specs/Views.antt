@@ -1,6 +1,5 @@
 -- The typed trees that the nodes of the program hold, with the numbers of types and, in a table, with the types.
 use Rattle.std.specs.Prelude.{ℕ, ◌<◌, List, Option, map}
-use Rattle.std.specs.List.{AllByRecursion}
 use Rattle.std.specs.Option.{option_map}
 use Rattle.go_types.specs.Trees.{TypeTree}
 use Rattle.go_types.specs.Tables.{Table, type_of}

@@ -1,7 +1,7 @@
 //! Functions with their types.
 
 ghost use Rattle.std.specs.Prelude.{◌≡◌, map};
-ghost use Rattle.go_typed.specs.Funcs.{FuncView, IsTypedFunc};
+ghost use Rattle.go_typed.specs.Funcs.{FuncView, IsTypedFunc, named_at};
 ghost use Rattle.go_typed.specs.Views.{sort_view};
 
 use crate::node::TypedNode;
@@ -96,6 +96,16 @@ impl TypedFunc {
         ensures { result.now ≡ self.now.tokens }
     {
         &self.tokens
+    }
+
+    /// The local that the token of this number names, if it names one.
+    pub fn local_at(&self, token: u32) -> Option<u32>
+        ensures { result ≡ named_at self.now.tokens token }
+    {
+        match self.tokens.get(token as usize) {
+            Some(Some(local)) => Some(*local),
+            _ => None,
+        }
     }
 
     /// Its tree.

@@ -3,7 +3,8 @@
 ghost use Rattle.std.specs.Prelude.{◌≡◌, ◌++◌, IfOk, OnOk, length, slice_get};
 ghost use Rattle.std.specs.Option.{option_map};
 ghost use Rattle.go_typed.specs.Lists as lists;
-ghost use Rattle.go_typed.specs.Lists.{is_statement_list, lists_of, own_list, seen_lists};
+ghost use Rattle.go_typed.specs.Forms.{is_statement_list};
+ghost use Rattle.go_typed.specs.Lists.{lists_of, own_list, seen_lists};
 ghost use Rattle.go_typed.specs.Views.{view};
 
 use crate::form::Form;

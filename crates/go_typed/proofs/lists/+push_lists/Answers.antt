@@ -1,4 +1,4 @@
-use Rattle.std.proofs.Common.{◌≡◌, ◌∙◌, ◌++◌, ◌≤◌, [], List, ap, sym, drop, length, arith}
+use Rattle.std.proofs.Common.{◌∙◌, ◌++◌, ◌≤◌, ap, sym, length, arith}
 use Rattle.std.proofs.lemmas.List.{append_assoc, append-nil, drop_all}
 use Rattle.go_typed.specs.Lists.{lists_among, own_list, seen_lists}
 use Rattle.go_typed.specs.Views.{view, views}

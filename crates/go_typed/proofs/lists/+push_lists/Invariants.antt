@@ -1,7 +1,6 @@
 use Rattle.std.proofs.Common.{◌≡◌, ◌++◌, drop}
-use Rattle.go_typed.specs.Lists as lists
 use Rattle.go_typed.specs.Lists.{lists_among, seen_lists}
-use Rattle.go_typed.specs.Views.{view, views}
+use Rattle.go_typed.specs.Views.{views}
 use Rattle.go_typed.proofs.lists.+push_lists.Given as goal
 
 abbrev pub invariant-loop-part : goal.invariant-loop-part
