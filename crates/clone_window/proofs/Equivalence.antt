@@ -1,25 +1,23 @@
 -- Sameness is an equivalence, where identity of types is one.
-use Rattle.std.proofs.Common.{◌≡◌, ℕ, suc, ◌+◌, Bool, true, false, ◌&&◌, List, [], ◌∷◌, ◌++◌, length, Option, Some, None, refl, sym, ap, ◌∙◌, arith, length-append}
+use Rattle.std.proofs.Common.{◌≡◌, ℕ, Bool, true, false, ◌&&◌, List, [], ◌∷◌, ◌++◌, length, Option, Some, None, refl, sym, ap, ◌∙◌, arith, length-append}
 use Rattle.std.specs.Prelude.{nat_eq, if◌then◌else◌}
-use Rattle.std.specs.List.{list_all, zip}
+use Rattle.std.specs.List.{list_all}
 use Rattle.std.specs.Option.{option_to_list}
-use Rattle.std.specs.Ordering.{int_eq}
 use Rattle.std.proofs.lemmas.Bool.{eqb-true, eq-eqb, and_parts, and_from}
 use Rattle.std.proofs.lemmas.Bool.Decides.{Decides-int_eq}
 use Rattle.type_tests.specs.Identity.{same_name}
-use Rattle.go_constants.specs.Folding.{same_bool}
 use Rattle.go_constants.specs.declared.values.Const.{Const}
 use Rattle.go_constants.specs.declared.values.Const.TheVariants as const
 use Rattle.go_typed.specs.declared.form.Form.{Form}
 use Rattle.go_typed.specs.declared.form.Form.TheVariants as form
 use Rattle.go_typed.specs.declared.form.Referent.TheVariants as referent
-use Rattle.go_typed.specs.Trees.{Sort, Label, Typed, typed, Typeds, none, more, skip}
+use Rattle.go_typed.specs.Trees.{Sort, Typed, typed, Typeds, none, more, skip}
 use Rattle.clone_window.specs.declared.outline.Outline.{Outline}
-use Rattle.go_typed.specs.Funcs.{local_of}
+use Rattle.go_typed.specs.Forms.{local_of}
 use Rattle.clone_window.specs.Kinds.{outline}
 use Rattle.clone_window.specs.Masses.{is_hole, is_inside}
 use Rattle.clone_window.specs.Sameness.{same_value, const_kind, Final, of_type, of_kind, of_none, final, same_final, standing, value_of, same_values, are_alike, same_literal, same_outline, Compared, by_form, by_sort, by_literal, compared, agree_besides, agree_at, agree, all_agree, locals, all_locals, local_pairs, is_one_to_one, sort_at, is_matched, is_same}
-use Rattle.clone_window.proofs.Pairing.{holds_along, along-refl, along-sym, along-trans, one-refl, one-sym, one-trans}
+use Rattle.clone_window.proofs.Pairing.{along-refl, along-sym, along-trans, one-refl, one-sym, one-trans}
 
 -- ---- tests of identity, of one package with itself and between packages
 

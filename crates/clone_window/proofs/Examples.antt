@@ -1,5 +1,5 @@
 -- Worked examples: masses, windows, and windows that are the same and not.
-use Rattle.std.proofs.Common.{◌≡◌, ℕ, suc, Bool, true, false, List, [], ◌∷◌, map, refl}
+use Rattle.std.proofs.Common.{◌≡◌, ℕ, suc, Bool, true, false, List, [], ◌∷◌, refl}
 use Rattle.std.specs.Prelude.{nat_eq, pos, replicate}
 use Rattle.go_grammar.specs.declared.kind.Arithmetic.TheVariants as arithmetic
 use Rattle.go_grammar.specs.declared.kind.Operator.{Operator}
@@ -12,7 +12,6 @@ use Rattle.go_typed.specs.declared.form.Form.{Form}
 use Rattle.go_typed.specs.declared.form.Form.TheVariants as form
 use Rattle.go_typed.specs.declared.form.Referent.{Referent}
 use Rattle.go_typed.specs.declared.form.Referent.TheVariants as referent
-use Rattle.go_typed.specs.declared.window.Window.{Window}
 use Rattle.go_typed.specs.Trees.{Sort, Nothing, Blank, Builtin, IsType, Value, Constant, OpenConstant, Results, Typed, typed, Typeds, none, more, skip}
 use Rattle.clone_window.specs.Masses.{mass, masses}
 use Rattle.clone_window.specs.Windows.{run_at, window_mass, windows}

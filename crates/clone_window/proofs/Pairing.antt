@@ -1,9 +1,9 @@
 -- Pairs of locals: one to one is an equivalence, and so is what the two of a pair stand for.
-use Rattle.std.proofs.Common.{◌≡◌, ℕ, Bool, true, false, ◌&&◌, List, [], ◌∷◌, length, refl, sym, ◌∙◌, arith}
+use Rattle.std.proofs.Common.{◌≡◌, ℕ, Bool, true, false, List, [], ◌∷◌, length, refl, arith}
 use Rattle.std.specs.Prelude.{nat_eq}
-use Rattle.std.proofs.lemmas.Bool.{eqb-true, eq-eqb, and_parts, and_from}
+use Rattle.std.proofs.lemmas.Bool.{and_parts, and_from}
 use Rattle.std.specs.List.{list_all, zip}
-use Rattle.clone_window.specs.Sameness.{is_iff, fits_pair, is_one_to_one}
+use Rattle.clone_window.specs.Sameness.{is_iff, is_one_to_one}
 
 iff-refl : (p : Bool) → is_iff p p ≡ true
 iff-refl true = refl

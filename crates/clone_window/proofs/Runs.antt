@@ -10,7 +10,7 @@ use Rattle.std.proofs.lemmas.List.Elements.{filter-append}
 use Rattle.go_typed.specs.declared.window.Window.{Window}
 use Rattle.clone_window.specs.declared.bounds.Bounds.{Bounds}
 use Rattle.clone_window.specs.Caps.{capped}
-use Rattle.clone_window.specs.Windows.{is_heavy, run_at, windows_at, windows_from}
+use Rattle.clone_window.specs.Windows.{is_heavy, run_at, windows_at}
 
 range-more : (a n : ℕ) → range_with_len a (suc n) ≡ range_with_len a n ++ (a + n) ∷ []
 range-more a zero = ap (λ k. k ∷ []) (let e : a ≡ a + 0 = omega arith in e)

@@ -1,10 +1,10 @@
 -- Sizes of trees bound how many statement lists they have, and their masses.
-use Rattle.std.proofs.Common.{◌≡◌, ℕ, suc, ◌+◌, ◌<◌, ◌≤◌, Bool, true, false, List, [], ◌∷◌, ◌++◌, length, refl, sym, ap, ◌∙◌, arith, length-append}
+use Rattle.std.proofs.Common.{ℕ, suc, ◌+◌, ◌<◌, ◌≤◌, Bool, true, false, [], ◌∷◌, length, arith, length-append}
 use Rattle.std.specs.Prelude.{nat_lt, if◌then◌else◌}
-use Rattle.go_typed.specs.declared.form.Form.{Form}
-use Rattle.go_typed.specs.Trees.{Label, Typed, typed, Typeds, none, more, skip}
+use Rattle.go_typed.specs.Trees.{Typed, typed, Typeds, none, more, skip}
 use Rattle.go_typed.specs.Funcs.{size, sizes}
-use Rattle.go_typed.specs.Lists.{is_statement_list, own_list, statement_lists, lists_among}
+use Rattle.go_typed.specs.Forms.{is_statement_list}
+use Rattle.go_typed.specs.Lists.{own_list, statement_lists, lists_among}
 use Rattle.clone_window.specs.Kinds.{outline}
 use Rattle.clone_window.specs.Masses.{is_hole, is_inside, weight, mass, masses}
 

@@ -1,10 +1,10 @@
 -- The windows of a row of parts, part by part.
-use Rattle.std.proofs.Common.{◌≡◌, ℕ, zero, suc, ◌+◌, ◌-◌, ◌^◌, ◌<◌, ◌≤◌, false, List, [], ◌∷◌, ◌++◌, length, map, take, drop, get_or, Option, Some, None, refl, sym, ap, ◌∙◌, arith, length-append, length-drop, append_assoc, drop-cons}
+use Rattle.std.proofs.Common.{◌≡◌, ℕ, zero, suc, ◌+◌, ◌-◌, ◌^◌, ◌<◌, ◌≤◌, false, List, [], ◌∷◌, ◌++◌, length, map, take, drop, get_or, Option, refl, sym, ap, ◌∙◌, arith, length-append, length-drop, append_assoc, drop-cons}
 use Rattle.std.proofs.lemmas.List.{append-nil}
 use Rattle.go_typed.specs.declared.window.Window.{Window}
 use Rattle.go_typed.specs.declared.node.TypedNode.{TypedNode}
 use Rattle.go_typed.specs.Trees.{Typed, Typeds, none, more, skip}
-use Rattle.go_typed.specs.Funcs.{size, sizes}
+use Rattle.go_typed.specs.Funcs.{sizes}
 use Rattle.go_typed.specs.Lists.{statement_lists, lists_among}
 use Rattle.go_typed.specs.Views.{views}
 use Rattle.clone_window.specs.declared.bounds.Bounds.{Bounds}

@@ -1,5 +1,5 @@
 -- When two windows are the same: their nodes agree one by one, up to constants, and their locals are paired one to one.
-use Rattle.std.specs.Prelude.{ℕ, Bool, true, false, ◌&&◌, not, nat_eq, if◌then◌else◌, List, [], ◌∷◌, ◌++◌, Option, Some, None, unwrap_or, slice_get}
+use Rattle.std.specs.Prelude.{ℕ, Bool, true, false, ◌&&◌, not, nat_eq, if◌then◌else◌, List, [], ◌++◌, Option, Some, None, unwrap_or, slice_get}
 use Rattle.std.specs.List.{list_all, zip}
 use Rattle.std.specs.Option.{option_to_list}
 use Rattle.std.specs.Ordering.{int_eq}
@@ -11,9 +11,9 @@ use Rattle.go_typed.specs.declared.form.Form.{Form}
 use Rattle.go_typed.specs.declared.form.Form.TheVariants as form
 use Rattle.go_typed.specs.declared.sort.Untyped.{Untyped}
 use Rattle.go_typed.specs.declared.sort.Untyped.TheVariants as untyped
-use Rattle.go_typed.specs.Trees.{Sort, Unknown, IsType, Value, Constant, Open, OpenConstant, Label, Typed, typed, Typeds, none, more, skip}
+use Rattle.go_typed.specs.Trees.{Sort, Unknown, IsType, Value, Constant, Open, OpenConstant, Typed, typed, Typeds, none, more, skip}
 use Rattle.clone_window.specs.declared.outline.Outline.{Outline}
-use Rattle.go_typed.specs.Funcs.{local_of}
+use Rattle.go_typed.specs.Forms.{local_of}
 use Rattle.clone_window.specs.Kinds.{outline}
 use Rattle.clone_window.specs.Masses.{is_hole, is_inside}
 

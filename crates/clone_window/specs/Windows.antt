@@ -3,7 +3,8 @@ use Rattle.std.specs.Prelude.{ℕ, suc, ◌+◌, ◌-◌, min, Bool, false, if�
 use Rattle.std.specs.List.{range_with_len}
 use Rattle.go_typed.specs.declared.window.Window.{Window}
 use Rattle.go_typed.specs.Trees.{Typed, typed, Typeds, none, more, skip}
-use Rattle.go_typed.specs.Lists.{is_statement_list, statement_lists, statements_of, values_count}
+use Rattle.go_typed.specs.Forms.{is_statement_list, values_count}
+use Rattle.go_typed.specs.Lists.{statement_lists, statements_of}
 use Rattle.clone_window.specs.declared.bounds.Bounds.{Bounds}
 use Rattle.clone_window.specs.Masses.{masses, each_mass}
 

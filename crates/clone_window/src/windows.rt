@@ -2,7 +2,8 @@
 
 ghost use Rattle.std.specs.Prelude.{◌≡◌, ◌+◌, ◌<◌, ◌≤◌, ◌^◌, ◌++◌, ◌∷◌, [], ◌&&◌, nat_le, List, ℕ, map, length, IfOk, OnOk, if◌then◌else◌};
 ghost use Rattle.go_typed.specs.Funcs.{size, sizes, tree_of};
-ghost use Rattle.go_typed.specs.Lists.{lists_among, values_count};
+ghost use Rattle.go_typed.specs.Forms.{values_count};
+ghost use Rattle.go_typed.specs.Lists.{lists_among};
 ghost use Rattle.go_typed.specs.Views.{view, views};
 ghost use Rattle.clone_window.specs.Caps.{capped};
 ghost use Rattle.clone_window.specs.Masses.{each_mass};

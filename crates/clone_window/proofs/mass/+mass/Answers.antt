@@ -1,7 +1,7 @@
-use Rattle.std.proofs.Common.{◌≡◌, ℕ, ◌+◌, ◌-◌, ◌^◌, Bool, true, false, refl, sym, ap, ◌∙◌, arith}
-use Rattle.std.specs.Prelude.{min, if◌then◌else◌}
+use Rattle.std.proofs.Common.{◌≡◌, ℕ, ◌+◌, Bool, true, false, sym, ap, ◌∙◌, arith}
+use Rattle.std.specs.Prelude.{if◌then◌else◌}
 use Rattle.go_typed.specs.declared.node.TypedNode.{out-TypedNode}
-use Rattle.go_typed.specs.Views.{view, views, label_view}
+use Rattle.go_typed.specs.Views.{views, label_view}
 use Rattle.clone_window.specs.Masses as specs
 use Rattle.clone_window.specs.Masses.{mass, masses}
 use Rattle.clone_window.specs.Caps.{capped}

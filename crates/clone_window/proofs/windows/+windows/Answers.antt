@@ -1,4 +1,4 @@
-use Rattle.std.proofs.Common.{◌≡◌, ℕ, ◌+◌, List, ◌∷◌, Some, map, drop, Vec, Global, ap, sym, subst, ◌∙◌, refl}
+use Rattle.std.proofs.Common.{◌≡◌, ℕ, ◌+◌, List, ◌∷◌, Some, map, drop, Vec, Global, ap, sym, subst, ◌∙◌}
 use Rattle.go_typed.specs.declared.window.Window.{Window}
 use Rattle.go_typed.specs.Trees.{Typeds}
 use Rattle.go_typed.specs.Views.{view, views}

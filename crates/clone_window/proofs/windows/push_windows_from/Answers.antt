@@ -1,8 +1,7 @@
-use Rattle.std.proofs.Common.{◌≡◌, ◌-◌, ◌++◌, List, ℕ, true, false, [], ap, sym, ◌∙◌, arith, refl}
-use Rattle.std.specs.Prelude.{nat_le, if◌then◌else◌}
-use Rattle.std.proofs.lemmas.Bool.{le-leb, lt-leb}
-use Rattle.std.proofs.lemmas.List.{append-nil}
-use Rattle.clone_window.specs.Windows.{windows_at, windows_from}
+use Rattle.std.proofs.Common.{◌-◌, ◌++◌, [], ap, sym, ◌∙◌, arith}
+use Rattle.std.specs.Prelude.{if◌then◌else◌}
+use Rattle.std.proofs.lemmas.Bool.{le-leb}
+use Rattle.clone_window.specs.Windows.{windows_at}
 use Rattle.clone_window.proofs.Runs.{windows-capped}
 use Rattle.clone_window.proofs.windows.push_windows_from.Goals as goal
 
