@@ -2,7 +2,7 @@
 use Rattle.std.proofs.Common.{◌≡◌, Bool, true, false, List, [], ◌∷◌, ◌++◌, filter, refl, sym, ap, subst, ◌∙◌, inl, inr}
 use Rattle.std.specs.Prelude.{if◌then◌else◌, ◌||◌, not, ◌⊎◌}
 use Rattle.std.specs.List.{list_any}
-use Rattle.clone_classes.specs.Classes.{class_led_by, classes_from, classes, Among, IsEquivalent, AreApart, AllApart, Together}
+use Rattle.clone_classes.specs.Classes.{class_led_by, classes_from, classes, Among, IsEquivalent, AllApart, Together}
 
 -- ---- lists
 

@@ -1,5 +1,5 @@
 -- Clone classes: groups of two or more windows that are the same, found by comparing every window with every other.
-use Rattle.std.specs.Prelude.{◌≡◌, Bool, true, false, List, [], ◌∷◌, ◌++◌, filter, if◌then◌else◌, ◌||◌, not, ◌⊎◌}
+use Rattle.std.specs.Prelude.{◌≡◌, Bool, true, List, [], ◌∷◌, ◌++◌, filter, if◌then◌else◌, ◌||◌, not, ◌⊎◌}
 use Rattle.std.specs.List.{list_any}
 
 -- The class that a window leads: none where an earlier window is the same, or no later one is.
