@@ -1,5 +1,5 @@
 -- Clone classes: groups of two or more windows that are the same, found by comparing every window with every other.
-use Rattle.std.specs.Prelude.{◌≡◌, Bool, true, List, [], ◌∷◌, ◌++◌, filter, if◌then◌else◌, ◌||◌, not, ◌⊎◌}
+use Rattle.std.specs.Prelude.{◌≡◌, ℕ, Bool, true, List, [], ◌∷◌, ◌++◌, filter, if◌then◌else◌, ◌||◌, not, ◌⊎◌}
 use Rattle.std.specs.List.{list_any}
 
 -- The class that a window leads: none where an earlier window is the same, or no later one is.
@@ -24,7 +24,11 @@ abbrev pub Among : {A : Type 0} → List A → A → Type 0
 Among [] x = ⊥
 Among (y ∷ ys) x = (x ≡ y) ⊎ Among ys x
 
--- each of the list is the same as each
+-- Two pairs have one first local exactly where they have one second local.
+abbrev pub Agree : (ℕ × ℕ) → (ℕ × ℕ) → Type 0
+Agree p q = ((p.0 ≡ q.0) → p.1 ≡ q.1) × ((p.1 ≡ q.1) → p.0 ≡ q.0)
+
+-- A test is an equivalence.
 pub record IsEquivalent {A : Type 0} (same : A → A → Bool) : Type 0 where
   pub reflexive : (x : A) → same x x ≡ true
   pub symmetric : (x y : A) → same x y ≡ true → same y x ≡ true

@@ -3,7 +3,8 @@
 ghost use Rattle.std.specs.Prelude.{◌≡◌, ℕ, Bool, List, true, nat_eq};
 ghost use Rattle.go_typed.specs.declared.window.Window.{Window as Run};
 ghost use Rattle.clone_window.specs.declared.bounds.Bounds.{Bounds as Limits};
-ghost use Rattle.clone_classes.specs.Classes.{classes, Among, AllApart, IsEquivalent, Together};
+ghost use Rattle.clone_window.specs.Sameness.{is_one_to_one};
+ghost use Rattle.clone_classes.specs.Classes.{classes, Among, Agree, AllApart, IsEquivalent, Together};
 ghost use Rattle.clone_classes.specs.Listing.{Body, windows_of_all, are_same, listing};
 
 /// Sameness is an equivalence on the windows of a package, whatever equivalence tells identical types.
@@ -36,4 +37,10 @@ pub fn the_same_stand_together()
 /// No window stands in two classes.
 pub fn no_window_stands_in_two()
     ensures { (bounds : Limits) (bodies : List (Body ℕ)) → AllApart (listing nat_eq bounds bodies) }
+{}
+
+/// Pairs are one to one exactly where each two of them have one first local just where they have one second local.
+pub fn pairs_are_one_to_one()
+    ensures agree { (pairs : List (ℕ × ℕ)) → is_one_to_one pairs ≡ true → (p q : ℕ × ℕ) → Among pairs p → Among pairs q → Agree p q }
+    ensures only { (pairs : List (ℕ × ℕ)) → ((p q : ℕ × ℕ) → Among pairs p → Among pairs q → Agree p q) → is_one_to_one pairs ≡ true }
 {}
