@@ -1,5 +1,5 @@
 -- Worked examples of classes and of listings.
-use Rattle.std.proofs.Common.{◌≡◌, ℕ, ◌%◌, Bool, true, false, List, [], ◌∷◌, refl}
+use Rattle.std.proofs.Common.{◌≡◌, ℕ, ◌%◌, Bool, false, List, [], ◌∷◌, refl}
 use Rattle.std.specs.Prelude.{nat_eq, replicate}
 use Rattle.go_typed.specs.declared.form.Form.{Form}
 use Rattle.go_typed.specs.declared.form.Form.TheVariants as form
@@ -7,7 +7,7 @@ use Rattle.go_typed.specs.declared.form.Referent.TheVariants as referent
 use Rattle.go_typed.specs.Trees.{Sort, Nothing, Value, Results, Typed, typed, Typeds, none, more}
 use Rattle.clone_window.specs.Windows.{run_at}
 use Rattle.clone_classes.specs.Classes.{classes}
-use Rattle.clone_classes.specs.Listing.{Body, are_same, listing}
+use Rattle.clone_classes.specs.Listing.{Body, listing}
 
 -- ---- numbers that are the same where they leave the same remainder
 
