@@ -10,6 +10,7 @@ use Rattle.go_tree.specs.declared.context.Entity.TheVariants as entity
 use Rattle.go_tree.specs.declared.object.Declared.{Declared}
 use Rattle.go_typed.specs.declared.form.Form.{Form}
 use Rattle.go_typed.specs.declared.form.Form.TheVariants as form
+use Rattle.go_typed.specs.declared.form.Referent.{Referent}
 use Rattle.go_typed.specs.declared.form.Referent.TheVariants as referent
 use Rattle.go_typed.specs.declared.walk.LocalUse.{LocalUse}
 use Rattle.go_typed.specs.declared.window.Window.{Window}
@@ -63,6 +64,10 @@ use_of local token = record { local = local; token = token }
 abbrev pub object : Entity → Declared
 object e = record { file = 0; name = 0; entity = e; block = block.Package; scope = record { from = 0; to = 0 } }
 
+-- of a constant, a variable, a function, a type, a variable and a function
+abbrev pub numbers : List Referent
+numbers = referent.Constant 0 ∷ referent.Variable 0 ∷ referent.Function 0 ∷ referent.Type 0 ∷ referent.Variable 1 ∷ referent.Function 1 ∷ []
+
 pub record Examples : Type 0 where
   -- trees
   pub tiled : is_tiled plain ≡ true
@@ -91,4 +96,4 @@ pub record Examples : Type 0 where
   pub last_two : uses_in names plain (window 0 1 2) ≡ use_of 1 14 ∷ use_of 1 16 ∷ use_of 1 21 ∷ []
   pub no_list : uses_in names plain (window 1 0 2) ≡ []
   -- objects
-  pub by_sort : referents (map object (entity.Constant ∷ entity.Variable ∷ entity.Function ∷ entity.Type ∷ entity.Variable ∷ entity.Function ∷ [])) ≡ referent.Constant 0 ∷ referent.Variable 0 ∷ referent.Function 0 ∷ referent.Type 0 ∷ referent.Variable 1 ∷ referent.Function 1 ∷ []
+  pub by_sort : referents (map object (entity.Constant ∷ entity.Variable ∷ entity.Function ∷ entity.Type ∷ entity.Variable ∷ entity.Function ∷ [])) ≡ numbers

@@ -3,7 +3,7 @@ use Rattle.std.specs.Prelude.{◌≡◌, ℕ, suc, ◌+◌, ◌^◌, ◌<◌, Bo
 use Rattle.go_typed.specs.declared.node.TypedNode.{TypedNode}
 use Rattle.go_typed.specs.Views.{view}
 use Rattle.go_typed.specs.Forms.{is_function, is_holder, is_statement_list, local_of}
-use Rattle.go_typed.specs.Trees.{Sort, Typed, typed, Typeds, none, more, skip, form_of, first_of, last_of, Every, SortHas}
+use Rattle.go_typed.specs.Trees.{Sort, Typed, typed, Typeds, none, more, skip, form_of, first_of, last_of}
 
 -- Its number and the number of its type; which local each parameter is and each token names, if it does; what its locals stand
 -- for; and its tree.
@@ -97,9 +97,3 @@ pub record IsTypedFunc (f : FuncView) : Type 0 where
   pub parameters : are_below (length f.locals) f.parameters ≡ true
   pub tokens : are_below (length f.locals) f.tokens ≡ true
   pub nodes : size (tree_of f) < 2 ^ 32
-
--- its types are among the first n of a table
-pub record KnownFunc (n : ℕ) (f : FuncView) : Type 0 where
-  pub signature : f.signature < n
-  pub locals : (i : ℕ) (s : Sort ℕ) → slice_get f.locals i ≡ Some s → SortHas (λ t. t < n) s
-  pub root : Every (λ t. t < n) (tree_of f)
