@@ -78,16 +78,16 @@ word_reads k = reads_as (Then (IsLiteral (spelling_of k)) (λ u. Only k)) (IsWor
     (λ s j t. (t.4.1, t.5 ∙ rw (t.3, t.4.0) (append-nil (spelling_of k))))
     (λ s j t. (tt, s, [], t.1, (refl, t.0), sym (append-nil s)))
 
-abbrev IsIn : Keyword → List Keyword → Type 0
+abbrev pub IsIn : Keyword → List Keyword → Type 0
 IsIn k [] = ⊥
 IsIn k (j ∷ js) = (k ≡ j) ⊎ IsIn k js
 
 -- no spelling of the others begins as that of the first does, or the other way round
-abbrev Apart : Keyword → List Keyword → Type 0
+abbrev pub Apart : Keyword → List Keyword → Type 0
 Apart k [] = Unit {0}
 Apart k (j ∷ js) = ((rest : List ℕ) → literal_at (spelling_of k) (spelling_of j ++ rest) ≡ Err bad) × Apart k js
 
-abbrev AreApart : List Keyword → Type 0
+abbrev pub AreApart : List Keyword → Type 0
 AreApart [] = Unit {0}
 AreApart (k ∷ ks) = Apart k ks × AreApart ks
 
@@ -99,10 +99,10 @@ apart_at k j (l ∷ ls) rest h i =
       | inr w ↦ apart_at k j ls rest h.1 w
     ]
 
-abbrev IsKeyword : List Keyword → List ℕ → Keyword → Type 0
+abbrev pub IsKeyword : List Keyword → List ℕ → Keyword → Type 0
 IsKeyword ks s k = IsIn k ks × (s ≡ spelling_of k)
 
-keyword_reads : (ks : List Keyword) → AreApart ks → Reads (IsKeyword ks) (keyword_of ks)
+pub keyword_reads : (ks : List Keyword) → AreApart ks → Reads (IsKeyword ks) (keyword_of ks)
 unfolding keyword_of
 keyword_reads [] h = reads_as (λ (s : List ℕ) (k : Keyword). ⊥) (IsKeyword []) (keyword_of []) none_reads (λ s k t. absurd t) (λ s k t. absurd t.0)
 keyword_reads (k ∷ ks) h = reads_as (Either (IsWord k) (IsKeyword ks)) (IsKeyword (k ∷ ks)) (keyword_of (k ∷ ks))
@@ -111,7 +111,7 @@ keyword_reads (k ∷ ks) h = reads_as (Either (IsWord k) (IsKeyword ks)) (IsKeyw
     (λ s j t. elim t [ inl w ↦ (inl w.0, w.1 ∙ sym (ap spelling_of w.0)) | inr w ↦ (inr w.0, w.1) ])
     (λ s j t. elim t.0 [ inl w ↦ inl (w, t.1 ∙ ap spelling_of w) | inr w ↦ inr (w, t.1) ])
 
-all_apart : AreApart keywords
+pub all_apart : AreApart keywords
 unfolding literal_at
 all_apart = (
   (λ rest. refl, (λ rest. refl, (λ rest. refl, (λ rest. refl, (λ rest. refl, (λ rest. refl, tt)))))),
@@ -136,7 +136,7 @@ all_apart = (
   ),
 )
 
-is_keyword : (k : Keyword) → IsIn k keywords
+pub is_keyword : (k : Keyword) → IsIn k keywords
 is_keyword keyword.Edit = inl refl
 is_keyword keyword.Add = inr (inl refl)
 is_keyword keyword.Drop = inr (inr (inl refl))
@@ -215,7 +215,7 @@ named_at end g = then (name_at end) g
 named_some : (end : ℕ) (T : List ℕ → List ℕ → Command → Type 0) (g : List ℕ → List ℕ → Read Command) → Reads (Named end T) (named_at end g) → (s : List ℕ) × (c : Command) × Named end T s c
 named_some end T g r = some_of (Named end T) (named_at end g) r (then_none (name_at end) g (name_none end))
 
-blank_ends : first_byte blank ≡ None
+pub blank_ends : first_byte blank ≡ None
 unfolding first_byte
 blank_ends = refl
 
@@ -279,7 +279,7 @@ Whole = Then (IsKeyword keywords) (λ k. Tail k)
 flat : (s x y field rest : List ℕ) (end : ℕ) → x ≡ field ++ end ∷ [] → y ≡ rest → s ≡ x ++ y → s ≡ field ++ (end ∷ rest)
 flat s x y field rest end ex ey es = es ∙ ap (λ (z : List ℕ). z ++ y) ex ∙ ap (λ (z : List ℕ). (field ++ end ∷ []) ++ z) ey ∙ append_assoc field (end ∷ []) rest
 
-parted : (field rest : List ℕ) (end : ℕ) → field ++ (end ∷ rest) ≡ (field ++ end ∷ []) ++ rest
+pub parted : (field rest : List ℕ) (end : ℕ) → field ++ (end ∷ rest) ≡ (field ++ end ∷ []) ++ rest
 parted field rest end = sym (append_assoc field (end ∷ []) rest)
 
 -- the text of the bytes that end a command, and their number before them

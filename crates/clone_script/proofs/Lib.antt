@@ -4,5 +4,7 @@ pub mod Numbers
 pub mod Names
 pub mod CommandTexts
 pub mod Outcomes
+pub mod Sizes
+pub mod Pending
 pub mod Lines
 pub mod Scripts

@@ -5,11 +5,14 @@ use Rattle.std.specs.Fmt.{decimal}
 use Rattle.std.proofs.lemmas.Fmt.{length-decimal-le}
 use Rattle.clone_script.specs.declared.command.Command.{Command}
 use Rattle.clone_script.specs.declared.command.Command.TheVariants as command
-use Rattle.clone_script.specs.Commands.{most_number, most_line, blank, newline}
+use Rattle.clone_script.specs.Commands.{most_number, most_length, longest_line, blank, newline}
 use Rattle.clone_script.specs.Grammar.{Fits, spelling, behind_line}
 
 ten_digits : (n : ℕ) → n ≤ most_number → length (decimal n) ≤ 10
 ten_digits n h = length-decimal-le 10 n (omega arith) (omega (arith, h)) (omega (arith, h))
+
+seven_digits : (n : ℕ) → n ≤ most_length → length (decimal n) ≤ 7
+seven_digits n h = length-decimal-le 7 n (omega arith) (omega (arith, h)) (omega (arith, h))
 
 -- a field and the byte behind it
 field : (xs ys : List ℕ) (end most n : ℕ) → length xs ≤ most → length ys ≤ n → length (xs ++ (end ∷ ys)) ≤ most + 1 + n
@@ -18,16 +21,16 @@ field xs ys end most n h k = omega (arith, length-append xs (end ∷ ys), h, k)
 last : (xs : List ℕ) → length (xs ++ (newline ∷ [])) ≤ length xs + 1
 last xs = omega (arith, length-append xs (newline ∷ []))
 
-pub short_lines : (c : Command) → Fits c → length (spelling c) ≤ most_line + behind_line c
+pub short_lines : (c : Command) → Fits c → length (spelling c) ≤ longest_line + behind_line c
 short_lines (command.Edit name start end text) h =
-    let size = field (decimal (length text)) (text ++ (newline ∷ [])) newline 10 (length text + 1) (ten_digits (length text) (omega (arith, h.3))) (last text) in
-    let third = field (decimal end) (decimal (length text) ++ (newline ∷ (text ++ (newline ∷ [])))) blank 10 (10 + 1 + (length text + 1)) (ten_digits end h.2) size in
-    let second = field (decimal start) (decimal end ++ (blank ∷ (decimal (length text) ++ (newline ∷ (text ++ (newline ∷ [])))))) blank 10 (10 + 1 + (10 + 1 + (length text + 1))) (ten_digits start h.1) third in
-    let first = field name (decimal start ++ (blank ∷ (decimal end ++ (blank ∷ (decimal (length text) ++ (newline ∷ (text ++ (newline ∷ [])))))))) blank 255 (10 + 1 + (10 + 1 + (10 + 1 + (length text + 1)))) h.0.few second in
+    let size = field (decimal (length text)) (text ++ (newline ∷ [])) newline 7 (length text + 1) (seven_digits (length text) h.3) (last text) in
+    let third = field (decimal end) (decimal (length text) ++ (newline ∷ (text ++ (newline ∷ [])))) blank 10 (7 + 1 + (length text + 1)) (ten_digits end h.2) size in
+    let second = field (decimal start) (decimal end ++ (blank ∷ (decimal (length text) ++ (newline ∷ (text ++ (newline ∷ [])))))) blank 10 (10 + 1 + (7 + 1 + (length text + 1))) (ten_digits start h.1) third in
+    let first = field name (decimal start ++ (blank ∷ (decimal end ++ (blank ∷ (decimal (length text) ++ (newline ∷ (text ++ (newline ∷ [])))))))) blank 255 (10 + 1 + (10 + 1 + (7 + 1 + (length text + 1)))) h.0.few second in
     omega (arith, first)
 short_lines (command.Add name text) h =
-    let size = field (decimal (length text)) (text ++ (newline ∷ [])) newline 10 (length text + 1) (ten_digits (length text) (omega (arith, h.1))) (last text) in
-    let first = field name (decimal (length text) ++ (newline ∷ (text ++ (newline ∷ [])))) blank 255 (10 + 1 + (length text + 1)) h.0.few size in
+    let size = field (decimal (length text)) (text ++ (newline ∷ [])) newline 7 (length text + 1) (seven_digits (length text) h.1) (last text) in
+    let first = field name (decimal (length text) ++ (newline ∷ (text ++ (newline ∷ [])))) blank 255 (7 + 1 + (length text + 1)) h.0.few size in
     omega (arith, first)
 short_lines (command.Remove name) h = omega (arith, last name, h.few)
 short_lines command.Classes h = omega arith

@@ -12,10 +12,10 @@ use Rattle.clone_script.specs.Grammar.{Fits, spelling, Spells, BeginsWith, IsBeg
 use Rattle.clone_script.proofs.Readers.{pair_is, bind_ok, bind_more}
 use Rattle.clone_script.proofs.CommandTexts.{command_reads}
 
-abbrev Answer : Type 0
+abbrev pub Answer : Type 0
 Answer = Result (Command × ℕ) Refusal
 
-abbrev counted : ℕ → Read Command → Answer
+abbrev pub counted : ℕ → Read Command → Answer
 counted size read = read >>= λ x. Ok (x.0, size - length x.1)
 
 pub begun_is : (bytes : List ℕ) (c : Command) (rest : List ℕ) → BeginsWith bytes c rest → command_of bytes ≡ Ok (c, length (spelling c))
@@ -56,7 +56,7 @@ bad_is bytes e = record {
   part = λ h. let f = beginning_is bytes h in cc;
 }
 
-whole_begins : (bytes : List ℕ) (c : Command) (n : ℕ) → (n ≤ length bytes) × Spells (take n bytes) c → BeginsWith bytes c (drop n bytes)
+pub whole_begins : (bytes : List ℕ) (c : Command) (n : ℕ) → (n ≤ length bytes) × Spells (take n bytes) c → BeginsWith bytes c (drop n bytes)
 whole_begins bytes c n h = (h.1.0, sym (take-append-drop n bytes) ∙ ap (λ (s : List ℕ). s ++ drop n bytes) h.1.1)
 
 refused_by : (bytes : List ℕ) (a : Answer) → a ≡ command_of bytes → IsBad bytes → command_of bytes ≡ Err bad

@@ -1,5 +1,5 @@
 -- So many bytes and a newline, found by their number.
-use Rattle.std.proofs.Common.{◌≡◌, ℕ, zero, suc, ◌<◌, ◌≤◌, Bool, true, false, cond, eqb, List, [], ◌∷◌, length, take, drop, replicate, ◌++◌, Ok, Err, refl, sym, ap, ◌∙◌, append_assoc, inl, inr, arith}
+use Rattle.std.proofs.Common.{◌≡◌, ℕ, zero, suc, ◌≤◌, Bool, true, false, cond, eqb, List, [], ◌∷◌, length, take, drop, replicate, ◌++◌, Ok, Err, refl, sym, ap, ◌∙◌, append_assoc, inl, inr, arith}
 use Rattle.std.proofs.lemmas.List.{length-replicate}
 use Rattle.std.proofs.lemmas.Bool.{eqb-true}
 use Rattle.go_base.specs.Gives.{◌>>=◌}
@@ -7,9 +7,11 @@ use Rattle.clone_script.specs.Reading.{bad, more, Read, bytes_at, literal_at}
 use Rattle.clone_script.proofs.Readers.{Reads, pair_is, none_left, bind_ok, bind_more}
 use Rattle.clone_script.proofs.Numbers.{chosen}
 
-pub bytes_short : (n : ℕ) (bytes : List ℕ) → length bytes < n → bytes_at n bytes ≡ Err more
+-- the newline behind them included
+pub bytes_short : (n : ℕ) (bytes : List ℕ) → length bytes ≤ n → bytes_at n bytes ≡ Err more
 unfolding bytes_at
-bytes_short zero bytes h = absurd (omega (arith, h))
+bytes_short zero [] h = refl
+bytes_short zero (b ∷ bs) h = absurd (omega (arith, h))
 bytes_short (suc n) [] h = refl
 bytes_short (suc n) (b ∷ bs) h = rw (bytes_short n bs (omega (arith, h))) refl
 

@@ -20,6 +20,10 @@ most_length = 1048576
 abbrev pub most_line : ℕ
 most_line = 65536
 
+-- how many bytes the longest line of these commands has, with its newline
+abbrev pub longest_line : ℕ
+longest_line = 291
+
 abbrev pub blank : ℕ
 blank = 32
 

@@ -2,5 +2,8 @@ pub mod Reading
 pub mod Commands
 pub mod Grammar
 pub mod Replies
+pub mod Listing
+pub mod Sizes
+pub mod Runs
 pub mod Script
 pub mod Examples

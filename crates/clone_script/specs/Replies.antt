@@ -35,10 +35,18 @@ stat_reply files bytes functions windows hashes classes =
     codes "stat files " ++ decimal files ++ codes " bytes " ++ decimal bytes ++ codes " functions " ++ decimal functions
     ++ codes " windows " ++ decimal windows ++ codes " hashes " ++ decimal hashes ++ codes " classes " ++ decimal classes ++ codes "\n"
 
+-- how many bytes there are, and the bytes, each with a newline behind it
+abbrev pub counted : List ℕ → List ℕ
+counted bytes = decimal (length bytes) ++ codes "\n" ++ bytes ++ codes "\n"
+
 -- the bytes of the file, if its name is held
 abbrev pub show_reply : Option (List ℕ) → List ℕ
 show_reply None = codes "no show 1 NoFile\n"
-show_reply (Some bytes) = codes "show " ++ decimal (length bytes) ++ codes "\n" ++ bytes ++ codes "\n"
+show_reply (Some bytes) = codes "show " ++ counted bytes
+
+-- how many files are held
+abbrev pub save_reply : ℕ → List ℕ
+save_reply files = codes "ok save " ++ decimal files ++ codes "\n"
 
 abbrev pub bad_reply : ℕ → List ℕ
 bad_reply offset = codes "bad " ++ decimal offset ++ codes "\n"

@@ -1,4 +1,4 @@
-ghost use Rattle.std.specs.Prelude.{◌≡◌, ◌≤◌, List, ℕ, length, take, IfOk, Ok, Err};
+ghost use Rattle.std.specs.Prelude.{◌≡◌, ◌≢◌, ◌≤◌, List, ℕ, length, take, IfOk, IfErr, Ok, Err};
 ghost use Rattle.std.specs.Result.{IsErrOf};
 ghost use Rattle.go_base.specs.Gives.{Gives};
 ghost use Rattle.clone_script.specs.Reading.{bad, more, script_refusal, literal_at, name_at, bytes_at};
@@ -15,7 +15,7 @@ use go_base::{Bytes, Name, NameError};
 use std::alloc::Global;
 
 /// The greatest LEN of a command.
-const MAX_LENGTH: u32 = 1_048_576;
+pub const MAX_LENGTH: u32 = 1_048_576;
 
 /// A command of a script.
 #[derive(Debug, Drop)]
@@ -60,7 +60,8 @@ pub enum Keyword {
     Quit,
 }
 
-const KEYWORDS: [Keyword; 7] = [
+/// The first words of all commands.
+pub const KEYWORDS: [Keyword; 7] = [
     Keyword::Edit,
     Keyword::Add,
     Keyword::Drop,
@@ -90,7 +91,8 @@ impl Keyword {
 /// The bytes behind these ones.
 #[tactic(auto, unfolding(crate::specs::Reading::literal_at))]
 fn behind<'a>(bytes: &'a [u8], word: &[u8]) -> Result<&'a [u8], ScriptError>
-    ensures { Gives (λ rest. (tt, rest.now)) script_refusal result (literal_at word.now bytes.now) }
+    ensures memory { IfErr result (λ e. e ≢ errors.Memory) }
+    ensures value { Gives (λ rest. (tt, rest.now)) script_refusal result (literal_at word.now bytes.now) }
 {
     let mut rest = bytes;
     let mut left = word;
@@ -109,8 +111,12 @@ fn behind<'a>(bytes: &'a [u8], word: &[u8]) -> Result<&'a [u8], ScriptError>
 
 /// The first of these keywords that the bytes begin with, or may begin with.
 #[tactic(auto, unfolding(crate::specs::Commands::keyword_of))]
-fn keyword_of<'a>(bytes: &'a [u8], keywords: &[Keyword]) -> Result<(Keyword, &'a [u8]), ScriptError>
-    ensures { Gives (λ x. (x.0, x.1.now)) script_refusal result (keyword_of keywords.now bytes.now) }
+pub fn keyword_of<'a>(
+    bytes: &'a [u8],
+    keywords: &[Keyword],
+) -> Result<(Keyword, &'a [u8]), ScriptError>
+    ensures memory { IfErr result (λ e. e ≢ errors.Memory) }
+    ensures value { Gives (λ x. (x.0, x.1.now)) script_refusal result (keyword_of keywords.now bytes.now) }
 {
     let mut left = keywords;
     while let [keyword, others @ ..] = left {

@@ -5,7 +5,7 @@ ghost use Rattle.clone_script.specs.declared.command.Command.TheVariants as comm
 ghost use Rattle.clone_script.specs.Reading.{bad, more};
 ghost use Rattle.clone_script.specs.Script.{Outcome, HasOutcome};
 ghost use Rattle.clone_script.specs.Examples.{Takes, TakesNone};
-ghost use Rattle.clone_script.specs.Commands.{most_line};
+ghost use Rattle.clone_script.specs.Commands.{most_line, longest_line};
 ghost use Rattle.clone_script.specs.Grammar.{Fits, spelling, behind_line, Spells, BeginsWith, IsBeginning, IsBad};
 
 /// No spelling of a command is a proper beginning of another one.
@@ -30,10 +30,11 @@ pub fn three_ways()
     ensures apart { (bytes : List ℕ) (c : Command) (rest : List ℕ) → BeginsWith bytes c rest → IsBeginning bytes → ⊥ }
 {}
 
-/// A command's line, its newline included, is within the limit on lines.
+/// A command's line, its newline included, has 291 bytes at most, and so is within the limit on lines.
 #[tactic(auto, using(crate::proofs::Lines::short_lines))]
 pub fn short_lines()
-    ensures { (c : Command) → Fits c → length (spelling c) ≤ most_line + behind_line c }
+    ensures longest { (c : Command) → Fits c → length (spelling c) ≤ longest_line + behind_line c }
+    ensures within { longest_line ≤ most_line }
 {}
 
 /// A script has exactly one outcome: done, bad at an offset, or too long.

@@ -1,16 +1,26 @@
 //! The script of goclone: commands are taken from its bytes, and their replies are written.
 //!
 //! The contract: `next_command` answers the command at the front exactly where there is one, and says
-//! whether the bytes are the beginning of a command; each writer of a reply answers its bytes.
+//! whether the bytes are the beginning of a command; `CommandReader` answers the same where the bytes
+//! come in pieces; each writer of a reply answers its bytes.
 #![tactic(auto)]
 
 mod command;
 mod error;
 pub mod laws;
+mod listing;
 mod name;
 mod number;
+mod reader;
 mod reply;
+mod run;
+mod size;
 
 pub use command::{Command, next_command};
 pub use error::ScriptError;
-pub use reply::{EditAnswer, EditKind, bad_reply, edit_reply, fault_reply, show_reply, stat_reply};
+pub use listing::{ListedClass, class_reply};
+pub use reader::CommandReader;
+pub use reply::{
+    EditAnswer, EditKind, bad_reply, edit_reply, fault_reply, save_reply, show_reply, stat_reply,
+};
+pub use run::{PanicCause, RunAnswer, RunEnd, run_reply};

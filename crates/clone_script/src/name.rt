@@ -1,6 +1,7 @@
-ghost use Rattle.std.specs.Prelude.{◌≡◌, ◌≤◌, ◌+◌, length, IfOk, Some};
+ghost use Rattle.std.specs.Prelude.{◌≡◌, ◌≢◌, ◌≤◌, ◌+◌, length, IfOk, IfErr, Some};
 ghost use Rattle.go_base.specs.Gives.{Gives};
 ghost use Rattle.clone_script.specs.Reading.{script_refusal, whole, first_byte, next_byte, name_from, name_at};
+ghost use Rattle.clone_script.specs.declared.error.ScriptError.TheVariants as errors;
 
 use crate::error::ScriptError;
 
@@ -61,6 +62,7 @@ fn name_end(bytes: &[u8], end: u8) -> Result<(usize, &[u8]), ScriptError>
     ensures some { IfOk result (λ x. 1 ≤ x.0) }
     ensures few { IfOk result (λ x. x.0 ≤ 255) }
     ensures inside { IfOk result (λ x. x.0 ≤ length bytes.now) }
+    ensures memory { IfErr result (λ e. e ≢ errors.Memory) }
 {
     let mut character = Character {
         left: 0,
@@ -92,6 +94,7 @@ pub fn name_at(bytes: &[u8], end: u8) -> Result<(&[u8], &[u8]), ScriptError>
     ensures value { Gives (λ x. (x.0.now, x.1.now)) script_refusal result (name_at end bytes.now) }
     ensures some { IfOk result (λ x. 1 ≤ length x.0.now) }
     ensures few { IfOk result (λ x. length x.0.now ≤ 255) }
+    ensures memory { IfErr result (λ e. e ≢ errors.Memory) }
 {
     let (count, rest) = name_end(bytes, end)?;
     Ok((&bytes[..count], rest))

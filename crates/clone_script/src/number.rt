@@ -1,6 +1,7 @@
-ghost use Rattle.std.specs.Prelude.{◌≡◌, ◌≤◌, IfOk};
+ghost use Rattle.std.specs.Prelude.{◌≡◌, ◌≢◌, ◌≤◌, IfOk, IfErr};
 ghost use Rattle.go_base.specs.Gives.{Gives};
 ghost use Rattle.clone_script.specs.Reading.{script_refusal, with_digit, next_number, number_from, number_at};
+ghost use Rattle.clone_script.specs.declared.error.ScriptError.TheVariants as errors;
 
 use crate::error::ScriptError;
 
@@ -34,7 +35,8 @@ fn next_number(number: u32, byte: u8, limit: u32) -> Option<u32>
 /// The rest of a number, whose digits so far write `number`, and the bytes behind the one that ends it.
 #[tactic(auto, unfolding(crate::specs::Reading::number_from))]
 fn number_from(number: u32, bytes: &[u8], end: u8, limit: u32) -> Result<(u32, &[u8]), ScriptError>
-    ensures { Gives (λ x. (x.0, x.1.now)) script_refusal result (number_from limit end number bytes.now) }
+    ensures memory { IfErr result (λ e. e ≢ errors.Memory) }
+    ensures value { Gives (λ x. (x.0, x.1.now)) script_refusal result (number_from limit end number bytes.now) }
 {
     let mut value = number;
     let mut rest = bytes;
@@ -55,7 +57,8 @@ fn number_from(number: u32, bytes: &[u8], end: u8, limit: u32) -> Result<(u32, &
 /// that one.
 #[tactic(auto, unfolding(crate::specs::Reading::number_at))]
 pub fn number_at(bytes: &[u8], end: u8, limit: u32) -> Result<(u32, &[u8]), ScriptError>
-    ensures { Gives (λ x. (x.0, x.1.now)) script_refusal result (number_at limit end bytes.now) }
+    ensures memory { IfErr result (λ e. e ≢ errors.Memory) }
+    ensures value { Gives (λ x. (x.0, x.1.now)) script_refusal result (number_at limit end bytes.now) }
 {
     let [byte, after @ ..] = bytes else {
         return Err(ScriptError::More);

@@ -1,7 +1,7 @@
 ghost use Rattle.std.specs.Prelude.{◌≡◌, ◌++◌, List, ℕ, IfOk, OnOk};
 ghost use Rattle.std.specs.Option.{option_map};
 ghost use Rattle.std.specs.Fmt.{decimal};
-ghost use Rattle.clone_script.specs.Replies.{kind_word, edit_reply, place, fault_reply, stat_reply, show_reply, bad_reply};
+ghost use Rattle.clone_script.specs.Replies.{kind_word, edit_reply, counted, place, fault_reply, stat_reply, show_reply, save_reply, bad_reply};
 
 use go_base::{Bytes, Fault, Memory, Name, Span};
 use std::alloc::{AllocError, Global};
@@ -51,18 +51,38 @@ fn push_number(alloc: Global, out: &mut Vec<u8>, number: u64) -> Result<(), Allo
 }
 
 /// Puts a text and a number behind the others.
-fn push_field(alloc: Global, out: &mut Vec<u8>, text: &[u8], number: u64) -> Result<(), AllocError>
+pub fn push_field(
+    alloc: Global,
+    out: &mut Vec<u8>,
+    text: &[u8],
+    number: u64,
+) -> Result<(), AllocError>
     ensures { OnOk result (out.new.items ≡ out.old.items ++ text.now ++ decimal number) }
 {
     out.extend_from_slice(text)?;
     push_number(alloc, out, number)
 }
 
+/// Puts the number of bytes and then the bytes behind the others, each with a newline behind it.
+pub fn push_counted(alloc: Global, out: &mut Vec<u8>, bytes: &[u8]) -> Result<(), AllocError>
+    ensures { OnOk result (out.new.items ≡ out.old.items ++ counted bytes.now) }
+{
+    push_number(alloc, out, bytes.len() as u64)?;
+    out.extend_from_slice(b"\n")?;
+    out.extend_from_slice(bytes)?;
+    out.extend_from_slice(b"\n")
+}
+
 /// Puts FILE:START-END behind the others.
-fn push_place(alloc: Global, out: &mut Vec<u8>, file: &Name, span: Span) -> Result<(), AllocError>
+pub fn push_place(
+    alloc: Global,
+    out: &mut Vec<u8>,
+    file: &[u8],
+    span: Span,
+) -> Result<(), AllocError>
     ensures { OnOk result (out.new.items ≡ out.old.items ++ place file.now span) }
 {
-    out.extend_from_slice(file.bytes())?;
+    out.extend_from_slice(file)?;
     push_field(alloc, out, b":", u64::from(span.start))?;
     push_field(alloc, out, b"-", u64::from(span.end))
 }
@@ -101,7 +121,7 @@ pub fn fault_reply(alloc: Global, file: &Name, fault: &Fault) -> Result<Bytes, M
     out.extend_from_slice(b" ")?;
     out.extend_from_slice(fault.code.word().as_bytes())?;
     out.extend_from_slice(b" ")?;
-    push_place(alloc, &mut out, file, fault.span)?;
+    push_place(alloc, &mut out, file.bytes(), fault.span)?;
     out.extend_from_slice(b"\n")?;
     Ok(Bytes::of(out))
 }
@@ -139,9 +159,17 @@ pub fn show_reply(alloc: Global, text: Option<&[u8]>) -> Result<Bytes, Memory>
         out.extend_from_slice(b"no show 1 NoFile\n")?;
         return Ok(Bytes::of(out));
     };
-    push_field(alloc, &mut out, b"show ", text.len() as u64)?;
-    out.extend_from_slice(b"\n")?;
-    out.extend_from_slice(text)?;
+    out.extend_from_slice(b"show ")?;
+    push_counted(alloc, &mut out, text)?;
+    Ok(Bytes::of(out))
+}
+
+/// The reply to `save`, where every file that is held was written: how many they are.
+pub fn save_reply(alloc: Global, files: u32) -> Result<Bytes, Memory>
+    ensures { IfOk result (λ reply. reply ≡ save_reply files) }
+{
+    let mut out = Vec::new(alloc);
+    push_field(alloc, &mut out, b"ok save ", u64::from(files))?;
     out.extend_from_slice(b"\n")?;
     Ok(Bytes::of(out))
 }

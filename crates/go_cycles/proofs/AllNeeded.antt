@@ -1,10 +1,12 @@
 -- Rounds of what declarations need: a round that adds nothing is the last one that does.
-use Rattle.std.proofs.Common.{◌≡◌, ◌≤◌, ◌<◌, ◌+◌, ◌-◌, ◌∙◌, ℕ, zero, suc, Bool, true, false, List, [], ◌∷◌, ◌++◌, length, refl, ap, sym, arith, Some, None, drop, get_or, add-one, ◌&&◌, ◌||◌, if◌then◌else◌, nat_eq, append-nil, append_assoc}
+use Rattle.std.proofs.Common.{◌≡◌, ◌≤◌, ◌<◌, ◌+◌, ◌-◌, ◌∙◌, ℕ, zero, suc, Bool, true, false, List, [], ◌∷◌, ◌++◌, length, refl, ap, sym, arith, Option, Some, None, drop, get_or, add-one, ◌&&◌, ◌||◌, if◌then◌else◌, nat_eq, append-nil, append_assoc}
 use Rattle.std.proofs.Math.Seq.{drop-cons, drop-append_seam}
 use Rattle.std.proofs.lemmas.Grind.{common_steps}
+use Rattle.go_tree.specs.Declarations.{Found}
+use Rattle.go_tree.specs.Meanings.{Meaning}
 use Rattle.go_tree.specs.Lookups.{Asked}
-use Rattle.go_tree.specs.Needs.{Needed, is_same, same_way, is_known, with_one, with_all, needs, needs_of, all_needed}
-use Rattle.go_cycles.specs.Needs.{needed_by}
+use Rattle.go_tree.specs.Needs.{Needed, is_same, same_way, is_known, with_one, with_all, needed_source, needed_meaning, needs, needs_of, all_needed}
+use Rattle.go_cycles.specs.Needs.{way_of, needed_by}
 
 pub longer_one : (x : Needed) (xs : List Needed) → length xs ≤ length (with_one x xs)
 longer_one x xs = grind (arith, common_steps)
@@ -36,6 +38,18 @@ needs_some a asks x y h = grind (arith, common_steps)
 
 pub needs_none : (a : Asked) (asks : List Asked) (x : Needed) → needed_by a x ≡ None → needs (a ∷ asks) x ≡ needs asks x
 needs_none a asks x h = grind (arith, common_steps)
+
+source_more : (f : Bool) (s : Option Found) (ns zs : List Needed) → with_all (needed_source f s ns) zs ≡ with_all ns (with_all (needed_source f s []) zs)
+source_more f None ns zs = refl
+source_more f (Some d) ns zs = refl
+
+meaning_more : (w : Option Bool) (m : Option Meaning) (ns zs : List Needed) → with_all (needed_meaning w m ns) zs ≡ with_all ns (with_all (needed_meaning w m []) zs)
+meaning_more None m ns zs = refl
+meaning_more (Some f) None ns zs = refl
+meaning_more (Some f) (Some m) ns zs = source_more f m.source ns zs
+
+pub needs_more : (a : Asked) (asks : List Asked) (x : Needed) (zs : List Needed) → with_all (needs (a ∷ asks) x) zs ≡ with_all (needs asks x) (with_all (needs (a ∷ []) x) zs)
+needs_more a asks x zs = meaning_more (way_of a x) a.meaning (needs asks x) zs
 
 pub round_more : (asks : List Asked) (x : Needed) (xs zs : List Needed) → with_all (needs_of asks (x ∷ xs)) zs ≡ with_all (needs_of asks xs) (with_all (needs asks x) zs)
 round_more asks x xs zs = with_append (needs asks x) (needs_of asks xs) zs

@@ -1,7 +1,7 @@
 -- What a declaration needs has a lower rank.
 use Rattle.std.proofs.Common.{◌≡◌, ◌≤◌, ◌<◌, ◌-◌, ◌∙◌, ℕ, Bool, true, false, ◌&&◌, nat_le, List, [], ◌∷◌, refl, subst, arith, Option, Some, None}
 use Rattle.std.specs.HashMap.{HashMap}
-use Rattle.go_tree.specs.Meanings.{Found}
+use Rattle.go_tree.specs.Declarations.{Found}
 use Rattle.go_tree.specs.Lookups.{Asked}
 use Rattle.go_tree.specs.Needs.{Needed, needs}
 use Rattle.go_cycles.specs.Needs.{source_of, way_of, needed_by}
@@ -9,13 +9,7 @@ use Rattle.go_cycles.specs.declared.ranks.Rank.{Rank}
 use Rattle.go_cycles.specs.declared.order.Order.{Order}
 use Rattle.go_cycles.specs.Order.{rank_by, AllBelow, NeedsBelow}
 use Rattle.go_cycles.specs.Ranks.{Place, rank_of, is_within, Covers, CoversAll, is_above, is_source_above, are_above}
-use Rattle.go_cycles.proofs.Ranked.{both_left, both_right, needed_source_of, needed_rank, needs_by, Each}
-
-above_first : (x y : ℕ) (b : Bool) → (nat_le 1 x && nat_le x y && b) ≡ true → 1 ≤ x
-above_first x y b e = grind (arith, e)
-
-above_second : (x y : ℕ) (b : Bool) → (nat_le 1 x && nat_le x y && b) ≡ true → x ≤ y
-above_second x y b e = grind (arith, e)
+use Rattle.go_cycles.proofs.Ranked.{both_left, both_right, needed_source_of, needed_rank, needs_by, Each, above_first, above_second}
 
 source_above : {S T : Type 0} (m : HashMap Place ℕ S) (ranks : HashMap (ℕ × ℕ) Rank T) (s : Option Found) (d : Found) → s ≡ Some d → is_source_above m ranks s ≡ true → is_above m ranks d ≡ true
 source_above m ranks s d e h = subst (λ o. is_source_above m ranks o ≡ true) e h

@@ -1,13 +1,12 @@
 -- A declaration that a circle of names leads back to needs itself.
-use Rattle.std.proofs.Common.{◌≡◌, ◌≤◌, ◌<◌, ◌∙◌, ℕ, zero, suc, Bool, true, false, ◌&&◌, ◌||◌, not, nat_eq, nat_le, List, [], ◌∷◌, ◌++◌, length, refl, ap, sym, subst, arith, Option, Some, None, drop, get_or, inl, inr}
+use Rattle.std.proofs.Common.{◌≡◌, ◌≤◌, ◌<◌, ◌∙◌, ℕ, zero, suc, Bool, true, false, ◌&&◌, ◌||◌, nat_eq, nat_le, List, [], ◌∷◌, ◌++◌, length, refl, ap, sym, subst, arith, Option, Some, None, drop, get_or, inl, inr}
 use Rattle.std.specs.Prelude.{slice_get}
 use Rattle.std.proofs.Math.Seq.{drop-cons}
 use Rattle.go_tree.specs.declared.context.Site.{Site}
-use Rattle.go_tree.specs.declared.context.Site.TheVariants as site
 use Rattle.go_tree.specs.declared.event.Declaration.{Declaration}
-use Rattle.go_tree.specs.Meanings.{Found}
+use Rattle.go_tree.specs.Declarations.{Found}
 use Rattle.go_tree.specs.Lookups.{Asked}
-use Rattle.go_tree.specs.Needs.{Needed, has_source, if_so, way, right_way, is_same, same_way, is_among, is_known, with_all, needs, needs_of, all_needed, needs_itself}
+use Rattle.go_tree.specs.Needs.{Needed, if_so, way_by, way, is_same, same_way, is_among, is_known, with_all, needs, needs_of, all_needed, needs_itself}
 use Rattle.go_cycles.specs.Needs.{source_of, way_of, needed_in, needed_by}
 use Rattle.go_cycles.specs.Circles.{needed_at, step, walked, comes_back, is_circle}
 use Rattle.go_cycles.specs.Columns.{IsSource, AreAlike}
@@ -56,19 +55,13 @@ alike x z e =
     }
 
 way_alike : (d e : Declaration) (f : Bool) (s : Site) → d.source ≡ e.source → d.column ≡ e.column → way d f s ≡ way e f s
-way_alike d e f site.Elsewhere h k = refl
-way_alike d e f (site.Type s) h k = ap (λ n. if_so (nat_eq s n) (Some true)) h
-way_alike d e f (site.Value s column alone) h k =
-    ap (λ n. if_so (nat_eq s n && (nat_eq column d.column || alone)) (Some true)) h
-    ∙ ap (λ n. if_so (nat_eq s e.source && (nat_eq column n || alone)) (Some true)) k
-way_alike d e f (site.Right s r) h k = ap (λ n. if_so (nat_eq s n) (right_way f r)) h
+way_alike d e f s h k = ap (λ n. way_by n d.column f s) h ∙ ap (λ n. way_by e.source n f s) k
 
 way_of_alike : (a : Asked) (x z : Needed) → IsAlike x z → x.it.it.source ≡ z.it.it.source → x.it.it.column ≡ z.it.it.column → way_of a x ≡ way_of a z
 way_of_alike a x z same h k =
-    ap (λ n. if_so (not (nat_eq n 0) && nat_eq a.file x.it.file) (way x.it.it x.full a.it.site)) h
-    ∙ ap (λ n. if_so (has_source z.it.it && nat_eq a.file n) (way x.it.it x.full a.it.site)) same.file
-    ∙ ap (λ f. if_so (has_source z.it.it && nat_eq a.file z.it.file) (way x.it.it f a.it.site)) same.full
-    ∙ ap (λ w. if_so (has_source z.it.it && nat_eq a.file z.it.file) w) (way_alike x.it.it z.it.it z.full a.it.site h k)
+    ap (λ n. if_so (nat_eq a.file n) (way x.it.it x.full a.it.site)) same.file
+    ∙ ap (λ f. if_so (nat_eq a.file z.it.file) (way x.it.it f a.it.site)) same.full
+    ∙ ap (λ w. if_so (nat_eq a.file z.it.file) w) (way_alike x.it.it z.it.it z.full a.it.site h k)
 
 needed_at_alike : (a : Option Asked) (x z : Needed) → IsAlike x z → x.it.it.source ≡ z.it.it.source → x.it.it.column ≡ z.it.it.column → needed_at a (Some x) ≡ needed_at a (Some z)
 needed_at_alike None x z same h k = refl

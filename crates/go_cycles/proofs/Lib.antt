@@ -3,3 +3,4 @@ pub mod Below
 pub mod Circled
 pub mod Listed
 pub mod Ranked
+pub mod Sorted

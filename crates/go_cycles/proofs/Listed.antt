@@ -1,27 +1,33 @@
 -- Where all declarations that names call for have the columns of one table, those of one name have one column.
-use Rattle.std.proofs.Common.{◌≡◌, ◌∙◌, ℕ, true, nat_eq, List, [], ◌∷◌, ap, sym, subst, arith, Option, Some, None, inl, inr}
+use Rattle.std.proofs.Common.{◌≡◌, ◌∙◌, ℕ, true, nat_eq, List, [], ◌∷◌, ap, sym, subst, refl, arith, Option, Some, None, inl, inr}
 use Rattle.std.specs.HashMap.{HashMap}
 use Rattle.std.specs.HashMap as hash
-use Rattle.go_tree.specs.Meanings.{Found}
+use Rattle.go_tree.specs.Declarations.{Found}
 use Rattle.go_tree.specs.Lookups.{Asked}
 use Rattle.go_tree.specs.Needs.{is_same}
 use Rattle.go_lookup.specs.Tables.{same_spot}
 use Rattle.go_cycles.specs.Needs.{source_of}
 use Rattle.go_cycles.specs.declared.columns.Column.{Column}
-use Rattle.go_cycles.specs.Columns.{IsSource, AreAlike, is_column, is_listed, is_source_listed, are_listed}
+use Rattle.go_cycles.specs.Columns.{IsSource, AreAlike, same_source, is_column, is_listed, is_source_listed, are_listed}
 use Rattle.go_cycles.proofs.Ranked.{both_left, both_right, same_number}
+
+same_option : (a b : Option ℕ) → same_source a b ≡ true → a ≡ b
+same_option None None e = refl
+same_option (Some m) (Some n) e = ap Some (same_number m n e)
+same_option None (Some n) e = absurd (grind (arith, e))
+same_option (Some m) None e = absurd (grind (arith, e))
 
 column_source : (c : Option Column) (d e : Found) → is_column c d ≡ true → is_column c e ≡ true → d.it.source ≡ e.it.source
 column_source None d e h k = absurd (grind (arith, h))
 column_source (Some c) d e h k =
-    sym (same_number c.specification d.it.source (both_left (nat_eq c.specification d.it.source) (nat_eq c.number d.it.column) h))
-    ∙ same_number c.specification e.it.source (both_left (nat_eq c.specification e.it.source) (nat_eq c.number e.it.column) k)
+    sym (same_option c.specification d.it.source (both_left (same_source c.specification d.it.source) (nat_eq c.number d.it.column) h))
+    ∙ same_option c.specification e.it.source (both_left (same_source c.specification e.it.source) (nat_eq c.number e.it.column) k)
 
 column_number : (c : Option Column) (d e : Found) → is_column c d ≡ true → is_column c e ≡ true → d.it.column ≡ e.it.column
 column_number None d e h k = absurd (grind (arith, h))
 column_number (Some c) d e h k =
-    sym (same_number c.number d.it.column (both_right (nat_eq c.specification d.it.source) (nat_eq c.number d.it.column) h))
-    ∙ same_number c.number e.it.column (both_right (nat_eq c.specification e.it.source) (nat_eq c.number e.it.column) k)
+    sym (same_number c.number d.it.column (both_right (same_source c.specification d.it.source) (nat_eq c.number d.it.column) h))
+    ∙ same_number c.number e.it.column (both_right (same_source c.specification e.it.source) (nat_eq c.number e.it.column) k)
 
 one_key : {S : Type 0} (m : HashMap (ℕ × ℕ) Column S) (d e : Found) → is_same d e ≡ true → is_listed m e ≡ true → is_column (hash.get same_spot m (d.file, d.it.name)) e ≡ true
 one_key m d e same h =

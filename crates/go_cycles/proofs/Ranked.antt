@@ -6,14 +6,14 @@ use Rattle.go_tree.specs.declared.context.Site.{Site}
 use Rattle.go_tree.specs.declared.context.Site.TheVariants as site
 use Rattle.go_tree.specs.declared.context.Reach.TheVariants as reach
 use Rattle.go_tree.specs.declared.event.Declaration.{Declaration}
-use Rattle.go_tree.specs.Meanings.{Found}
+use Rattle.go_tree.specs.Declarations.{Found}
 use Rattle.go_tree.specs.Lookups.{Asked}
-use Rattle.go_tree.specs.Needs.{Needed, has_source, if_so, way, is_same, is_among, is_known, with_one, with_all, needs, needs_of, all_needed, needs_itself}
+use Rattle.go_tree.specs.Needs.{Needed, if_so, way_by, way, is_same, is_among, is_known, with_one, with_all, needs, needs_of, all_needed, needs_itself}
 use Rattle.go_cycles.specs.Needs.{source_of, way_of, needed_in, needed_by}
 use Rattle.go_cycles.specs.declared.ranks.Rank.{Rank}
 use Rattle.go_cycles.specs.declared.ranks.Part.{Part}
 use Rattle.go_cycles.specs.declared.ranks.Part.TheVariants as part
-use Rattle.go_cycles.specs.Ranks.{Place, same_part, same_place, bound_of, rank_of, part_of, own_part, is_within, HasRank, Grows, Covers, CoversAll, is_ranked, is_source_ranked, are_ranked, is_above}
+use Rattle.go_cycles.specs.Ranks.{Place, same_part, same_place, bound_of, rank_of, part_of, own_part, are_within, is_within, HasRank, Grows, Covers, CoversAll, is_ranked, is_source_ranked, are_ranked, is_above}
 use Rattle.go_cycles.proofs.AllNeeded.{needs_some, needs_none}
 
 -- ---- bounds grow
@@ -80,35 +80,48 @@ needed_source_of None s y e = absurd (grind (arith, e))
 needed_source_of (Some f) None y e = absurd (grind (arith, e))
 needed_source_of (Some f) (Some d) y e = grind (arith, e)
 
-way_rank : {S : Type 0} (m : HashMap Place ℕ S) (n : ℕ) (v : Bool → ℕ) (d : Declaration) (f : Bool) (st : Site) (g : Bool) (r : ℕ) → ((b : Bool) → HasRank m n (part_of b st) (v b)) → way d f st ≡ Some g → bound_of m ((n, d.source), part.Always) ≤ r → bound_of m ((n, d.source), part.Value d.column) ≤ r → bound_of m ((n, d.source), own_part f) ≤ r → v g ≤ r
-way_rank m n v d f site.Elsewhere g r h e x y z = absurd (grind (arith, e))
-way_rank m n v d f (site.Type s) true r h e x y z = grind (arith, h true s part.Always refl, e, x)
-way_rank m n v d f (site.Type s) false r h e x y z = absurd (grind (arith, e))
-way_rank m n v d f (site.Value s column true) true r h e x y z = grind (arith, h true s part.Always refl, e, x)
-way_rank m n v d f (site.Value s column true) false r h e x y z = absurd (grind (arith, e))
-way_rank m n v d f (site.Value s column false) true r h e x y z = grind (arith, h true s (part.Value column) refl, e, y)
-way_rank m n v d f (site.Value s column false) false r h e x y z = absurd (grind (arith, e))
-way_rank m n v d true (site.Right s reach.Direct) true r h e x y z = grind (arith, h true s part.Full refl, e, z)
-way_rank m n v d true (site.Right s reach.Indirect) true r h e x y z = grind (arith, h true s part.Full refl, e, z)
-way_rank m n v d true (site.Right s reach.Length) true r h e x y z = grind (arith, h true s part.Always refl, e, x)
-way_rank m n v d true (site.Right s w) false r h e x y z = absurd (grind (arith, e))
-way_rank m n v d false (site.Right s reach.Direct) false r h e x y z = grind (arith, h false s part.Partial refl, e, z)
-way_rank m n v d false (site.Right s reach.Direct) true r h e x y z = absurd (grind (arith, e))
-way_rank m n v d false (site.Right s reach.Indirect) g r h e x y z = absurd (grind (arith, e))
-way_rank m n v d false (site.Right s reach.Length) true r h e x y z = grind (arith, h true s part.Always refl, e, x)
-way_rank m n v d false (site.Right s reach.Length) false r h e x y z = absurd (grind (arith, e))
+way_rank : {S : Type 0} (m : HashMap Place ℕ S) (n : ℕ) (v : Bool → ℕ) (o own : ℕ) (f : Bool) (st : Site) (g : Bool) (r : ℕ) → ((b : Bool) → HasRank m n (part_of b st) (v b)) → way_by (Some o) own f st ≡ Some g → bound_of m ((n, o), part.Always) ≤ r → bound_of m ((n, o), part.Value own) ≤ r → bound_of m ((n, o), own_part f) ≤ r → v g ≤ r
+way_rank m n v o own f site.Elsewhere g r h e x y z = absurd (grind (arith, e))
+way_rank m n v o own f (site.Type s) true r h e x y z = grind (arith, h true s part.Always refl, e, x)
+way_rank m n v o own f (site.Type s) false r h e x y z = absurd (grind (arith, e))
+way_rank m n v o own f (site.Value s column true) true r h e x y z = grind (arith, h true s part.Always refl, e, x)
+way_rank m n v o own f (site.Value s column true) false r h e x y z = absurd (grind (arith, e))
+way_rank m n v o own f (site.Value s column false) true r h e x y z = grind (arith, h true s (part.Value column) refl, e, y)
+way_rank m n v o own f (site.Value s column false) false r h e x y z = absurd (grind (arith, e))
+way_rank m n v o own true (site.Right s reach.Direct) true r h e x y z = grind (arith, h true s part.Full refl, e, z)
+way_rank m n v o own true (site.Right s reach.Indirect) true r h e x y z = grind (arith, h true s part.Full refl, e, z)
+way_rank m n v o own true (site.Right s reach.Length) true r h e x y z = grind (arith, h true s part.Always refl, e, x)
+way_rank m n v o own true (site.Right s w) false r h e x y z = absurd (grind (arith, e))
+way_rank m n v o own false (site.Right s reach.Direct) false r h e x y z = grind (arith, h false s part.Partial refl, e, z)
+way_rank m n v o own false (site.Right s reach.Direct) true r h e x y z = absurd (grind (arith, e))
+way_rank m n v o own false (site.Right s reach.Indirect) g r h e x y z = absurd (grind (arith, e))
+way_rank m n v o own false (site.Right s reach.Length) true r h e x y z = grind (arith, h true s part.Always refl, e, x)
+way_rank m n v o own false (site.Right s reach.Length) false r h e x y z = absurd (grind (arith, e))
 
-within_first : (h : Bool) (x y z r : ℕ) → (not h || (nat_le x r && nat_le y r && nat_le z r)) ≡ true → h ≡ true → x ≤ r
-within_first true x y z r e s = grind (arith, e)
-within_first false x y z r e s = absurd (grind (arith, s))
+no_way : (own : ℕ) (f : Bool) (st : Site) (g : Bool) → way_by None own f st ≡ Some g → ⊥
+no_way own f site.Elsewhere g e = grind (arith, e)
+no_way own f (site.Type s) g e = grind (arith, e)
+no_way own f (site.Value s column alone) g e = grind (arith, e)
+no_way own f (site.Right s r) g e = grind (arith, e)
 
-within_second : (h : Bool) (x y z r : ℕ) → (not h || (nat_le x r && nat_le y r && nat_le z r)) ≡ true → h ≡ true → y ≤ r
-within_second true x y z r e s = grind (arith, e)
-within_second false x y z r e s = absurd (grind (arith, s))
+within_first : (x y z r : ℕ) → (nat_le x r && nat_le y r && nat_le z r) ≡ true → x ≤ r
+within_first x y z r e = grind (arith, e)
 
-within_third : (h : Bool) (x y z r : ℕ) → (not h || (nat_le x r && nat_le y r && nat_le z r)) ≡ true → h ≡ true → z ≤ r
-within_third true x y z r e s = grind (arith, e)
-within_third false x y z r e s = absurd (grind (arith, s))
+within_second : (x y z r : ℕ) → (nat_le x r && nat_le y r && nat_le z r) ≡ true → y ≤ r
+within_second x y z r e = grind (arith, e)
+
+within_third : (x y z r : ℕ) → (nat_le x r && nat_le y r && nat_le z r) ≡ true → z ≤ r
+within_third x y z r e = grind (arith, e)
+
+-- what is needed by a specification has no higher rank than what stands in its parts
+within_rank : {S : Type 0} (m : HashMap Place ℕ S) (n : ℕ) (v : Bool → ℕ) (o : Option ℕ) (own : ℕ) (f : Bool) (st : Site) (g : Bool) (r : ℕ) → ((b : Bool) → HasRank m n (part_of b st) (v b)) → way_by o own f st ≡ Some g → are_within m n o own f r ≡ true → v g ≤ r
+within_rank m n v None own f st g r h e w = absurd (no_way own f st g e)
+within_rank m n v (Some s) own f st g r h e w =
+    let place : Part → ℕ = λ p. bound_of m ((n, s), p) in
+    way_rank m n v s own f st g r h e
+    (within_first (place part.Always) (place (part.Value own)) (place (own_part f)) r w)
+    (within_second (place part.Always) (place (part.Value own)) (place (own_part f)) r w)
+    (within_third (place part.Always) (place (part.Value own)) (place (own_part f)) r w)
 
 pub same_number : (x y : ℕ) → nat_eq x y ≡ true → x ≡ y
 same_number x y e = grind (arith, e)
@@ -118,17 +131,11 @@ pub needed_rank : {S T : Type 0} (m : HashMap Place ℕ S) (ranks : HashMap (ℕ
 needed_rank m ranks a x y r covers within e =
     let there = needed_way (way_of a x) (source_of a.meaning) y e in
     let from = needed_source_of (way_of a x) (source_of a.meaning) y e in
-    let own = has_source x.it.it in
-    let mine = if_so_holds (own && nat_eq a.file x.it.file) (way x.it.it x.full a.it.site) y.full there in
-    let goes : way x.it.it x.full a.it.site ≡ Some y.full = if_so_value (own && nat_eq a.file x.it.file) (way x.it.it x.full a.it.site) y.full there in
-    let sourced : own ≡ true = both_left own (nat_eq a.file x.it.file) mine in
-    let file : a.file ≡ x.it.file = same_number a.file x.it.file (both_right own (nat_eq a.file x.it.file) mine) in
-    let place : Part → ℕ = λ p. bound_of m ((x.it.file, x.it.it.source), p) in
-    let one = within_first own (place part.Always) (place (part.Value x.it.it.column)) (place (own_part x.full)) r within sourced in
-    let two = within_second own (place part.Always) (place (part.Value x.it.it.column)) (place (own_part x.full)) r within sourced in
-    let three = within_third own (place part.Always) (place (part.Value x.it.it.column)) (place (own_part x.full)) r within sourced in
+    let mine = if_so_holds (nat_eq a.file x.it.file) (way x.it.it x.full a.it.site) y.full there in
+    let goes : way x.it.it x.full a.it.site ≡ Some y.full = if_so_value (nat_eq a.file x.it.file) (way x.it.it x.full a.it.site) y.full there in
+    let file : a.file ≡ x.it.file = same_number a.file x.it.file mine in
     let ranked : (b : Bool) → HasRank m x.it.file (part_of b a.it.site) (rank_of ranks y.it.file y.it.it.name b) = λ b. subst (λ n. HasRank m n (part_of b a.it.site) (rank_of ranks y.it.file y.it.it.name b)) file (covers y.it b from) in
-    way_rank m x.it.file (rank_of ranks y.it.file y.it.it.name) x.it.it x.full a.it.site y.full r ranked goes one two three
+    within_rank m x.it.file (rank_of ranks y.it.file y.it.it.name) x.it.it.source x.it.it.column x.full a.it.site y.full r ranked goes within
 
 -- ---- all needs
 
@@ -212,13 +219,13 @@ pub none_among : {S T : Type 0} (m : HashMap Place ℕ S) (ranks : HashMap (ℕ 
 none_among m ranks d [] one h low = refl
 none_among m ranks d (y ∷ ys) one h low = ap (λ b. b || is_among d ys) (other_by ranks d y (is_same d y.it) refl one h low.0.low) ∙ none_among m ranks d ys one h low.1
 
-above_first : (x y : ℕ) (b : Bool) → (nat_le 1 x && nat_le x y && b) ≡ true → 1 ≤ x
+pub above_first : (x y : ℕ) (b : Bool) → (nat_le 1 x && nat_le x y && b) ≡ true → 1 ≤ x
 above_first x y b e = grind (arith, e)
 
-above_second : (x y : ℕ) (b : Bool) → (nat_le 1 x && nat_le x y && b) ≡ true → x ≤ y
+pub above_second : (x y : ℕ) (b : Bool) → (nat_le 1 x && nat_le x y && b) ≡ true → x ≤ y
 above_second x y b e = grind (arith, e)
 
-above_third : (c b : Bool) → (c && b) ≡ true → b ≡ true
+pub above_third : (c b : Bool) → (c && b) ≡ true → b ≡ true
 above_third c b e = both_right c b e
 
 pub not_itself : {S T : Type 0} (m : HashMap Place ℕ S) (ranks : HashMap (ℕ × ℕ) Rank T) (asks : List Asked) (k : ℕ) (d : Found) → CoversAll m ranks asks → are_ranked m ranks asks ≡ true → is_above m ranks d ≡ true → needs_itself asks k d ≡ false

@@ -1,6 +1,6 @@
 -- Circles of names, by which a declaration needs itself.
 use Rattle.std.specs.Prelude.{ℕ, Bool, false, ◌&&◌, nat_le, List, [], ◌∷◌, length, slice_get, Option, Some, None}
-use Rattle.go_tree.specs.Meanings.{Found}
+use Rattle.go_tree.specs.Declarations.{Found}
 use Rattle.go_tree.specs.Lookups.{Asked}
 use Rattle.go_tree.specs.Needs.{Needed, is_same}
 use Rattle.go_cycles.specs.Needs.{needed_by}

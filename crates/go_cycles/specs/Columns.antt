@@ -2,7 +2,7 @@
 use Rattle.std.specs.Prelude.{◌≡◌, ℕ, ◌⊎◌, Bool, true, false, ◌&&◌, nat_eq, List, [], ◌∷◌, Option, Some, None}
 use Rattle.std.specs.HashMap.{HashMap}
 use Rattle.std.specs.HashMap as hash
-use Rattle.go_tree.specs.Meanings.{Found}
+use Rattle.go_tree.specs.Declarations.{Found}
 use Rattle.go_tree.specs.Lookups.{Asked}
 use Rattle.go_tree.specs.Needs.{is_same}
 use Rattle.go_lookup.specs.Tables.{same_spot}
@@ -19,10 +19,15 @@ pub record AreAlike (asks : List Asked) : Type 0 where
   pub specification : (d e : Found) → IsSource d asks → IsSource e asks → is_same d e ≡ true → d.it.source ≡ e.it.source
   pub column : (d e : Found) → IsSource d asks → IsSource e asks → is_same d e ≡ true → d.it.column ≡ e.it.column
 
+abbrev pub same_source : Option ℕ → Option ℕ → Bool
+same_source None None = true
+same_source (Some m) (Some n) = nat_eq m n
+same_source m n = false
+
 -- whether this is the column of the declaration
 abbrev pub is_column : Option Column → Found → Bool
 is_column None d = false
-is_column (Some c) d = nat_eq c.specification d.it.source && nat_eq c.number d.it.column
+is_column (Some c) d = same_source c.specification d.it.source && nat_eq c.number d.it.column
 
 abbrev pub is_listed : {S : Type 0} → HashMap (ℕ × ℕ) Column S → Found → Bool
 is_listed m d = is_column (hash.get same_spot m (d.file, d.it.name)) d

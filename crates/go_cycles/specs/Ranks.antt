@@ -2,15 +2,14 @@
 --
 -- A declaration that needs only ones of lower ranks doesn't need itself. What it needs in a part of its own is compared
 -- with the greatest rank of all that stands in that part.
-use Rattle.std.specs.Prelude.{◌≡◌, ℕ, ◌≤◌, ◌-◌, Bool, true, false, ◌&&◌, ◌||◌, not, nat_le, List, [], ◌∷◌, Option, Some, None, unwrap_or}
+use Rattle.std.specs.Prelude.{◌≡◌, ℕ, ◌≤◌, ◌-◌, Bool, true, false, ◌&&◌, nat_le, List, [], ◌∷◌, Option, Some, None, unwrap_or}
 use Rattle.std.specs.HashMap.{HashMap}
 use Rattle.std.specs.HashMap as hash
 use Rattle.go_tree.specs.declared.context.Site.{Site}
 use Rattle.go_tree.specs.declared.context.Site.TheVariants as site
 use Rattle.go_tree.specs.declared.context.Reach.TheVariants as reach
-use Rattle.go_tree.specs.Meanings.{Found}
+use Rattle.go_tree.specs.Declarations.{Found}
 use Rattle.go_tree.specs.Lookups.{Asked}
-use Rattle.go_tree.specs.Needs.{has_source}
 use Rattle.go_lookup.specs.Tables.{same_spot}
 use Rattle.go_cycles.specs.Needs.{source_of}
 use Rattle.go_cycles.specs.declared.ranks.Rank.{Rank}
@@ -64,9 +63,14 @@ abbrev pub own_part : Bool → Part
 own_part true = part.Full
 own_part false = part.Partial
 
+-- whether what stands in the parts of a declaration's specification has no higher rank than r
+abbrev pub are_within : {S : Type 0} → HashMap Place ℕ S → ℕ → Option ℕ → ℕ → Bool → ℕ → Bool
+are_within m n None column f r = true
+are_within m n (Some s) column f r = nat_le (bound_of m ((n, s), part.Always)) r && nat_le (bound_of m ((n, s), part.Value column)) r && nat_le (bound_of m ((n, s), own_part f)) r
+
 -- whether what the declaration needs has no higher rank than r
 abbrev pub is_within : {S : Type 0} → HashMap Place ℕ S → Found → Bool → ℕ → Bool
-is_within m d f r = not (has_source d.it) || (nat_le (bound_of m ((d.file, d.it.source), part.Always)) r && nat_le (bound_of m ((d.file, d.it.source), part.Value d.it.column)) r && nat_le (bound_of m ((d.file, d.it.source), own_part f)) r)
+is_within m d f r = are_within m d.file d.it.source d.it.column f r
 
 -- The bounds have the rank v in the part of the file n, if there is a part.
 abbrev pub HasRank : {S : Type 0} → HashMap Place ℕ S → ℕ → Option (ℕ × Part) → ℕ → Type 0

@@ -2,7 +2,7 @@
 
 ghost use Rattle.std.specs.Prelude.{◌≡◌, true, IfOk, map};
 ghost use Rattle.go_lookup.specs.Views.{found_view, asked_view};
-ghost use Rattle.go_cycles.specs.Columns.{AreAlike, is_listed, are_listed};
+ghost use Rattle.go_cycles.specs.Columns.{AreAlike, same_source, is_listed, are_listed};
 
 use crate::needs::source_of;
 use go_lookup::asked::Asked;
@@ -13,7 +13,7 @@ use std::collections::HashMap;
 /// The specification and the column whose type and value a declaration has.
 #[derive(Clone, Copy, Debug)]
 struct Column {
-    specification: u32,
+    specification: Option<u32>,
     number: usize,
 }
 
@@ -33,6 +33,17 @@ fn columns_of(alloc: Global, declared: &[Found<'_>]) -> Result<Columns, AllocErr
     Ok(columns)
 }
 
+/// Whether two declarations have one specification, or neither has one.
+fn same_source(a: Option<u32>, b: Option<u32>) -> bool
+    ensures { result ≡ same_source a b }
+{
+    match (a, b) {
+        (None, None) => true,
+        (Some(a), Some(b)) => a == b,
+        _ => false,
+    }
+}
+
 /// Whether this is the column of the declaration.
 fn is_listed(columns: &Columns, d: &Found<'_>) -> bool
     ensures { result ≡ is_listed columns.now (found_view d.now) }
@@ -40,7 +51,8 @@ fn is_listed(columns: &Columns, d: &Found<'_>) -> bool
     match columns.get(&(d.file, d.declaration.name)) {
         None => false,
         Some(column) => {
-            column.specification == d.declaration.source && column.number == d.declaration.column
+            same_source(column.specification, d.declaration.source)
+                && column.number == d.declaration.column
         }
     }
 }

@@ -116,12 +116,18 @@ impl Graph {
         self.add_need(a.file, partial_part(site), name, node_of(number, false))
     }
 
-    /// A declaration needs what stands in its parts.
-    fn add_parts(&mut self, number: usize, d: &Found<'_>, full: bool) -> Result<(), AllocError> {
+    /// A declaration needs what stands in the parts of its specification.
+    fn add_parts(
+        &mut self,
+        number: usize,
+        d: &Found<'_>,
+        source: u32,
+        full: bool,
+    ) -> Result<(), AllocError> {
         let node = node_of(number, full);
         let own = if full { Part::Full } else { Part::Partial };
         for part in [Part::Always, Part::Value(d.declaration.column), own] {
-            let place = ((d.file, d.declaration.source), part);
+            let place = ((d.file, source), part);
             if let Some(to) = self.parts.get(&place).copied() {
                 self.add_edge(node, to, Reason::Part)?;
             }
@@ -136,9 +142,9 @@ impl Graph {
             node_of(number, false),
             Reason::Weaker,
         )?;
-        if d.declaration.source != 0 {
-            self.add_parts(number, d, true)?;
-            self.add_parts(number, d, false)?;
+        if let Some(source) = d.declaration.source {
+            self.add_parts(number, d, source, true)?;
+            self.add_parts(number, d, source, false)?;
         }
         Ok(())
     }

@@ -1,8 +1,8 @@
 //! What a declaration needs at once.
 
-ghost use Rattle.std.specs.Prelude.{◌≡◌, ◌&&◌, nat_eq};
+ghost use Rattle.std.specs.Prelude.{◌≡◌};
 ghost use Rattle.std.specs.Option.{option_map};
-ghost use Rattle.go_tree.specs.Needs.{right_way, way, has_source, is_same};
+ghost use Rattle.go_tree.specs.Needs.{right_way, is_source, way, is_same};
 ghost use Rattle.go_cycles.specs.Needs.{source_of, way_of, needed_by};
 ghost use Rattle.go_lookup.specs.Views.{found_view, meaning_view, asked_view};
 ghost use Rattle.go_cycles.specs.Views.{needed_view};
@@ -34,21 +34,31 @@ fn right_way(full: bool, reach: Reach) -> Option<bool>
     }
 }
 
+/// Whether this is the specification of a declaration.
+fn is_source(specification: u32, source: Option<u32>) -> bool
+    ensures { result ≡ is_source specification source }
+{
+    match source {
+        None => false,
+        Some(source) => specification == source,
+    }
+}
+
 /// In which way a declaration needs a name at the site, if it does: in full or not.
 fn way(d: &Declaration, full: bool, site: Site) -> Option<bool>
     ensures { result ≡ way d.now full site }
 {
     match site {
-        Site::Type { specification } if specification == d.source => Some(true),
+        Site::Type { specification } if is_source(specification, d.source) => Some(true),
         Site::Value {
             specification,
             column,
             alone,
-        } if specification == d.source && (column == d.column || alone) => { Some(true) }
+        } if is_source(specification, d.source) && (column == d.column || alone) => { Some(true) }
         Site::Right {
             specification,
             reach,
-        } if specification == d.source => right_way(full, reach),
+        } if is_source(specification, d.source) => right_way(full, reach),
         _ => None,
     }
 }
@@ -63,18 +73,11 @@ pub fn source_of<'a>(meaning: Option<Meaning<'a>>) -> Option<Found<'a>>
     }
 }
 
-/// Whether the name stands in the part of its own in which the declaration needs names.
-fn is_own(d: &Found<'_>, file: u32) -> bool
-    ensures { result ≡ has_source (found_view d.now).it && nat_eq file (found_view d.now).file }
-{
-    d.declaration.source != 0 && file == d.file
-}
-
 /// In which way the declaration needs the name, if it does.
 fn way_of(a: &Asked<'_>, x: &Needed<'_>) -> Option<bool>
     ensures { result ≡ way_of (asked_view a.now) (needed_view x.now) }
 {
-    if is_own(&x.found, a.file) {
+    if a.file == x.found.file {
         way(&x.found.declaration, x.full, a.lookup.site)
     } else {
         None

@@ -152,15 +152,16 @@ pub fn bounds(alloc: Global, lookups: &[Asked<'_>], ranks: &Ranks) -> Result<Bou
 fn is_within(bounds: &Bounds, d: &Found<'_>, full: bool, rank: usize) -> bool
     ensures { result ≡ is_within bounds.now (found_view d.now) full rank }
 {
-    let source = d.declaration.source;
+    let Some(source) = d.declaration.source else {
+        return true;
+    };
     let own = if full { Part::Full } else { Part::Partial };
-    source == 0
-        || (bound_of(bounds, ((d.file, source), Part::Always)) <= rank
-            && bound_of(
-                bounds,
-                ((d.file, source), Part::Value(d.declaration.column)),
-            ) <= rank
-            && bound_of(bounds, ((d.file, source), own)) <= rank)
+    bound_of(bounds, ((d.file, source), Part::Always)) <= rank
+        && bound_of(
+            bounds,
+            ((d.file, source), Part::Value(d.declaration.column)),
+        ) <= rank
+        && bound_of(bounds, ((d.file, source), own)) <= rank
 }
 
 /// Whether a declaration needs none of a higher rank than its own.

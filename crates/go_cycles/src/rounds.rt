@@ -1,6 +1,6 @@
 //! What a declaration needs, what this needs, and so on, by the rounds of the definition.
 
-ghost use Rattle.std.specs.Prelude.{◌≡◌, IfOk, OnOk, map, drop, []};
+ghost use Rattle.std.specs.Prelude.{◌≡◌, ◌∷◌, IfOk, OnOk, map, drop, []};
 ghost use Rattle.go_tree.specs.Needs.{needs, needs_of, is_among, is_known, with_one, with_all, all_needed, needs_itself};
 ghost use Rattle.go_lookup.specs.Views.{found_view, asked_view};
 ghost use Rattle.go_cycles.specs.Views.{needed_view};
@@ -45,8 +45,22 @@ fn push_new<'a>(out: &mut Vec<Needed<'a>>, needed: Needed<'a>) -> Result<(), All
     Ok(())
 }
 
-/// What a declaration needs at once, behind what is there and where it isn't.
+/// What a declaration needs at once by one name, behind what is there and where it isn't.
 #[tactic(auto, using(crate::proofs::AllNeeded::needs_some, crate::proofs::AllNeeded::needs_none))]
+fn push_needed<'a>(
+    out: &mut Vec<Needed<'a>>,
+    a: &Asked<'a>,
+    x: &Needed<'_>,
+) -> Result<(), AllocError>
+    ensures { OnOk result (map needed_view out.new.items ≡ with_all (needs (asked_view a.now ∷ []) (needed_view x.now)) (map needed_view out.old.items)) }
+{
+    match needed_by(a, x) {
+        None => Ok(()),
+        Some(needed) => push_new(out, needed),
+    }
+}
+
+/// What a declaration needs at once, behind what is there and where it isn't.
 fn push_needs<'a>(
     out: &mut Vec<Needed<'a>>,
     lookups: &[Asked<'a>],
@@ -55,9 +69,7 @@ fn push_needs<'a>(
     ensures { OnOk result (map needed_view out.new.items ≡ with_all (needs (map asked_view lookups.now) (needed_view x.now)) (map needed_view out.old.items)) }
 {
     for a in lookups {
-        if let Some(needed) = needed_by(a, x) {
-            push_new(out, needed)?;
-        }
+        push_needed(out, a, x)?;
     }
     Ok(())
 }

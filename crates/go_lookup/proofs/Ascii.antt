@@ -3,7 +3,7 @@ use Rattle.std.proofs.Common.{◌≡◌, ℕ, suc, true, false, List, [], ◌∷
 use Rattle.std.specs.Str.{IsAscii, IsNotAscii}
 use Rattle.std.proofs.lemmas.Bool.{and_parts, and_from, ltb-true, lt-ltb, cases_Bool}
 use Rattle.std.proofs.lemmas.Str.Ascii.{IsAscii-nil, IsAscii-cons}
-use Rattle.go_tree.specs.Meanings.{is_ascii}
+use Rattle.go_tree.specs.Imports.{is_ascii}
 
 pub is_ascii-reads : (bs : List ℕ) → is_ascii bs ≡ true → IsAscii bs
 is_ascii-reads [] h = IsAscii-nil

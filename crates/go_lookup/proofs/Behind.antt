@@ -12,8 +12,9 @@ use Rattle.go_tree.specs.declared.context.Manner.TheVariants as manner
 use Rattle.go_tree.specs.declared.event.Event.{Event}
 use Rattle.go_tree.specs.declared.event.Event.TheVariants as event
 use Rattle.go_tree.specs.Contexts.{is_package}
-use Rattle.go_tree.specs.Meanings.{Place, Found, found_in, found_from, found, is_function, is_blank, may_be_reused, is_reused, is_new, new_among, declarations}
-use Rattle.go_tree.specs.Meanings as names
+use Rattle.go_tree.specs.Units.{Place, is_blank}
+use Rattle.go_tree.specs.Declarations.{Found, found_in, found_from, found, is_function, may_be_reused, is_reused, is_new, new_among, declarations}
+use Rattle.go_tree.specs.Units as names
 use Rattle.go_tree.specs.Failures.{Failure, failing, place_if, is_earlier, least_from, least}
 use Rattle.go_tree.specs.Clauses.{package_names, imports, is_outside, outside_declarations, missing_bodies}
 use Rattle.go_tree.specs.Faults.{clause_faults}

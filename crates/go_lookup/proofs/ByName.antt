@@ -4,7 +4,8 @@ use Rattle.std.specs.Cmp.Lexicographic.{pointwise}
 use Rattle.std.proofs.lemmas.Bool.Decides.{nat_tests}
 use Rattle.go_tokens.specs.Spellings.{same_text}
 use Rattle.go_tree.specs.declared.object.Extent.{Extent}
-use Rattle.go_tree.specs.Meanings.{Meaning, covers}
+use Rattle.go_tree.specs.Extents.{covers}
+use Rattle.go_tree.specs.Meanings.{Meaning}
 use Rattle.go_names.specs.Scopes.{is_local, inner, inmost, locals_of}
 use Rattle.go_lookup.specs.Named.{named_locals, over_covering, inmost_among}
 

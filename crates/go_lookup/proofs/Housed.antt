@@ -14,8 +14,9 @@ use Rattle.go_tree.specs.declared.event.Event.{Event}
 use Rattle.go_tree.specs.declared.event.Event.TheVariants as event
 use Rattle.go_tree.specs.declared.object.Declared.{Declared}
 use Rattle.go_tree.specs.Contexts.{is_package}
-use Rattle.go_tree.specs.Meanings.{Found, is_function, word, bytes_at, found_in, found_from, found, is_reused, is_new, new_among, declarations}
-use Rattle.go_tree.specs.Meanings as names
+use Rattle.go_tree.specs.Units.{word, bytes_at}
+use Rattle.go_tree.specs.Declarations.{Found, is_function, found_in, found_from, found, is_reused, is_new, new_among, declarations}
+use Rattle.go_tree.specs.Units as names
 use Rattle.go_tree.specs.Failures.{least}
 use Rattle.go_tree.specs.Clauses.{is_outside, outside_declarations}
 use Rattle.go_tree.specs.Faults.{clause_faults}

@@ -10,8 +10,8 @@ use Rattle.go_tree.specs.declared.context.Block.TheVariants as block
 use Rattle.go_tree.specs.declared.context.Entity.{Entity}
 use Rattle.go_tree.specs.declared.context.Entity.TheVariants as entity
 use Rattle.go_tokens.specs.Spellings.{same_text}
-use Rattle.go_tree.specs.Meanings.{are_one_block, same_block, is_variable, is_reused_of, is_reused}
-use Rattle.go_tree.specs.Meanings as names
+use Rattle.go_tree.specs.Declarations.{are_one_block, same_block, is_variable, is_reused_of, is_reused}
+use Rattle.go_tree.specs.Declarations as names
 use Rattle.go_tree.specs.Redeclared.{are_parameters, clashes, has_clash, is_by_define, same_statement, has_new}
 use Rattle.go_lookup.specs.declared.found.Found.{Found}
 use Rattle.go_lookup.specs.Views.{found_view}

@@ -12,8 +12,12 @@ use Rattle.go_tree.specs.declared.object.Declared.{Declared}
 use Rattle.go_tree.specs.declared.object.Object.{Object}
 use Rattle.go_tree.specs.declared.object.Object.TheVariants as object
 use Rattle.go_tree.specs.Contexts.{is_package}
-use Rattle.go_tree.specs.Meanings.{Found, Meaning, Numbers, first_numbers, own_number, behind_shared, numbers_behind, numbered, is_function, word, bytes_at, found_in, found_from, found, is_new, new_among, declarations, declared_meaning, imports_fmt, imported_meaning, imported_from, meanings, own_object, object_at, token_object, token_objects, objects_from, objects}
-use Rattle.go_tree.specs.Meanings as names
+use Rattle.go_tree.specs.Units.{word, bytes_at}
+use Rattle.go_tree.specs.Declarations.{Found, is_function, found_in, found_from, found, is_new, new_among, declarations}
+use Rattle.go_tree.specs.Imports.{imports_fmt}
+use Rattle.go_tree.specs.Meanings.{Meaning, Numbers, first_numbers, own_number, behind_shared, numbers_behind, numbered, declared_meaning, imported_meaning, imported_from, meanings}
+use Rattle.go_tree.specs.Objects.{own_object, object_at, token_object, token_objects, objects_from, objects}
+use Rattle.go_tree.specs.Units as names
 use Rattle.go_tree.specs.Uses.{declared_by, declared_in_package, own_locals, function_locals, uses, object_in, object_of, local_in, declared_as, is_behind, are_behind, are_in_order}
 use Rattle.go_names.specs.Orders.{AreInOrder}
 use Rattle.go_names.specs.Scopes.{AreOrderly}

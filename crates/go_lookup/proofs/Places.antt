@@ -16,8 +16,13 @@ use Rattle.go_tree.specs.declared.object.Object.TheVariants as object
 use Rattle.go_tree.specs.declared.object.Predeclared.{Predeclared}
 use Rattle.go_tree.specs.Contexts.{is_package}
 use Rattle.go_tree.specs.Predeclared.{known_names, known_in}
-use Rattle.go_tree.specs.Meanings.{Found, Meaning, extent_by, extent_of, declared_meaning, Numbers, first_numbers, own_number, behind_shared, numbers_behind, numbered, is_function, word, is_blank, imports_fmt, imported_meaning, imported_from, declarations, meanings, covers, covering, is_innermost, innermost_of, known_object, object_by, object_at, is_declared_at, own_object, token_object, token_objects, objects_from, objects}
-use Rattle.go_tree.specs.Meanings as names
+use Rattle.go_tree.specs.Units.{word, is_blank}
+use Rattle.go_tree.specs.Declarations.{Found, is_function, declarations}
+use Rattle.go_tree.specs.Extents.{extent_by, extent_of, covers}
+use Rattle.go_tree.specs.Imports.{imports_fmt}
+use Rattle.go_tree.specs.Meanings.{Meaning, declared_meaning, Numbers, first_numbers, own_number, behind_shared, numbers_behind, numbered, imported_meaning, imported_from, meanings, covering, is_innermost, innermost_of}
+use Rattle.go_tree.specs.Objects.{known_object, object_by, object_at, is_declared_at, own_object, token_object, token_objects, objects_from, objects}
+use Rattle.go_tree.specs.Units as names
 use Rattle.go_tree.specs.Failures.{least}
 use Rattle.go_tree.specs.Faults.{clause_faults}
 use Rattle.go_tree.specs.Uses.{UsesView, declared_by, declared_in_package, own_locals, function_locals, uses_by, uses, object_there, object_in, object_of, local_in, declared_as, has_declaration, may_mean, count_functions, IsComplete}

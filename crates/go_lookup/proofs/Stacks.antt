@@ -10,7 +10,8 @@ use Rattle.std.specs.HashMap.Eq.{lookup_congr}
 use Rattle.indexmap.specs.IndexMap.{get}
 use Rattle.go_tokens.specs.Spellings.{same_text}
 use Rattle.go_tree.specs.declared.context.Scope.{Scope}
-use Rattle.go_tree.specs.Meanings.{Meaning, covers, lies_inside}
+use Rattle.go_tree.specs.Extents.{covers, lies_inside}
+use Rattle.go_tree.specs.Meanings.{Meaning}
 use Rattle.go_names.specs.Scopes.{is_local, inner, over, otherwise, scope_of}
 use Rattle.go_lookup.specs.declared.scopes.Block.{Block}
 use Rattle.go_lookup.specs.declared.meaning.Meaning as own

@@ -5,7 +5,9 @@ use Rattle.go_tokens.specs.Tokens.{TokenList}
 use Rattle.go_tree.specs.declared.event.Event.{Event}
 use Rattle.go_tree.specs.declared.event.Event.TheVariants as event
 use Rattle.go_tree.specs.declared.object.Object.{Object}
-use Rattle.go_tree.specs.Meanings.{Meaning, word, is_declared_at, own_object, object_at, token_object, token_objects}
+use Rattle.go_tree.specs.Units.{word}
+use Rattle.go_tree.specs.Meanings.{Meaning}
+use Rattle.go_tree.specs.Objects.{is_declared_at, own_object, object_at, token_object, token_objects}
 use Rattle.go_lookup.specs.Tables.{declared_object, over_event}
 
 -- where an object is declared, it is the declaration's own

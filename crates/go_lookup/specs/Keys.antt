@@ -4,8 +4,8 @@ use Rattle.go_tree.specs.declared.context.Entity.{Entity}
 use Rattle.go_tree.specs.declared.context.Entity.TheVariants as entity
 use Rattle.go_tree.specs.declared.context.Block.{Block}
 use Rattle.go_tree.specs.declared.context.Block.TheVariants as block
-use Rattle.go_tree.specs.Meanings.{is_reused}
-use Rattle.go_tree.specs.Meanings as names
+use Rattle.go_tree.specs.Declarations.{is_reused}
+use Rattle.go_tree.specs.Declarations as names
 use Rattle.go_tree.specs.Redeclared.{has_clash, has_new}
 use Rattle.indexmap.specs.IndexMap.{IndexMap, get}
 use Rattle.indexmap.specs.IndexSet.{IndexSet, contains}

@@ -5,7 +5,7 @@ use Rattle.std.specs.Cmp.Lexicographic.{pointwise}
 use Rattle.std.specs.HashMap.{HashMap, get}
 use Rattle.std.specs.declared.vec.Vec.{Vec}
 use Rattle.go_tokens.specs.Spellings.{same_text}
-use Rattle.go_tree.specs.Meanings.{covers}
+use Rattle.go_tree.specs.Extents.{covers}
 use Rattle.go_tree.specs.Meanings as names
 use Rattle.go_names.specs.Scopes.{is_local, is_import, is_package, first_by, inner, inmost, reached, locals_of, AreNested}
 use Rattle.go_lookup.specs.declared.meaning.Meaning.{Meaning}

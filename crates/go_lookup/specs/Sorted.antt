@@ -12,8 +12,10 @@ use Rattle.go_tree.specs.declared.object.Extent.TheVariants as extent
 use Rattle.go_tree.specs.declared.event.Event.{Event}
 use Rattle.go_tree.specs.declared.event.Event.TheVariants as event
 use Rattle.go_tree.specs.Lookups.{Asked, asked_in}
-use Rattle.go_tree.specs.Meanings.{word, meaning_at}
-use Rattle.go_tree.specs.Meanings as names
+use Rattle.go_tree.specs.Units.{word}
+use Rattle.go_tree.specs.Meanings.{meaning_at}
+use Rattle.go_tree.specs.Meanings as meanings
+use Rattle.go_tree.specs.Units as units
 use Rattle.go_names.specs.Orders.{AreInOrder}
 use Rattle.go_names.specs.Scopes.{is_import, is_package, locals_of, first_by, inmost}
 use Rattle.go_lookup.specs.declared.meaning.Meaning.{Meaning}
@@ -39,23 +41,23 @@ abbrev pub same_outer : Outer → Outer → Bool
 same_outer = (outer_eq.ghosts).eq
 
 -- The map has the first meaning of each name in the block of the package and in those of the files.
-abbrev pub KnowsOuter : {S : Type 0} → IndexMap Outer Meaning S → List names.Meaning → Type 0
+abbrev pub KnowsOuter : {S : Type 0} → IndexMap Outer Meaning S → List meanings.Meaning → Type 0
 KnowsOuter m ms = (k : Outer) → option_map meaning_view (index.get same_outer m k) ≡ first_by (in_block k.file) k.name.now ms
 
-abbrev pub items_of : {A : Type 0} → Option (Vec Meaning A) → List names.Meaning
+abbrev pub items_of : {A : Type 0} → Option (Vec Meaning A) → List meanings.Meaning
 items_of None = []
 items_of (Some v) = map meaning_view v.items
 
 -- The map has the local meanings of each file, in order.
-abbrev pub KnowsLocals : {A S : Type 0} → HashMap ℕ (Vec Meaning A) S → List names.Meaning → Type 0
+abbrev pub KnowsLocals : {A S : Type 0} → HashMap ℕ (Vec Meaning A) S → List meanings.Meaning → Type 0
 KnowsLocals m ms = (n : ℕ) → items_of (get nat_eq m n) ≡ locals_of n ms
 
 -- all the meanings
-abbrev pub all_of : Sorted → List names.Meaning
+abbrev pub all_of : Sorted → List meanings.Meaning
 all_of s = map meaning_view s.all.items
 
 -- the local meanings of the file of this number
-abbrev pub file_locals : Sorted → ℕ → List names.Meaning
+abbrev pub file_locals : Sorted → ℕ → List meanings.Meaning
 file_locals s n = locals_of n (all_of s)
 
 pub record IsSorted (s : Sorted) : Type 0 where
@@ -68,42 +70,42 @@ name_of (event.Use u) = Some u.name
 name_of (event.Declaration d) = Some d.name
 name_of e = None
 
-abbrev pub named_meaning : List names.Meaning → ℕ → TokenList → Option ℕ → Option names.Meaning
+abbrev pub named_meaning : List meanings.Meaning → ℕ → TokenList → Option ℕ → Option meanings.Meaning
 named_meaning ms n ts None = None
 named_meaning ms n ts (Some t) = meaning_at ms n t (word ts t)
 
 -- for each event what its name means at its place, if it has one
-abbrev pub event_meanings : List names.Meaning → ℕ → TokenList → List Event → List (Option names.Meaning)
+abbrev pub event_meanings : List meanings.Meaning → ℕ → TokenList → List Event → List (Option meanings.Meaning)
 event_meanings ms n ts es = map (λ e. named_meaning ms n ts (name_of e)) es
 
 -- The name of the event e, if it has one, means m.
-abbrev pub IsNamed : List names.Meaning → ℕ → TokenList → Event → Option Meaning → Type 0
+abbrev pub IsNamed : List meanings.Meaning → ℕ → TokenList → Event → Option Meaning → Type 0
 IsNamed ms n ts e m = option_map meaning_view m ≡ named_meaning ms n ts (name_of e)
 
 -- The names of the events mean what is told of them.
-abbrev pub AreNamed : List names.Meaning → ℕ → TokenList → List Event → List (Option Meaning) → Type 0
+abbrev pub AreNamed : List meanings.Meaning → ℕ → TokenList → List Event → List (Option Meaning) → Type 0
 AreNamed ms n ts es told = map (option_map meaning_view) told ≡ event_meanings ms n ts es
 
 -- the names of a file that are looked up
-abbrev pub unit_asked : List names.Meaning → ℕ → names.Unit → List Asked
+abbrev pub unit_asked : List meanings.Meaning → ℕ → units.Unit → List Asked
 unit_asked ms n u = asked_in ms n u.tokens u.events
 
 -- How a walk along a file stands in front of the events that are left.
-pub record IsUnderway (n : ℕ) (all : List names.Meaning) (es : List Event) (bs : List Block) (left : List names.Meaning) : Type 0 where
+pub record IsUnderway (n : ℕ) (all : List meanings.Meaning) (es : List Event) (bs : List Block) (left : List meanings.Meaning) : Type 0 where
   pub place : ℕ
   pub end : ℕ
   pub order : AreInOrder place end es
   pub sweeps : IsSweeping n place all bs left
 
 -- The blocks say what the local meanings give at the token, if there is one.
-abbrev pub IsReached : ℕ → List names.Meaning → Option ℕ → List Block → Type 0
+abbrev pub IsReached : ℕ → List meanings.Meaning → Option ℕ → List Block → Type 0
 IsReached n all None bs = Unit
 IsReached n all (Some t) bs = (w : Bor (List ℕ)) → said bs t w ≡ inmost n t w.now None all
 
 -- What becomes of the blocks olds and the meanings that are left on the way to the token t.
-abbrev pub Advances : ℕ → List Block → List names.Meaning → List Block → List names.Meaning → Type 0
-Advances t olds left news behind = (n i : ℕ) → (all : List names.Meaning) → i ≤ t → IsSweeping n i all olds left → IsSweeping n t all news behind × BeginBehind t behind
+abbrev pub Advances : ℕ → List Block → List meanings.Meaning → List Block → List meanings.Meaning → Type 0
+Advances t olds left news behind = (n i : ℕ) → (all : List meanings.Meaning) → i ≤ t → IsSweeping n i all olds left → IsSweeping n t all news behind × BeginBehind t behind
 
 -- the same on the way to the token of an event, if it has one
-abbrev pub AdvancesTo : Option ℕ → List Block → List names.Meaning → List Block → List names.Meaning → Type 0
-AdvancesTo t olds left news behind = (n : ℕ) → (all : List names.Meaning) → (e : Event) → (es : List Event) → t ≡ name_of e → IsUnderway n all (e ∷ es) olds left → IsReached n all t news × IsUnderway n all es news behind
+abbrev pub AdvancesTo : Option ℕ → List Block → List meanings.Meaning → List Block → List meanings.Meaning → Type 0
+AdvancesTo t olds left news behind = (n : ℕ) → (all : List meanings.Meaning) → (e : Event) → (es : List Event) → t ≡ name_of e → IsUnderway n all (e ∷ es) olds left → IsReached n all t news × IsUnderway n all es news behind

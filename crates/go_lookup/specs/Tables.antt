@@ -6,8 +6,10 @@ use Rattle.go_tokens.specs.Tokens.{TokenList}
 use Rattle.go_tree.specs.declared.event.Event.{Event}
 use Rattle.go_tree.specs.declared.event.Event.TheVariants as event
 use Rattle.go_tree.specs.declared.object.Object.{Object}
-use Rattle.go_tree.specs.Meanings.{Meaning, word, is_declared_at, own_object, object_at, token_objects}
-use Rattle.go_tree.specs.Meanings as names
+use Rattle.go_tree.specs.Units.{word}
+use Rattle.go_tree.specs.Meanings.{Meaning}
+use Rattle.go_tree.specs.Objects.{is_declared_at, own_object, object_at, token_objects}
+use Rattle.go_tree.specs.Units as names
 use Rattle.go_names.specs.Inside.{LocalsInside, nowhere}
 use Rattle.go_names.specs.Orders.{AreInOrder}
 

@@ -2,8 +2,10 @@
 use Rattle.std.specs.Prelude.{List, map}
 use Rattle.std.specs.Option.{option_map}
 use Rattle.go_base.specs.declared.span.Span.{Span}
-use Rattle.go_tree.specs.Meanings.{Place}
-use Rattle.go_tree.specs.Meanings as names
+use Rattle.go_tree.specs.Units.{Place}
+use Rattle.go_tree.specs.Declarations as declarations
+use Rattle.go_tree.specs.Meanings as meanings
+use Rattle.go_tree.specs.Units as units
 use Rattle.go_tree.specs.Lookups as rules
 use Rattle.go_lookup.specs.declared.unit.Unit.{Unit}
 use Rattle.go_lookup.specs.declared.found.Found.{Found}
@@ -11,23 +13,23 @@ use Rattle.go_lookup.specs.declared.meaning.Meaning.{Meaning}
 use Rattle.go_lookup.specs.declared.meaning.Numbers.{Numbers}
 use Rattle.go_lookup.specs.declared.asked.Asked.{Asked}
 
-abbrev pub unit_view : Unit → names.Unit
+abbrev pub unit_view : Unit → units.Unit
 unit_view u = record { tokens = u.tokens.now; events = u.events.items }
 
-abbrev pub units_view : List Unit → List names.Unit
+abbrev pub units_view : List Unit → List units.Unit
 units_view us = map unit_view us
 
 abbrev pub place_of : Span → Place
 place_of s = record { file = s.file; start = s.start; end = s.end }
 
-abbrev pub found_view : Found → names.Found
+abbrev pub found_view : Found → declarations.Found
 found_view f = record { file = f.file; name = f.name.now; place = place_of f.place; it = f.declaration }
 
-abbrev pub meaning_view : Meaning → names.Meaning
+abbrev pub meaning_view : Meaning → meanings.Meaning
 meaning_view m = record { name = m.name.now; extent = m.extent; object = m.object; source = option_map found_view m.source }
 
 abbrev pub asked_view : Asked → rules.Asked
 asked_view a = record { file = a.file; name = a.name.now; place = place_of a.place; whole = place_of a.whole; selected = a.selected.now; meaning = option_map meaning_view a.meaning; it = a.lookup }
 
-abbrev pub numbers_view : Numbers → names.Numbers
+abbrev pub numbers_view : Numbers → meanings.Numbers
 numbers_view k = record { shared = k.shared; functions = k.functions; local = k.local }

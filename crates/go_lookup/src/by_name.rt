@@ -2,7 +2,10 @@
 
 ghost use Rattle.std.specs.Prelude.{◌≡◌, ◌∷◌, ◌++◌, ◌≤◌, List, [], None, IfOk, OnOk, length, map};
 ghost use Rattle.std.specs.Option.{option_map, option_copied};
-ghost use Rattle.go_tree.specs.Meanings.{covers, declarations, meaning_at, object_at};
+ghost use Rattle.go_tree.specs.Declarations.{declarations};
+ghost use Rattle.go_tree.specs.Extents.{covers};
+ghost use Rattle.go_tree.specs.Meanings.{meaning_at};
+ghost use Rattle.go_tree.specs.Objects.{object_at};
 ghost use Rattle.go_tree.specs.Meanings as meanings;
 ghost use Rattle.go_names.specs.Scopes.{inner, AreOrderly};
 ghost use Rattle.go_lookup.specs.Named.{KnowsNamed, IsNamed, all_meanings, named_locals, over_covering, inmost_among, local_meaning, reached_meaning};

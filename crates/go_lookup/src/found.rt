@@ -2,8 +2,9 @@
 
 ghost use Rattle.std.specs.Prelude.{◌≡◌, ◌≤◌, ◌++◌, List, IfOk, OnOk, length, map};
 ghost use Rattle.std.specs.Option.{option_map};
-ghost use Rattle.go_tree.specs.Meanings.{word, bytes_at, found_in, found, is_variable, is_reused, may_be_reused, is_new, new_among};
-ghost use Rattle.go_tree.specs.Meanings as meanings;
+ghost use Rattle.go_tree.specs.Units.{word, bytes_at};
+ghost use Rattle.go_tree.specs.Declarations.{found_in, found, is_variable, is_reused, may_be_reused, is_new, new_among};
+ghost use Rattle.go_tree.specs.Declarations as rules;
 ghost use Rattle.go_lookup.specs.Views.{unit_view, units_view, found_view};
 ghost use Rattle.go_lookup.specs.Keys.{KnowsVariables};
 
@@ -92,7 +93,7 @@ fn variables<'a>(alloc: Global, all: &[Found<'a>]) -> Result<IndexMap<Key<'a>, u
 
 /// Whether an earlier statement of the block declares the variable.
 fn is_reused(d: &Found<'_>, variables: &IndexMap<Key<'_>, u32>) -> bool
-    ensures { (all : List meanings.Found) → KnowsVariables variables.now all → result ≡ is_reused (found_view d.now) all }
+    ensures { (all : List rules.Found) → KnowsVariables variables.now all → result ≡ is_reused (found_view d.now) all }
 {
     match variables.get(&key_of(d)).copied() {
         None => false,
@@ -112,7 +113,7 @@ fn may_be_reused(manner: Manner) -> bool
 /// Whether the name is declared here: it isn't blank, and no variable before `:=` that is there already (Go specification:
 /// Short variable declarations).
 fn is_new(variables: &IndexMap<Key<'_>, u32>, d: &Found<'_>) -> bool
-    ensures { (all : List meanings.Found) → KnowsVariables variables.now all → result ≡ is_new all (found_view d.now) }
+    ensures { (all : List rules.Found) → KnowsVariables variables.now all → result ≡ is_new all (found_view d.now) }
 {
     !is_blank(d.name) && !(may_be_reused(d.declaration.manner) && is_reused(d, variables))
 }

@@ -1,7 +1,7 @@
 //! Declarations by name and block, and by statement.
 
 ghost use Rattle.std.specs.Prelude.{◌≡◌, ◌++◌, ◌||◌, not, false, [], ◌∷◌, List, unwrap_or, IfOk, OnOk, map};
-ghost use Rattle.go_tree.specs.Meanings as meanings;
+ghost use Rattle.go_tree.specs.Declarations as rules;
 ghost use Rattle.go_lookup.specs.Views.{found_view};
 ghost use Rattle.go_lookup.specs.Keys.{block_of, first_of, key_of, statement_of, is_parameter, KnowsVariables, KnowsNames, KnowsStatements};
 
@@ -68,7 +68,7 @@ fn first_of(name: u32, other: Option<u32>) -> u32
 
 /// Notes a variable: the map has the first token of those of a name and block.
 pub fn add_variable<'a>(variables: &mut IndexMap<Key<'a>, u32>, d: &Found<'a>) -> Result<(), Memory>
-    ensures { OnOk result ((xs : List meanings.Found) → KnowsVariables variables.old xs → KnowsVariables variables.new (xs ++ found_view d.now ∷ [])) }
+    ensures { OnOk result ((xs : List rules.Found) → KnowsVariables variables.old xs → KnowsVariables variables.new (xs ++ found_view d.now ∷ [])) }
 {
     if !is_variable(d.declaration.entity) {
         return Ok(());
@@ -98,7 +98,7 @@ fn is_other(had: Option<bool>, entity: Entity) -> bool
 
 /// Notes a name: the map says of each name and block whether an entity other than a parameter has it.
 pub fn add_name<'a>(names: &mut IndexMap<Key<'a>, bool>, d: &Found<'a>) -> Result<(), Memory>
-    ensures { OnOk result ((xs : List meanings.Found) → KnowsNames names.old xs → KnowsNames names.new (xs ++ found_view d.now ∷ [])) }
+    ensures { OnOk result ((xs : List rules.Found) → KnowsNames names.old xs → KnowsNames names.new (xs ++ found_view d.now ∷ [])) }
 {
     let key = key_of(d);
     let other = is_other(names.get(&key).copied(), d.declaration.entity);
@@ -108,7 +108,7 @@ pub fn add_name<'a>(names: &mut IndexMap<Key<'a>, bool>, d: &Found<'a>) -> Resul
 
 /// Notes a statement that declares a name by `:=`.
 pub fn add_statement(statements: &mut IndexSet<Statement>, d: &Found<'_>) -> Result<(), Memory>
-    ensures { OnOk result ((xs : List meanings.Found) → KnowsStatements statements.old xs → KnowsStatements statements.new (xs ++ found_view d.now ∷ [])) }
+    ensures { OnOk result ((xs : List rules.Found) → KnowsStatements statements.old xs → KnowsStatements statements.new (xs ++ found_view d.now ∷ [])) }
 {
     if is_by_define(d.declaration.manner) {
         statements.insert(statement_of(d))?;

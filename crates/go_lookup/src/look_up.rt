@@ -3,7 +3,9 @@
 ghost use Rattle.std.specs.Prelude.{◌≡◌, ◌≤◌, ℕ, IfOk, length, map};
 ghost use Rattle.go_names.specs.Scopes.{locals_of, AreSwept, AreNested, AreOrderly};
 ghost use Rattle.go_tree.specs.Lookups.{asked_from};
-ghost use Rattle.go_tree.specs.Meanings.{declarations, meanings, objects, objects_from};
+ghost use Rattle.go_tree.specs.Declarations.{declarations};
+ghost use Rattle.go_tree.specs.Meanings.{meanings};
+ghost use Rattle.go_tree.specs.Objects.{objects, objects_from};
 ghost use Rattle.go_lookup.specs.Views.{units_view, found_view, asked_view};
 ghost use Rattle.go_lookup.specs.Sorted.{all_of, IsSorted};
 

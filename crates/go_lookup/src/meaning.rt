@@ -2,7 +2,11 @@
 
 ghost use Rattle.std.specs.Prelude.{◌≡◌, ◌≤◌, ◌<◌, ◌-◌, ◌^◌, ◌++◌, IfOk, OnOk, length, map};
 ghost use Rattle.std.specs.Option.{option_map};
-ghost use Rattle.go_tree.specs.Meanings.{lies_inside, extent_of, first_numbers, own_number, is_function, behind_shared, numbers_behind, numbered, imports_fmt, imported_from, meanings, predeclared_object, object_by};
+ghost use Rattle.go_tree.specs.Declarations.{is_function};
+ghost use Rattle.go_tree.specs.Extents.{lies_inside, extent_of};
+ghost use Rattle.go_tree.specs.Imports.{imports_fmt};
+ghost use Rattle.go_tree.specs.Meanings.{first_numbers, own_number, behind_shared, numbers_behind, numbered, imported_from, meanings};
+ghost use Rattle.go_tree.specs.Objects.{predeclared_object, object_by};
 ghost use Rattle.go_lookup.specs.Views.{unit_view, units_view, found_view, meaning_view, numbers_view};
 
 use crate::found::Found;

@@ -2,7 +2,8 @@
 
 ghost use Rattle.std.specs.Prelude.{◌≡◌, ℕ, List, IfOk, None, length, map, replicate, set};
 ghost use Rattle.std.specs.Option.{option_map};
-ghost use Rattle.go_tree.specs.Meanings.{meaning_at, object_at, own_object};
+ghost use Rattle.go_tree.specs.Meanings.{meaning_at};
+ghost use Rattle.go_tree.specs.Objects.{object_at, own_object};
 ghost use Rattle.go_tree.specs.Meanings as meanings;
 ghost use Rattle.go_lookup.specs.Tables.{Owns, over_event, unit_objects};
 ghost use Rattle.go_lookup.specs.Views.{unit_view, meaning_view};

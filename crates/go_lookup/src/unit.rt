@@ -2,7 +2,8 @@
 
 ghost use Rattle.std.specs.Prelude.{◌≡◌, slice_get, IfOk};
 ghost use Rattle.go_tokens.specs.Spellings.{same_text};
-ghost use Rattle.go_tree.specs.Meanings.{word, bytes_of, bytes_at, is_blank, is_fmt, is_fmt_path, start_in, end_in};
+ghost use Rattle.go_tree.specs.Units.{word, bytes_of, bytes_at, is_blank, is_fmt, start_in, end_in};
+ghost use Rattle.go_tree.specs.Imports.{is_fmt_path};
 ghost use Rattle.go_lookup.specs.Views.{place_of};
 
 use go_base::{Memory, Span};

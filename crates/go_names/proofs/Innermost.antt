@@ -5,7 +5,8 @@ use Rattle.go_tokens.specs.Spellings.{same_text}
 use Rattle.go_tree.specs.declared.context.Scope.{Scope}
 use Rattle.go_tree.specs.declared.object.Extent.{Extent}
 use Rattle.go_tree.specs.declared.object.Extent.TheVariants as extent
-use Rattle.go_tree.specs.Meanings.{Meaning, covers, lies_inside, covering, is_innermost, innermost_of, innermost, meaning_at}
+use Rattle.go_tree.specs.Extents.{covers, lies_inside}
+use Rattle.go_tree.specs.Meanings.{Meaning, covering, is_innermost, innermost_of, innermost, meaning_at}
 use Rattle.go_names.specs.Orders.{Nests}
 use Rattle.go_names.specs.Scopes.{is_local, is_import, is_package, locals_of, first_by, inner, over, inmost, otherwise, reached, scope_of, Each, AreNested}
 

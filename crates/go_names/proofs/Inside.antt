@@ -30,9 +30,9 @@ use Rattle.go_tree.specs.declared.context.Context.{Context}
 use Rattle.go_tree.specs.declared.event.Declaration.{Declaration}
 use Rattle.go_tree.specs.declared.event.Event.{Event}
 use Rattle.go_tree.specs.declared.event.Event.TheVariants as event
-use Rattle.go_tree.specs.Contexts.{is_there, is_package, file_context, enter, role_in, called_in, if_name, if_first, entry_role}
+use Rattle.go_tree.specs.Contexts.{is_there, is_package, file_context, enter, role_in, called_in, if_name, if_first, field_role, key_role, parameter_role, entry_role}
 use Rattle.go_tree.specs.Events.{statement_events, own_events, name_events, function_events, is_more, pass, begin, events, events_of}
-use Rattle.go_tree.specs.Meanings as names
+use Rattle.go_tree.specs.Declarations as names
 use Rattle.go_names.specs.Inside.{function_scope, IsDeclared, IsInside, LocalsInside, nowhere}
 use Rattle.go_names.specs.Orders.{AreInOrder, EachDeclared, IsOuter}
 use Rattle.go_names.proofs.Rising.{behind_name, IsLaidOut, LieIn, derives_laid, parts_order}
@@ -41,18 +41,18 @@ use Rattle.go_names.proofs.Nesting.{each_append, each_map, statement_each, mispl
 use Rattle.go_names.proofs.Outer.{is_outer, is_function, IsOutside, AreOutside, derives_outside, IsOuterContext, own_outer, block_outer, parameters_outer, role_outer, IsNone}
 
 -- the kinds that stand in no function
-abbrev is_top : Kind → Bool
+abbrev pub is_top : Kind → Bool
 is_top kind.File = true
 is_top kind.FunctionDeclaration = true
 is_top k = false
 
 -- the categories that hold none of these
-abbrev has_inner : Category → Bool
+abbrev pub has_inner : Category → Bool
 has_inner category.File = false
 has_inner category.Declaration = false
 has_inner c = true
 
-abbrev all_inner : Rule → Bool
+abbrev pub all_inner : Rule → Bool
 all_inner (End ws) = true
 all_inner (Then ws c r) = has_inner c && all_inner r
 all_inner (Maybe ws c r) = has_inner c && all_inner r
@@ -60,10 +60,10 @@ all_inner (Unless ws c us r) = has_inner c && all_inner r
 all_inner (Many ws l) = has_inner (item l)
 
 abbrev mutual
-  IsInner : Tree → Type 0
+  pub IsInner : Tree → Type 0
   IsInner (node k i j ps) = (is_top k ≡ false) × AreInner ps
 
-  AreInner : Trees → Type 0
+  pub AreInner : Trees → Type 0
   AreInner none = Unit
   AreInner (more p ps) = IsInner p × AreInner ps
   AreInner (skip ps) = AreInner ps
@@ -77,7 +77,7 @@ above_none level.Product = refl
 above_none level.Unary = refl
 above_none level.Primary = refl
 
-true_false : (b : Bool) → b ≡ true → b ≡ false → ⊥
+pub true_false : (b : Bool) → b ≡ true → b ≡ false → ⊥
 true_false true e f = cc
 true_false false e f = cc
 
@@ -101,14 +101,14 @@ inner_kind kind.File c e h = absurd (no_file c e h)
 inner_kind kind.FunctionDeclaration c e h = absurd (no_function c e h)
 inner_kind k c e h = refl
 
-rule_inner : (p : Place) (k : Kind) → is_top k ≡ false → all_inner (rule p k) ≡ true
+pub rule_inner : (p : Place) (k : Kind) → is_top k ≡ false → all_inner (rule p k) ≡ true
 rule_inner p kind.File e = cc
 rule_inner p (kind.Specification sort.Constant) e = refl
 rule_inner p (kind.Specification sort.Type) e = refl
 rule_inner p (kind.Specification sort.Variable) e = refl
 rule_inner p k e = refl
 
-function_rule : (p : Place) (k : Kind) → is_function k ≡ true → all_inner (rule p k) ≡ true
+pub function_rule : (p : Place) (k : Kind) → is_function k ≡ true → all_inner (rule p k) ≡ true
 function_rule p kind.FunctionDeclaration e = refl
 function_rule p k e = cc
 
@@ -128,10 +128,10 @@ abbrev mutual
 
 module _ (ts : List TokenKind) where
   mutual
-    derives_inner : (t : Tree) (c : Category) → has_inner c ≡ true → Derives ts c t → IsInner t
+    pub derives_inner : (t : Tree) (c : Category) → has_inner c ≡ true → Derives ts c t → IsInner t
     derives_inner (node k i j ps) c e h = let top : is_top k ≡ false = inner_kind k c e h.0 in (top, spells_inner ps (rule (place_of c) k) i j (rule_inner (place_of c) k top) h.1)
 
-    spells_inner : (ps : Trees) (r : Rule) (i j : ℕ) → all_inner r ≡ true → Spells ts r i ps j → AreInner ps
+    pub spells_inner : (ps : Trees) (r : Rule) (i j : ℕ) → all_inner r ≡ true → Spells ts r i ps j → AreInner ps
     spells_inner none r i j e h = tt
     spells_inner (more p ps) (End ws) i j e h = absurd h
     spells_inner (skip ps) (End ws) i j e h = absurd h
@@ -172,11 +172,11 @@ module _ (ts : List TokenKind) where
     goes_closed (skip ps) l i j h = absurd h
 
 -- what a role declares is no function
-abbrev NamesOther : Role → Type 0
+abbrev pub NamesOther : Role → Type 0
 NamesOther (role.New d) = names.is_function d.entity ≡ false
 NamesOther r = Unit
 
-abbrev IsOther : Declaration → Type 0
+abbrev pub IsOther : Declaration → Type 0
 IsOther d = names.is_function d.entity ≡ false
 
 name_other : (c : Context) (i : ℕ) (r : Role) → NamesOther r → EachDeclared IsOther (name_events c i r)
@@ -211,7 +211,19 @@ entry_other : (named : Bool) (p : Tree) (group : ℕ) (s : Option Scope) → Nam
 entry_other true p group s = if_other p (role.Parameter group s) tt
 entry_other false p group s = tt
 
-role_other : (c : Context) (k : Kind) (i j : ℕ) (named : Bool) (n : ℕ) (p : Tree) → NamesOther c.role → NamesOther (role_in c k i j named n p)
+field_other : (group : Option ℕ) → NamesOther (field_role group)
+field_other None = tt
+field_other (Some g) = tt
+
+key_other : (group : Option ℕ) → NamesOther (key_role group)
+key_other None = tt
+key_other (Some g) = tt
+
+parameter_other : (group : Option ℕ) (s : Option Scope) → NamesOther (parameter_role group s)
+parameter_other None s = tt
+parameter_other (Some g) s = tt
+
+pub role_other : (c : Context) (k : Kind) (i j : ℕ) (named : Bool) (n : ℕ) (p : Tree) → NamesOther c.role → NamesOther (role_in c k i j named n p)
 role_other c (kind.Specification sort.Constant) i j named n p r = first_other n (role.New _) refl
 role_other c (kind.Specification sort.Variable) i j named n p r = first_other n (role.New _) refl
 role_other c kind.Define i j named n p r = first_other n (role.New _) refl
@@ -222,13 +234,13 @@ role_other c kind.ExpressionList i j named n p r = if_other p c.role r
 role_other c kind.Call i j named n p r = first_other n role.Called tt
 role_other c kind.Parenthesized i j named n p r = called_other c.role
 role_other c kind.Selector i j named n p r = if_other p (role.Selected j _) tt
-role_other c kind.Fields i j named n p r = first_other n (role.Field c.group) tt
-role_other c kind.Keyed i j named n p r = first_other n (role.Key c.group) tt
+role_other c kind.Fields i j named n p r = first_other n (field_role c.group) (field_other c.group)
+role_other c kind.Keyed i j named n p r = first_other n (key_role c.group) (key_other c.group)
 role_other c kind.Parameters i j named n p r = entry_other named p i c.parameters
-role_other c kind.Parameter i j named n p r = first_other n (role.Parameter c.group c.parameters) tt
+role_other c kind.Parameter i j named n p r = first_other n (parameter_role c.group c.parameters) (parameter_other c.group c.parameters)
 role_other c k i j named n p r = tt
 
-top_function : (k : Kind) → is_top k ≡ false → is_function k ≡ false
+pub top_function : (k : Kind) → is_top k ≡ false → is_function k ≡ false
 top_function kind.FunctionDeclaration e = e
 top_function k e = refl
 
@@ -237,13 +249,13 @@ outer_function kind.FunctionDeclaration e = let no : false ≡ true = e in absur
 outer_function k e = refl
 
 mutual
-  tree_other : (c : Context) (t : Tree) → IsInner t → NamesOther c.role → EachDeclared IsOther (events c t)
+  pub tree_other : (c : Context) (t : Tree) → IsInner t → NamesOther c.role → EachDeclared IsOther (events c t)
   tree_other c (node k i j ps) x r =
       each_append IsOther (statement_events c.listed i j ++ own_events c k i j ps) (events_of (begin c k) k i j ps 0 ps)
       (each_append IsOther (statement_events c.listed i j) (own_events c k i j ps) (statement_each IsOther c.listed i j) (own_other c k i j ps (top_function k x.0) r))
       (parts_other (begin c k) k i j ps 0 ps x.1 r)
 
-  parts_other : (c : Context) (k : Kind) (i j : ℕ) (ps : Trees) (n : ℕ) (qs : Trees) → AreInner qs → NamesOther c.role → EachDeclared IsOther (events_of c k i j ps n qs)
+  pub parts_other : (c : Context) (k : Kind) (i j : ℕ) (ps : Trees) (n : ℕ) (qs : Trees) → AreInner qs → NamesOther c.role → EachDeclared IsOther (events_of c k i j ps n qs)
   parts_other c k i j ps n none x r = tt
   parts_other c k i j ps n (more p qs) x r =
       each_append IsOther (events (enter c k i j ps (ends_named ps) n p (is_more qs)) p) (events_of (pass c p) k i j ps (suc n) qs)
@@ -252,7 +264,7 @@ mutual
   parts_other c k i j ps n (skip qs) x r = parts_other c k i j ps (suc n) qs x r
 
 -- what holds of the names in order
-each_between : (i j a b : ℕ) (es : List Event) → i ≤ a → b ≤ j → AreInOrder a b es → EachDeclared (λ d. (i ≤ d.name) × (d.name < j)) es
+pub each_between : (i j a b : ℕ) (es : List Event) → i ≤ a → b ≤ j → AreInOrder a b es → EachDeclared (λ d. (i ≤ d.name) × (d.name < j)) es
 each_between i j a b [] x y h = tt
 each_between i j a b (event.Declaration d ∷ es) x y h = ((omega (arith, x, h.0), omega (arith, y, order_grows (suc d.name) b es h.1)), each_between i j (suc d.name) b es (omega (arith, x, h.0)) y h.1)
   where

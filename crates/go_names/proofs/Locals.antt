@@ -10,8 +10,13 @@ use Rattle.go_tree.specs.declared.context.Scope.{Scope}
 use Rattle.go_tree.specs.declared.event.Declaration.{Declaration}
 use Rattle.go_tree.specs.declared.event.Event.{Event}
 use Rattle.go_tree.specs.declared.event.Event.TheVariants as event
-use Rattle.go_tree.specs.Meanings.{Found, Meaning, word, bytes_at, found_in, found_from, found, is_new, new_among, declarations, Numbers, first_numbers, own_number, numbers_behind, numbered, imports_fmt, imported_meaning, imported_from, meanings}
-use Rattle.go_tree.specs.Meanings as names
+use Rattle.go_tree.specs.Units.{word, bytes_at}
+use Rattle.go_tree.specs.Declarations.{Found, found_in, found_from, found, is_new, new_among, declarations}
+use Rattle.go_tree.specs.Imports.{imports_fmt}
+use Rattle.go_tree.specs.Meanings.{Meaning, Numbers, first_numbers, own_number, numbers_behind, numbered, imported_meaning, imported_from, meanings}
+use Rattle.go_tree.specs.Extents as extents
+use Rattle.go_tree.specs.Meanings as meanings
+use Rattle.go_tree.specs.Units as units
 use Rattle.go_names.specs.Orders.{AreInOrder, EachDeclared, Nests, ScopesNest, BeginsAt, BeginsIn, IsFollowed}
 use Rattle.go_names.specs.Scopes.{is_local, locals_of, scope_of, Each, AreNested, token_of, AreSwept, AreOrderly}
 
@@ -38,7 +43,7 @@ module _ (n : ℕ) (all : List Found) where
   one_more : (Q : List Meaning → Type 0) (k : ℕ) (ts : TokenList) (d : Declaration) (ds : List Found) (p : Numbers) → ((p : Numbers) → Q (locals p ds)) → ((i : ℕ) (m : Meaning) (p : Numbers) → nat_eq k n ≡ true → d.block ≡ block.Local i → token_of m.source ≡ d.name → scope_of m.extent ≡ d.scope → Q (m ∷ locals p ds)) → Q (locals p (found_at k ts d ∷ ds))
   one_more Q k ts d ds p f g = by (is_new all (found_at k ts d))
     where
-      in_block : (b : Block) → d.block ≡ b → (m : Meaning) → m.extent ≡ names.extent_by k d.scope b → token_of m.source ≡ d.name → (p : Numbers) → Q (if is_local n m.extent then m ∷ locals p ds else locals p ds)
+      in_block : (b : Block) → d.block ≡ b → (m : Meaning) → m.extent ≡ extents.extent_by k d.scope b → token_of m.source ≡ d.name → (p : Numbers) → Q (if is_local n m.extent then m ∷ locals p ds else locals p ds)
       in_block block.Package e m h t p = subst (λ x. Q (if is_local n x then m ∷ locals p ds else locals p ds)) (sym h) (f p)
       in_block (block.Local i) e m h t p = subst (λ x. Q (if is_local n x then m ∷ locals p ds else locals p ds)) (sym h) (in_file (nat_eq k n) refl)
         where
@@ -47,7 +52,7 @@ module _ (n : ℕ) (all : List Found) where
           in_file false c = f p
 
       by : (b : Bool) → Q (locals_of n (numbered p (if b then found_at k ts d ∷ new_among all ds else new_among all ds)))
-      by true = in_block d.block refl (names.declared_meaning (found_at k ts d) (own_number p d.block)) refl refl (numbers_behind p d.entity d.block)
+      by true = in_block d.block refl (meanings.declared_meaning (found_at k ts d) (own_number p d.block)) refl refl (numbers_behind p d.entity d.block)
       by false = f p
 
   true_false : (b : Bool) → b ≡ true → b ≡ false → ⊥
@@ -89,11 +94,11 @@ module _ (n : ℕ) (all : List Found) where
   own_file k ts (event.Use u ∷ es) rest i j o h g none p = let x = own_file k ts es rest (suc u.name) j o.1 h g none p in (swept_from i (suc u.name) (locals p (found_in k ts es ++ rest)) (omega (arith, o.0)) x.0, x.1)
   own_file k ts (e ∷ es) rest i j o h g none p = own_file k ts es rest i j o h g none p
 
-  later_files : (k : ℕ) (us : List names.Unit) → n < k → (p : Numbers) → locals p (found_from k us) ≡ []
+  later_files : (k : ℕ) (us : List units.Unit) → n < k → (p : Numbers) → locals p (found_from k us) ≡ []
   later_files k [] lt p = refl
   later_files k (u ∷ us) lt p = other_file (λ ms. ms ≡ []) k u.tokens u.events (found_from (suc k) us) (grind (arith, nat_tests)) (later_files (suc k) us (omega (arith, lt))) p
 
-  all_files : (k : ℕ) (us : List names.Unit) → AreOrderly us → (p : Numbers) → AreGood 0 (locals p (found_from k us))
+  all_files : (k : ℕ) (us : List units.Unit) → AreOrderly us → (p : Numbers) → AreGood 0 (locals p (found_from k us))
   all_files k [] h p = (tt, tt)
   all_files k (u ∷ us) h p = by (nat_eq k n) refl (all_files (suc k) us h.1)
     where
@@ -101,7 +106,7 @@ module _ (n : ℕ) (all : List Found) where
       by true c f = own_file k u.tokens u.events (found_from (suc k) us) 0 h.0.end h.0.order h.0.nest h.0.follow (later_files (suc k) us (grind (arith, nat_tests))) p
       by false c f = other_file (AreGood 0) k u.tokens u.events (found_from (suc k) us) c f p
 
-  imports_aside : (k : ℕ) (us : List names.Unit) (ms : List Meaning) → AreGood 0 (locals_of n ms) → AreGood 0 (locals_of n (imported_from k us ++ ms))
+  imports_aside : (k : ℕ) (us : List units.Unit) (ms : List Meaning) → AreGood 0 (locals_of n ms) → AreGood 0 (locals_of n (imported_from k us ++ ms))
   imports_aside k [] ms h = h
   imports_aside k (u ∷ us) ms h = by (imports_fmt u.tokens u.events) (imports_aside (suc k) us ms h)
     where
@@ -109,5 +114,5 @@ module _ (n : ℕ) (all : List Found) where
       by true g = g
       by false g = g
 
-pub locals_good : (us : List names.Unit) → AreOrderly us → (n : ℕ) → AreSwept 0 (locals_of n (meanings us)) × AreNested (locals_of n (meanings us))
+pub locals_good : (us : List units.Unit) → AreOrderly us → (n : ℕ) → AreSwept 0 (locals_of n (meanings us)) × AreNested (locals_of n (meanings us))
 locals_good us h n = imports_aside n (found us) 0 us (numbered first_numbers (declarations us)) (all_files n (found us) 0 us h first_numbers)

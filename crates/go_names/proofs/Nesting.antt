@@ -18,7 +18,7 @@ use Rattle.go_tree.specs.declared.context.Context.{Context}
 use Rattle.go_tree.specs.declared.event.Declaration.{Declaration}
 use Rattle.go_tree.specs.declared.event.Event.{Event}
 use Rattle.go_tree.specs.declared.event.Event.TheVariants as event
-use Rattle.go_tree.specs.Contexts.{is_there, file_context, opens, end_in, enter, role_in, parameters_in, body_scope, called_in, if_name, if_first, entry_role}
+use Rattle.go_tree.specs.Contexts.{is_there, file_context, opens, end_in, enter, role_in, parameters_in, body_scope, called_in, if_name, if_first, field_role, key_role, parameter_role, entry_role}
 use Rattle.go_tree.specs.Events.{statement_events, own_events, name_events, function_events, misplaced, is_default, default_events, second_defaults, is_more, pass, begin, events, events_of}
 use Rattle.go_names.specs.Orders.{EachDeclared, Nests, ScopesNest, BeginsAt, BeginsIn, IsFollowed}
 use Rattle.go_names.proofs.Rising.{behind_name, IsLaidOut, LieIn, laid_grows, lie_order}
@@ -89,14 +89,14 @@ nested_closed : (i j e : ℕ) (es : List Event) → AreNested i j j es → AreNe
 nested_closed i j e es h = record { lie = each_map (Lies i j j) (Lies i j e) es (closed i j e) h.lie; nest = h.nest }
 
 -- No scope but the one that may be given.
-record IsOnly (o : Option Scope) (d : Declaration) : Type 0 where
-  same : Some d.scope ≡ o
-  follows : IsFollowed d
+pub record IsOnly (o : Option Scope) (d : Declaration) : Type 0 where
+  pub same : Some d.scope ≡ o
+  pub follows : IsFollowed d
 
 same_nest : (r s : Scope) → r ≡ s → Nests r s
 same_nest r s e = let f : r.from ≡ s.from = ap (λ x. x.from) e in let t : r.to ≡ s.to = ap (λ x. x.to) e in inr (omega (arith, f), omega (arith, t))
 
-some_is : (r s : Scope) → Some r ≡ Some s → r ≡ s
+pub some_is : (r s : Scope) → Some r ≡ Some s → r ≡ s
 some_is r s e = cc
 
 only_nest : (o : Option Scope) (es : List Event) → EachDeclared (IsOnly o) es → ScopesNest es
@@ -124,22 +124,22 @@ abbrev pub ScopeGives : Option Scope → Option Scope → Type 0
 ScopeGives o None = Unit
 ScopeGives o (Some s) = Some s ≡ o
 
-abbrev IsValue : Entity → Type 0
+abbrev pub IsValue : Entity → Type 0
 IsValue entity.Type = ⊥
 IsValue entity.Function = ⊥
 IsValue e = Unit
 
-abbrev RoleGives : Option Scope → Role → Type 0
+abbrev pub RoleGives : Option Scope → Role → Type 0
 RoleGives o (role.New d) = (Some d.scope ≡ o) × IsValue d.entity
 RoleGives o (role.Parameter g s) = ScopeGives o s
 RoleGives o r = Unit
 
 -- The scope begins at the token j or behind it.
-abbrev BeginsBehind : Option Scope → ℕ → Type 0
+abbrev pub BeginsBehind : Option Scope → ℕ → Type 0
 BeginsBehind None j = Unit
 BeginsBehind (Some s) j = (j ≤ s.from) × (s.from ≤ s.to)
 
-behind_less : (o : Option Scope) (j k : ℕ) → k ≤ j → BeginsBehind o j → BeginsBehind o k
+pub behind_less : (o : Option Scope) (j k : ℕ) → k ≤ j → BeginsBehind o j → BeginsBehind o k
 behind_less None j k le h = tt
 behind_less (Some s) j k le h = (omega (arith, h.0, le), h.1)
 
@@ -182,7 +182,7 @@ second_each Q b none = tt
 second_each Q b (skip ps) = second_each Q b ps
 second_each Q b (more p ps) = each_append Q (default_events (is_default (kind_of p)) b (first p)) (second_defaults (b || is_default (kind_of p)) ps) (default_each Q (is_default (kind_of p)) b (first p)) (second_each Q (b || is_default (kind_of p)) ps)
 
-own_only : (o : Option Scope) (c : Context) (k : Kind) (i j : ℕ) (ps : Trees) → layer k ≡ Holding → i < j → BeginsBehind o j → RoleGives o c.role → EachDeclared (IsOnly o) (own_events c k i j ps)
+pub own_only : (o : Option Scope) (c : Context) (k : Kind) (i j : ℕ) (ps : Trees) → layer k ≡ Holding → i < j → BeginsBehind o j → RoleGives o c.role → EachDeclared (IsOnly o) (own_events c k i j ps)
 own_only o c kind.FunctionDeclaration i j ps x lt h g = let no : Function ≡ Holding = x in absurd cc
 own_only o c (kind.Specification s) i j ps x lt h g = let no : NamingLayer ≡ Holding = x in absurd cc
 own_only o c kind.DeclaredName i j ps x lt h g = name_only o c i j c.role lt h g
@@ -194,8 +194,8 @@ own_only o c kind.Fallthrough i j ps x lt h g = misplaced_each (IsOnly o) c.fall
 own_only o c k i j ps x lt h g = tt
 
 -- what the parts of a node are given
-record Given (o : Option Scope) (c : Context) (k : Kind) (i j : ℕ) (ps : Trees) : Type 0 where
-  pub role : (s n : ℕ) (p : Tree) → RoleGives o (role_in (record c { source = s }) k i j (ends_named ps) n p)
+pub record Given (o : Option Scope) (c : Context) (k : Kind) (i j : ℕ) (ps : Trees) : Type 0 where
+  pub role : (s : Option ℕ) (n : ℕ) (p : Tree) → RoleGives o (role_in (record c { source = s }) k i j (ends_named ps) n p)
   pub parameters : (n : ℕ) (p : Tree) → ScopeGives o (parameters_in c k j ps n p)
 
 if_gives : (o : Option Scope) (p : Tree) (r : Role) → RoleGives o r → RoleGives o (if_name p r)
@@ -213,6 +213,18 @@ entry_gives : (o : Option Scope) (named : Bool) (p : Tree) (group : ℕ) (s : Op
 entry_gives o true p group s h = if_gives o p (role.Parameter group s) h
 entry_gives o false p group s h = tt
 
+field_gives : (o : Option Scope) (group : Option ℕ) → RoleGives o (field_role group)
+field_gives o None = tt
+field_gives o (Some g) = tt
+
+key_gives : (o : Option Scope) (group : Option ℕ) → RoleGives o (key_role group)
+key_gives o None = tt
+key_gives o (Some g) = tt
+
+parameter_gives : (o : Option Scope) (group : Option ℕ) (s : Option Scope) → ScopeGives o s → RoleGives o (parameter_role group s)
+parameter_gives o None s h = tt
+parameter_gives o (Some g) s h = h
+
 role_given : (o : Option Scope) (c : Context) (k : Kind) (i j : ℕ) (named : Bool) (n : ℕ) (p : Tree) → layer k ≡ Holding → RoleGives o c.role → ScopeGives o c.parameters → RoleGives o (role_in c k i j named n p)
 role_given o c (kind.Specification z) i j named n p x r s = let no : NamingLayer ≡ Holding = x in absurd cc
 role_given o c kind.Define i j named n p x r s = let no : NamingLayer ≡ Holding = x in absurd cc
@@ -223,10 +235,10 @@ role_given o c kind.ExpressionList i j named n p x r s = if_gives o p c.role r
 role_given o c kind.Call i j named n p x r s = first_gives o n role.Called tt
 role_given o c kind.Parenthesized i j named n p x r s = called_gives o c.role
 role_given o c kind.Selector i j named n p x r s = if_gives o p (role.Selected j _) tt
-role_given o c kind.Fields i j named n p x r s = first_gives o n (role.Field c.group) tt
-role_given o c kind.Keyed i j named n p x r s = first_gives o n (role.Key c.group) tt
+role_given o c kind.Fields i j named n p x r s = first_gives o n (field_role c.group) (field_gives o c.group)
+role_given o c kind.Keyed i j named n p x r s = first_gives o n (key_role c.group) (key_gives o c.group)
 role_given o c kind.Parameters i j named n p x r s = entry_gives o named p i c.parameters s
-role_given o c kind.Parameter i j named n p x r s = first_gives o n (role.Parameter c.group c.parameters) s
+role_given o c kind.Parameter i j named n p x r s = first_gives o n (parameter_role c.group c.parameters) (parameter_gives o c.group c.parameters s)
 role_given o c k i j named n p x r s = tt
 
 parameters_given : (o : Option Scope) (c : Context) (k : Kind) (j : ℕ) (ps : Trees) (n : ℕ) (p : Tree) → layer k ≡ Holding → ScopeGives o c.parameters → ScopeGives o (parameters_in c k j ps n p)
@@ -234,18 +246,18 @@ parameters_given o c kind.FunctionDeclaration j ps n p x s = let no : Function �
 parameters_given o c kind.FunctionType j ps n p x s = tt
 parameters_given o c k j ps n p x s = s
 
-holding_given : (o : Option Scope) (c : Context) (k : Kind) (i j : ℕ) (ps : Trees) → layer k ≡ Holding → RoleGives o c.role → ScopeGives o c.parameters → Given o c k i j ps
+pub holding_given : (o : Option Scope) (c : Context) (k : Kind) (i j : ℕ) (ps : Trees) → layer k ≡ Holding → RoleGives o c.role → ScopeGives o c.parameters → Given o c k i j ps
 holding_given o c k i j ps x r s = record { role = λ z n p. role_given o (record c { source = z }) k i j (ends_named ps) n p x r s; parameters = λ n p. parameters_given o c k j ps n p x s }
 
 mutual
   -- a tree without declarations declares what its role gives
-  plain_only : (o : Option Scope) (c : Context) (t : Tree) → IsPlain t → IsLaidOut t → BeginsBehind o (last t) → RoleGives o c.role → ScopeGives o c.parameters → EachDeclared (IsOnly o) (events c t)
+  pub plain_only : (o : Option Scope) (c : Context) (t : Tree) → IsPlain t → IsLaidOut t → BeginsBehind o (last t) → RoleGives o c.role → ScopeGives o c.parameters → EachDeclared (IsOnly o) (events c t)
   plain_only o c (node k i j ps) x h b r s =
       each_append (IsOnly o) (statement_events c.listed i j ++ own_events c k i j ps) (events_of (begin c k) k i j ps 0 ps)
       (each_append (IsOnly o) (statement_events c.listed i j) (own_events c k i j ps) (statement_each (IsOnly o) c.listed i j) (own_only o c k i j ps x.0 h.0 b r))
       (parts_only o (begin c k) k i j ps 0 ps (behind_name k i) x.1 h.1 b (holding_given o (begin c k) k i j ps x.0 r s))
 
-  parts_only : (o : Option Scope) (c : Context) (k : Kind) (i j : ℕ) (ps : Trees) (n : ℕ) (qs : Trees) (a : ℕ) → ArePlain qs → LieIn a j qs → BeginsBehind o j → Given o c k i j ps → EachDeclared (IsOnly o) (events_of c k i j ps n qs)
+  pub parts_only : (o : Option Scope) (c : Context) (k : Kind) (i j : ℕ) (ps : Trees) (n : ℕ) (qs : Trees) (a : ℕ) → ArePlain qs → LieIn a j qs → BeginsBehind o j → Given o c k i j ps → EachDeclared (IsOnly o) (events_of c k i j ps n qs)
   parts_only o c k i j ps n none a x h b g = tt
   parts_only o c k i j ps n (more p qs) a x h b g =
       each_append (IsOnly o) (events (enter c k i j ps (ends_named ps) n p (is_more qs)) p) (events_of (pass c p) k i j ps (suc n) qs)
@@ -258,7 +270,7 @@ any_gives o None h = tt
 any_gives o (Some s) h = absurd cc
 
 -- the scope of the names of a specification or a definition
-abbrev behind_scope : ℕ → ℕ → Option Scope
+abbrev pub behind_scope : ℕ → ℕ → Option Scope
 behind_scope j e = Some (record { from = j; to = e })
 
 naming_role : (c : Context) (k : Kind) (i j : ℕ) (named : Bool) (n : ℕ) (p : Tree) → layer k ≡ NamingLayer → RoleGives (behind_scope j c.end) (role_in c k i j named n p)
@@ -278,7 +290,7 @@ naming_parameters o c kind.FunctionDeclaration j ps n p x s = absurd cc
 naming_parameters o c kind.FunctionType j ps n p x s = tt
 naming_parameters o c k j ps n p x s = any_gives o c.parameters s
 
-naming_given : (c : Context) (k : Kind) (i j : ℕ) (ps : Trees) → layer k ≡ NamingLayer → ScopeGives None c.parameters → Given (behind_scope j c.end) c k i j ps
+pub naming_given : (c : Context) (k : Kind) (i j : ℕ) (ps : Trees) → layer k ≡ NamingLayer → ScopeGives None c.parameters → Given (behind_scope j c.end) c k i j ps
 naming_given c k i j ps x s = record { role = λ z n p. naming_role (record c { source = z }) k i j (ends_named ps) n p x; parameters = λ n p. naming_parameters (behind_scope j c.end) c k j ps n p x s }
 
 nested_none : (i j e : ℕ) → AreNested i j e []
@@ -355,11 +367,11 @@ by_layer c kind.Define i j ps e x lt h r s le f hold function = naming_case c ki
 by_layer c kind.DefiningRange i j ps e x lt h r s le f hold function = naming_case c kind.DefiningRange i j ps e refl (layered_naming ps x) lt h s le (f refl)
 by_layer c k i j ps e x lt h r s le f hold function = holding_case c k i j ps e refl lt h r le f (hold refl x)
 
-self_gives : (o : Option Scope) → ScopeGives o o
+pub self_gives : (o : Option Scope) → ScopeGives o o
 self_gives None = tt
 self_gives (Some s) = refl
 
-body_behind : (b : Bool) (i j : ℕ) → i ≤ j → BeginsBehind (body_scope b i j) i
+pub body_behind : (b : Bool) (i j : ℕ) → i ≤ j → BeginsBehind (body_scope b i j) i
 body_behind true i j le = (omega arith, le)
 body_behind false i j le = tt
 
@@ -367,7 +379,7 @@ body_lies : (b : Bool) (a i j : ℕ) → a ≤ i → LiesAt a i j (body_scope b 
 body_lies true a i j le = (le, inr (refl, omega arith))
 body_lies false a i j le = tt
 
-not_both : (b : Bool) → b ≡ true → b ≡ false → ⊥
+pub not_both : (b : Bool) → b ≡ true → b ≡ false → ⊥
 not_both true x y = cc
 not_both false x y = cc
 

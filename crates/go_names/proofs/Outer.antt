@@ -21,7 +21,7 @@ use Rattle.go_tree.specs.declared.context.Role.TheVariants as role
 use Rattle.go_tree.specs.declared.context.Context.{Context}
 use Rattle.go_tree.specs.declared.event.Event.{Event}
 use Rattle.go_tree.specs.declared.event.Event.TheVariants as event
-use Rattle.go_tree.specs.Contexts.{is_there, file_context, block_in, enter, role_in, parameters_in, called_in, if_name, if_first, entry_role}
+use Rattle.go_tree.specs.Contexts.{is_there, file_context, block_in, enter, role_in, parameters_in, called_in, if_name, if_first, field_role, key_role, parameter_role, entry_role}
 use Rattle.go_tree.specs.Events.{statement_events, own_events, name_events, function_events, is_more, pass, begin, events, events_of}
 use Rattle.go_names.specs.Orders.{EachDeclared, IsOuter, begins_function, LocalsFollow}
 use Rattle.go_names.proofs.Rising.{behind_name, IsLaidOut, LieIn, derives_laid}
@@ -274,6 +274,18 @@ entry_outer : (named : Bool) (p : Tree) (group : ℕ) (s : Option Scope) → IsN
 entry_outer true p group s h = if_outer p (role.Parameter group s) h
 entry_outer false p group s h = tt
 
+field_outer : (group : Option ℕ) → IsOuterRole (field_role group)
+field_outer None = tt
+field_outer (Some g) = tt
+
+key_outer : (group : Option ℕ) → IsOuterRole (key_role group)
+key_outer None = tt
+key_outer (Some g) = tt
+
+parameter_outer : (group : Option ℕ) (s : Option Scope) → IsNone s → IsOuterRole (parameter_role group s)
+parameter_outer None s h = tt
+parameter_outer (Some g) s h = h
+
 pub role_outer : (c : Context) (k : Kind) (i j : ℕ) (named : Bool) (n : ℕ) (p : Tree) → IsOuterRole c.role → IsNone c.parameters → IsOuterRole (role_in c k i j named n p)
 role_outer c (kind.Specification sort.Constant) i j named n p r s = first_outer n (role.New _) tt
 role_outer c (kind.Specification sort.Variable) i j named n p r s = first_outer n (role.New _) tt
@@ -285,10 +297,10 @@ role_outer c kind.ExpressionList i j named n p r s = if_outer p c.role r
 role_outer c kind.Call i j named n p r s = first_outer n role.Called tt
 role_outer c kind.Parenthesized i j named n p r s = called_outer c.role
 role_outer c kind.Selector i j named n p r s = if_outer p (role.Selected j _) tt
-role_outer c kind.Fields i j named n p r s = first_outer n (role.Field c.group) tt
-role_outer c kind.Keyed i j named n p r s = first_outer n (role.Key c.group) tt
+role_outer c kind.Fields i j named n p r s = first_outer n (field_role c.group) (field_outer c.group)
+role_outer c kind.Keyed i j named n p r s = first_outer n (key_role c.group) (key_outer c.group)
 role_outer c kind.Parameters i j named n p r s = entry_outer named p i c.parameters s
-role_outer c kind.Parameter i j named n p r s = first_outer n (role.Parameter c.group c.parameters) s
+role_outer c kind.Parameter i j named n p r s = first_outer n (parameter_role c.group c.parameters) (parameter_outer c.group c.parameters s)
 role_outer c k i j named n p r s = tt
 
 -- a function is declared in front of its locals

@@ -4,7 +4,8 @@ use Rattle.std.proofs.lemmas.Bool.Decides.{nat_tests}
 use Rattle.go_tokens.specs.Spellings.{same_text}
 use Rattle.go_tree.specs.declared.object.Extent.{Extent}
 use Rattle.go_tree.specs.declared.object.Extent.TheVariants as extent
-use Rattle.go_tree.specs.Meanings.{Meaning, covers, lies_inside}
+use Rattle.go_tree.specs.Extents.{covers, lies_inside}
+use Rattle.go_tree.specs.Meanings.{Meaning}
 use Rattle.go_names.specs.Scopes.{is_local, locals_of, inner, over, inmost, scope_of, Each, token_of, AreSwept}
 use Rattle.go_names.proofs.Innermost.{inside_self}
 

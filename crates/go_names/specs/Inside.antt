@@ -11,7 +11,7 @@ use Rattle.go_tree.specs.declared.event.Declaration.{Declaration}
 use Rattle.go_tree.specs.declared.event.Event.{Event}
 use Rattle.go_tree.specs.declared.event.Event.TheVariants as event
 use Rattle.go_tree.specs.Contexts.{is_package}
-use Rattle.go_tree.specs.Meanings.{is_function}
+use Rattle.go_tree.specs.Declarations.{is_function}
 
 -- the tokens of the last function, where s are those of the last one in front of the declaration
 abbrev pub function_scope : Declaration → Scope → Scope

@@ -5,8 +5,10 @@ use Rattle.go_tree.specs.declared.context.Scope.{Scope}
 use Rattle.go_tree.specs.declared.object.Extent.{Extent}
 use Rattle.go_tree.specs.declared.object.Extent.TheVariants as extent
 use Rattle.go_tree.specs.declared.event.Event.{Event}
-use Rattle.go_tree.specs.Meanings.{Found, Meaning, covers, lies_inside}
-use Rattle.go_tree.specs.Meanings as names
+use Rattle.go_tree.specs.Declarations.{Found}
+use Rattle.go_tree.specs.Extents.{covers, lies_inside}
+use Rattle.go_tree.specs.Meanings.{Meaning}
+use Rattle.go_tree.specs.Units as names
 use Rattle.go_names.specs.Orders.{AreInOrder, EachDeclared, Nests, ScopesNest, IsFollowed, LocalsFollow}
 
 abbrev pub is_local : ℕ → Extent → Bool

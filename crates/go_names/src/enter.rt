@@ -5,7 +5,7 @@ ghost use Rattle.go_grammar.specs.Grammar as grammar;
 ghost use Rattle.go_grammar.specs.Trees.{kind_of, first, last, parts};
 ghost use Rattle.go_tree.specs.Views.{view, views, part_at, parameter_at};
 ghost use Rattle.go_tree.specs.declared.context.Role.TheVariants as role;
-ghost use Rattle.go_tree.specs.Contexts.{is_there, file_context, opens, block_in, end_in, entity_of, specified, defined, ranged, is_called, called_in, if_name, if_first, entry_role, role_in, element_site, length_site, column_site, values_site, typed_site, function_site, sequence_site, site_in, specification_in, has_values, own_source, source_at, source_in, group_in, body_scope, function_parameters, parameters_in, constant_in, is_package, package_value, typed_initial, initial_in, is_behind_first, listed_in, breaks_in, continues_in, followed_in, falls_in, enter};
+ghost use Rattle.go_tree.specs.Contexts.{is_there, file_context, opens, block_in, end_in, entity_of, specified, defined, ranged, is_called, called_in, if_name, if_first, field_role, key_role, parameter_role, entry_role, role_in, element_site, length_site, column_site, value_site, values_site, typed_site, function_site, sequence_site, site_in, specification_in, has_values, own_source, source_at, source_in, group_in, body_scope, function_parameters, parameters_in, constant_in, is_package, package_value, typed_initial, initial_in, is_behind_first, listed_in, breaks_in, continues_in, followed_in, falls_in, enter};
 ghost use Rattle.go_tree.specs.Events.{begin, pass};
 
 use go_grammar::kind::{Kind, Sort};
@@ -21,10 +21,10 @@ pub fn file_context(end: u32) -> Context
         end,
         role: Role::Operand,
         site: Site::Elsewhere,
-        specification: 0,
-        source: 0,
+        specification: None,
+        source: None,
         column: 0,
-        group: 0,
+        group: None,
         parameters: None,
         constant: false,
         initial: false,
@@ -167,7 +167,7 @@ fn defined(context: &Context, first: u32, last: u32) -> Naming
         manner: Manner::Defined,
         scope: scope_from(context, last),
         statement: first,
-        source: 0,
+        source: None,
     }
 }
 
@@ -180,7 +180,7 @@ fn ranged(context: &Context, first: u32, last: u32) -> Naming
         manner: Manner::Ranged,
         scope: scope_from(context, last),
         statement: first,
-        source: 0,
+        source: None,
     }
 }
 
@@ -218,6 +218,36 @@ fn if_first(number: usize, role: Role) -> Role
     match number {
         0 => role,
         _ => Role::Operand,
+    }
+}
+
+/// What a field's name is for, in a group.
+fn field_role(group: Option<u32>) -> Role
+    ensures { result ≡ field_role group }
+{
+    match group {
+        None => Role::Operand,
+        Some(group) => Role::Field { group },
+    }
+}
+
+/// What a key is for, in a group.
+fn key_role(group: Option<u32>) -> Role
+    ensures { result ≡ key_role group }
+{
+    match group {
+        None => Role::Operand,
+        Some(group) => Role::Key { group },
+    }
+}
+
+/// What a parameter's name is for, in a group.
+fn parameter_role(group: Option<u32>, scope: Option<Scope>) -> Role
+    ensures { result ≡ parameter_role group scope }
+{
+    match group {
+        None => Role::Operand,
+        Some(group) => Role::Parameter { group, scope },
     }
 }
 
@@ -260,26 +290,10 @@ fn role_in(context: &Context, node: &Node, named: bool, number: usize, part: &No
         Kind::Call => if_first(number, Role::Called),
         Kind::Parenthesized => called_in(context.role),
         Kind::Selector => if_name(part, selected(context, last)),
-        Kind::Fields => if_first(
-            number,
-            Role::Field {
-                group: context.group,
-            },
-        ),
-        Kind::Keyed => if_first(
-            number,
-            Role::Key {
-                group: context.group,
-            },
-        ),
+        Kind::Fields => if_first(number, field_role(context.group)),
+        Kind::Keyed => if_first(number, key_role(context.group)),
         Kind::Parameters => entry_role(named, part, first, context.parameters),
-        Kind::Parameter => if_first(
-            number,
-            Role::Parameter {
-                group: context.group,
-                scope: context.parameters,
-            },
-        ),
+        Kind::Parameter => if_first(number, parameter_role(context.group, context.parameters)),
         _ => Role::Operand,
     }
 }
@@ -365,10 +379,20 @@ fn is_alone(parts: &[Option<Node>]) -> bool
 fn values_site(context: &Context, values: &Node) -> Site
     ensures { result ≡ values_site context.now (view values.now) }
 {
-    Site::Value {
-        specification: context.specification,
-        column: 0,
-        alone: is_alone(values.parts()),
+    value_site(context.specification, is_alone(values.parts()))
+}
+
+/// Where the values of this specification stand.
+fn value_site(specification: Option<u32>, alone: bool) -> Site
+    ensures { result ≡ value_site specification alone }
+{
+    match specification {
+        None => Site::Elsewhere,
+        Some(specification) => Site::Value {
+            specification,
+            column: 0,
+            alone,
+        },
     }
 }
 
@@ -428,11 +452,11 @@ fn site_in(context: &Context, node: &Node, number: usize, part: &Node) -> Site
 }
 
 /// The specification that a part is in.
-fn specification_in(context: &Context, kind: Kind, first: u32) -> u32
+fn specification_in(context: &Context, kind: Kind, first: u32) -> Option<u32>
     ensures { result ≡ specification_in context.now kind first }
 {
     match kind {
-        Kind::Specification(_) => first,
+        Kind::Specification(_) => Some(first),
         _ => context.specification,
     }
 }
@@ -448,7 +472,7 @@ fn has_values(sort: Sort, node: &Node) -> bool
 }
 
 /// The specification whose values a constant has at a part and behind it.
-fn source_at(context: &Context, part: &Node) -> u32
+fn source_at(context: &Context, part: &Node) -> Option<u32>
     ensures { result ≡ source_at context.now (view part.now) }
 {
     match part.kind() {
@@ -458,35 +482,35 @@ fn source_at(context: &Context, part: &Node) -> u32
 }
 
 /// The specification whose values a specification has: itself, or else an earlier one.
-fn own_source(source: u32, sort: Sort, part: &Node) -> u32
+fn own_source(source: Option<u32>, sort: Sort, part: &Node) -> Option<u32>
     ensures { result ≡ own_source source sort (first (view part.now)) (parts (view part.now)) }
 {
     if has_values(sort, part) {
-        part.first()
+        Some(part.first())
     } else {
         source
     }
 }
 
 /// The specification whose values a constant has in front of a node's parts: none in a new declaration.
-fn source_in(context: &Context, kind: Kind) -> u32
+fn source_in(context: &Context, kind: Kind) -> Option<u32>
     ensures { result ≡ source_in context.now kind }
 {
     match kind {
-        Kind::Declaration(_) => 0,
+        Kind::Declaration(_) => None,
         _ => context.source,
     }
 }
 
 /// The struct type, composite literal or list of parameters around a part.
-fn group_in(context: &Context, kind: Kind, first: u32) -> u32
+fn group_in(context: &Context, kind: Kind, first: u32) -> Option<u32>
     ensures { result ≡ group_in context.now kind first }
 {
     match kind {
-        Kind::StructType => first,
-        Kind::Composite => first,
-        Kind::LiteralValue => first,
-        Kind::Parameters => first,
+        Kind::StructType => Some(first),
+        Kind::Composite => Some(first),
+        Kind::LiteralValue => Some(first),
+        Kind::Parameters => Some(first),
         _ => context.group,
     }
 }

@@ -73,7 +73,7 @@ fn parameter_declared(name: u32, scope: Scope) -> Event
         block: Block::Local(scope.from),
         scope,
         statement: name,
-        source: 0,
+        source: None,
         column: 0,
     })
 }
@@ -127,7 +127,7 @@ fn function_declared(first: u32, last: u32) -> Event
             to: last,
         },
         statement: first,
-        source: first,
+        source: Some(first),
         column: 0,
     })
 }
@@ -168,7 +168,7 @@ fn type_declared(context: &Context, first: u32) -> Event
         block: context.block,
         scope: scope_from(context, first),
         statement: first,
-        source: first,
+        source: Some(first),
         column: 0,
     })
 }

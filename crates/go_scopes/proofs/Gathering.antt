@@ -9,7 +9,7 @@ use Rattle.go_tokens.specs.Spellings.{same_text}
 use Rattle.go_tree.specs.declared.event.Member.{Member}
 use Rattle.go_tree.specs.declared.event.Event.{Event}
 use Rattle.go_tree.specs.declared.event.Event.TheVariants as event
-use Rattle.go_tree.specs.Meanings.{word}
+use Rattle.go_tree.specs.Units.{word}
 use Rattle.go_tree.specs.Duplicates.{same_member, has_member}
 
 pub same_text-pointwise : (a b : List ℕ) → pointwise nat_eq a b ≡ same_text b a

@@ -3,7 +3,7 @@ use Rattle.std.proofs.Common.{◌≡◌, ◌∙◌, refl, sym, ap, ℕ, suc, Boo
 use Rattle.go_base.specs.declared.fault.FaultCode.{FaultCode}
 use Rattle.go_tokens.specs.Tokens.{TokenList}
 use Rattle.go_tree.specs.declared.event.Event.{Event}
-use Rattle.go_tree.specs.Meanings.{Unit, Place}
+use Rattle.go_tree.specs.Units.{Unit, Place}
 use Rattle.go_tree.specs.Failures.{Failure, fault, place_if, of_files, earlier, least_from}
 use Rattle.go_scopes.specs.Noted.{noted}
 

@@ -1,6 +1,9 @@
 pub mod Gathering
 pub mod Least
 pub mod LookupRules
+pub mod MovedMeanings
+pub mod NamePlaces
+pub mod Numbering
 pub mod Orderly
 pub mod Seconds
 pub mod Statements

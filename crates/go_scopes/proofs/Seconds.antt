@@ -5,7 +5,7 @@ use Rattle.go_tokens.specs.Tokens.{TokenList}
 use Rattle.go_base.specs.declared.fault.FaultCode.{FaultCode}
 use Rattle.go_tree.specs.declared.event.Event.{Event}
 use Rattle.go_tree.specs.declared.event.Event.TheVariants as event
-use Rattle.go_tree.specs.Meanings.{Place, word, bytes_at}
+use Rattle.go_tree.specs.Units.{Place, word, bytes_at}
 use Rattle.go_tree.specs.Failures.{Failure}
 use Rattle.go_tree.specs.Duplicates.{is_duplicate, member_place, second_members}
 use Rattle.go_scopes.specs.Noted.{noted}

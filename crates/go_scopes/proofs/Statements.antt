@@ -1,7 +1,7 @@
 -- Of the statements of several files, those behind the first ones.
 use Rattle.std.proofs.Common.{◌≡◌, ℕ, zero, suc, ◌+◌, ◌∙◌, List, [], ◌∷◌, ◌++◌, Some, length, drop, slice_get, ap, sym, arith}
 use Rattle.std.proofs.Math.Seq.{drop-append-add}
-use Rattle.go_tree.specs.Meanings.{Place}
+use Rattle.go_tree.specs.Units.{Place}
 use Rattle.go_tree.specs.Branches.{first_place}
 
 pub first_behind : (a b : List Place) (n : ℕ) (s : Place) → slice_get a n ≡ Some s → first_place (drop n (a ++ b)) ≡ s ∷ []

@@ -5,7 +5,7 @@ use Rattle.go_tokens.specs.Tokens.{TokenList}
 use Rattle.go_tree.specs.declared.event.Event.{Event}
 use Rattle.go_tree.specs.declared.event.Event.TheVariants as event
 use Rattle.go_tree.specs.declared.event.Member.TheVariants as member
-use Rattle.go_tree.specs.Meanings.{word, bytes_at}
+use Rattle.go_tree.specs.Units.{word, bytes_at}
 use Rattle.go_tree.specs.Duplicates.{is_duplicate}
 use Rattle.go_tree.specs.Repeated.{NamePlace, place_if, parameter_place, parameters_in}
 

@@ -1,6 +1,7 @@
 -- A name uses the declaration at the place that it notes, and no other.
 use Rattle.std.proofs.Common.{◌≡◌, ℕ, refl, ap, ◌∙◌, Bool, true, false, ◌&&◌, Option, Some, None, not, arith}
-use Rattle.go_tree.specs.Meanings.{Found, Meaning}
+use Rattle.go_tree.specs.Declarations.{Found}
+use Rattle.go_tree.specs.Meanings.{Meaning}
 use Rattle.go_tree.specs.Lookups.{Asked, means, is_assigned}
 use Rattle.go_lookup.specs.Tables.{same_spot}
 use Rattle.go_scopes.specs.Used.{source_spot, meaning_spot, unless, used_spot, uses}

@@ -2,6 +2,8 @@ pub mod Decided
 pub mod Gathered
 pub mod LookupRules
 pub mod Noted
+pub mod Numbering
 pub mod Resolve
+pub mod SecondMembers
 pub mod Used
 pub mod Views

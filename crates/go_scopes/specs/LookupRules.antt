@@ -2,7 +2,7 @@
 use Rattle.std.specs.Prelude.{Bool, ◌&&◌, List}
 use Rattle.go_base.specs.declared.fault.FaultCode.{FaultCode}
 use Rattle.go_base.specs.declared.fault.FaultCode.TheVariants as code
-use Rattle.go_tree.specs.Meanings.{Place}
+use Rattle.go_tree.specs.Units.{Place}
 use Rattle.go_tree.specs.Lookups.{Asked, object_asked, lacks_meaning, undeclared, is_unknown, outside_names, is_import, is_other_member, outside_members, is_no_call, not_called, is_initial, initialisers}
 use Rattle.go_scopes.specs.declared.lookups.LookupRule.{LookupRule}
 use Rattle.go_scopes.specs.declared.lookups.LookupRule.TheVariants as rule

@@ -6,7 +6,7 @@ use Rattle.go_tree.specs.File.{FileTree}
 use Rattle.go_tree.specs.Views.{view}
 use Rattle.go_tree.specs.Contexts.{file_context}
 use Rattle.go_tree.specs.Events.{events}
-use Rattle.go_tree.specs.Meanings.{Unit}
+use Rattle.go_tree.specs.Units.{Unit}
 use Rattle.go_scopes.specs.declared.error.ResolveError.{ResolveError}
 use Rattle.go_scopes.specs.declared.error.ResolveError.TheVariants as errors
 

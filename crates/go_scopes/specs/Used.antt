@@ -2,7 +2,8 @@
 use Rattle.std.specs.Prelude.{ℕ, ◌≡◌, Bool, true, false, ◌&&◌, ◌||◌, not, nat_eq, List, Option, Some, None}
 use Rattle.std.specs.HashSet.{HashSet}
 use Rattle.std.specs.HashSet as set
-use Rattle.go_tree.specs.Meanings.{Found, Meaning}
+use Rattle.go_tree.specs.Declarations.{Found}
+use Rattle.go_tree.specs.Meanings.{Meaning}
 use Rattle.go_tree.specs.Lookups.{Asked, object_asked, is_assigned, means, is_used, is_import, uses_import}
 use Rattle.go_lookup.specs.Tables.{same_spot}
 

@@ -3,7 +3,7 @@
 ghost use Rattle.std.specs.Prelude.{◌≡◌, ◌≤◌, ◌+◌, suc, IfOk, None, length, map, codes};
 ghost use Rattle.std.specs.Option.{option_map};
 ghost use Rattle.go_base.specs.declared.fault.FaultCode.{FaultCode};
-ghost use Rattle.go_tree.specs.Meanings.{bytes_at};
+ghost use Rattle.go_tree.specs.Units.{bytes_at};
 ghost use Rattle.go_tree.specs.Failures.{least};
 ghost use Rattle.go_tree.specs.Faults.{clause_faults_by};
 ghost use Rattle.go_tree.specs.Clauses.{first_name, other_names, package_names, imports, is_outside, outside_declarations, declares, is_spelled, is_read_byte, missing_bodies};

@@ -5,7 +5,7 @@ ghost use Rattle.std.specs.Option.{option_map};
 ghost use Rattle.go_base.specs.declared.fault.FaultCode.{FaultCode};
 ghost use Rattle.go_tokens.specs.Tokens.{TokenList};
 ghost use Rattle.go_tree.specs.declared.event.Event.{Event};
-ghost use Rattle.go_tree.specs.Meanings.{word};
+ghost use Rattle.go_tree.specs.Units.{word};
 ghost use Rattle.go_tree.specs.Duplicates.{is_duplicate, member_place, duplicates};
 ghost use Rattle.go_lookup.specs.Views.{units_view};
 ghost use Rattle.go_scopes.specs.Gathered.{Gathers};

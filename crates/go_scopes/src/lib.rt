@@ -12,6 +12,7 @@ mod duplicates;
 pub mod error;
 mod failure;
 mod file_rule;
+pub mod laws;
 mod lookups;
 mod members;
 pub mod names;

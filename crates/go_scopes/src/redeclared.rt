@@ -3,7 +3,7 @@
 ghost use Rattle.std.specs.Prelude.{◌≡◌, ◌≤◌, ◌&&◌, not, nat_eq, [], List, IfOk, length, map};
 ghost use Rattle.std.specs.Option.{option_map};
 ghost use Rattle.go_base.specs.declared.fault.FaultCode.{FaultCode};
-ghost use Rattle.go_tree.specs.Meanings as meanings;
+ghost use Rattle.go_tree.specs.Declarations as rules;
 ghost use Rattle.go_tree.specs.Failures.{of_files};
 ghost use Rattle.go_tree.specs.Redeclared.{has_clash, second_declarations, has_import, hidden_imports, second_imports, is_by_define, has_new, none_new, redeclared};
 ghost use Rattle.go_lookup.specs.Views.{units_view, found_view};
@@ -27,7 +27,7 @@ use std::alloc::Global;
 
 /// Whether the block has the name already.
 pub fn has_clash(d: &Found<'_>, names: &IndexMap<Key<'_>, bool>) -> bool
-    ensures { (before : List meanings.Found) → KnowsNames names.now before → result ≡ has_clash (found_view d.now) before }
+    ensures { (before : List rules.Found) → KnowsNames names.now before → result ≡ has_clash (found_view d.now) before }
 {
     match names.get(&key_of(d)).copied() {
         None => false,
@@ -122,14 +122,14 @@ fn statements(alloc: Global, declared: &[Found<'_>]) -> Result<IndexSet<Statemen
 
 /// Whether the `:=` declares a name.
 fn has_new(d: &Found<'_>, statements: &IndexSet<Statement>) -> bool
-    ensures { (declared : List meanings.Found) → KnowsStatements statements.now declared → result ≡ has_new (found_view d.now) declared }
+    ensures { (declared : List rules.Found) → KnowsStatements statements.now declared → result ≡ has_new (found_view d.now) declared }
 {
     statements.contains(&statement_of(d))
 }
 
 /// Whether it is the first name before a `:=` that declares none.
 fn lacks_new(d: &Found<'_>, statements: &IndexSet<Statement>) -> bool
-    ensures { (declared : List meanings.Found) → KnowsStatements statements.now declared → result ≡ (is_by_define d.now.declaration.manner && nat_eq d.now.declaration.column 0 && not (has_new (found_view d.now) declared)) }
+    ensures { (declared : List rules.Found) → KnowsStatements statements.now declared → result ≡ (is_by_define d.now.declaration.manner && nat_eq d.now.declaration.column 0 && not (has_new (found_view d.now) declared)) }
 {
     is_by_define(d.declaration.manner) && d.declaration.column == 0 && !has_new(d, statements)
 }
@@ -165,7 +165,7 @@ pub fn redeclared(
     all: &[Found<'_>],
 ) -> Result<Option<Fault>, Memory>
     requires few { length units.now ≤ 256 }
-    requires all { map found_view all.now ≡ meanings.found (units_view units.now) }
+    requires all { map found_view all.now ≡ rules.found (units_view units.now) }
     ensures { IfOk result (λ f. option_map failure_of f ≡ noted (option_map failure_of found) FaultCode.Redeclared (redeclared (units_view units.now) (map found_view declared.now))) }
 {
     let seconds = second_declarations(alloc, found, declared)?;

@@ -7,7 +7,7 @@ ghost use Rattle.go_names.specs.Inside.{LocalsInside, nowhere};
 ghost use Rattle.go_names.specs.Orders.{AreInOrder};
 ghost use Rattle.go_names.specs.Scopes.{IsOrderly, AreOrderly};
 ghost use Rattle.go_lookup.specs.Tables.{AreCounted, AreInside};
-ghost use Rattle.go_tree.specs.Meanings.{found};
+ghost use Rattle.go_tree.specs.Declarations.{found};
 ghost use Rattle.go_tree.specs.Failures.{least, least_from};
 ghost use Rattle.go_tree.specs.Faults.{lookup_faults, unused_faults, placed_faults, name_faults_by, reported};
 ghost use Rattle.go_tree.specs.Uses.{uses};

@@ -3,7 +3,7 @@ use Rattle.std.specs.Prelude.{ℕ, List, [], ◌∷◌, drop}
 use Rattle.go_tokens.specs.Tokens.{TokenList}
 use Rattle.go_tree.specs.declared.event.Event.{Event}
 use Rattle.go_tree.specs.declared.event.Event.TheVariants as event
-use Rattle.go_tree.specs.Meanings.{Unit, Place, bytes_of}
+use Rattle.go_tree.specs.Units.{Unit, Place, bytes_of}
 use Rattle.go_tree.specs.Failures.{of_files}
 
 -- Break, Continue and Fallthrough statements

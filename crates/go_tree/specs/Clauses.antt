@@ -8,7 +8,9 @@ use Rattle.go_tree.specs.declared.context.Block.{Block}
 use Rattle.go_tree.specs.declared.event.Event.{Event}
 use Rattle.go_tree.specs.declared.event.Event.TheVariants as event
 use Rattle.go_tree.specs.Contexts.{is_package}
-use Rattle.go_tree.specs.Meanings.{Unit, Place, word, is_blank, bytes_at, Found, is_fmt_path}
+use Rattle.go_tree.specs.Units.{Unit, Place, word, is_blank, bytes_at}
+use Rattle.go_tree.specs.Declarations.{Found}
+use Rattle.go_tree.specs.Imports.{is_fmt_path}
 use Rattle.go_tree.specs.Failures.{place_if, of_files}
 
 -- Package clause: the name isn't blank, and that of the first file.

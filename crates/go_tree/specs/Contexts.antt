@@ -30,7 +30,24 @@ is_there (Some p) = true
 
 -- the context of a whole file
 abbrev pub file_context : ℕ → Context
-file_context end = record { block = block.Package; end = end; role = role.Operand; site = site.Elsewhere; specification = 0; source = 0; column = 0; group = 0; parameters = None; constant = false; initial = false; listed = false; breaks = false; continues = false; followed = false; falls = false }
+file_context end = record {
+  block = block.Package;
+  end = end;
+  role = role.Operand;
+  site = site.Elsewhere;
+  specification = None;
+  source = None;
+  column = 0;
+  group = None;
+  parameters = None;
+  constant = false;
+  initial = false;
+  listed = false;
+  breaks = false;
+  continues = false;
+  followed = false;
+  falls = false;
+}
 
 -- Blocks: each block, each clause, and each if, for and switch statement with its header
 abbrev pub opens : Kind → Bool
@@ -59,11 +76,11 @@ specified c s i j = record { entity = entity_of s; manner = manner.Declared; sco
 
 -- What the names before `:=` are declared as: variables, in scope behind the statement
 abbrev pub defined : Context → ℕ → ℕ → Naming
-defined c i j = record { entity = entity.Variable; manner = manner.Defined; scope = record { from = j; to = c.end }; statement = i; source = 0 }
+defined c i j = record { entity = entity.Variable; manner = manner.Defined; scope = record { from = j; to = c.end }; statement = i; source = None }
 
 -- and behind the operand of a `range`
 abbrev pub ranged : Context → ℕ → ℕ → Naming
-ranged c i j = record { entity = entity.Variable; manner = manner.Ranged; scope = record { from = j; to = c.end }; statement = i; source = 0 }
+ranged c i j = record { entity = entity.Variable; manner = manner.Ranged; scope = record { from = j; to = c.end }; statement = i; source = None }
 
 abbrev pub is_called : Role → Bool
 is_called role.Called = true
@@ -80,6 +97,19 @@ if_name p r = if is_name (kind_of p) then r else role.Operand
 abbrev pub if_first : ℕ → Role → Role
 if_first zero r = r
 if_first (suc n) r = role.Operand
+
+-- A name is a field, a key or a parameter in a group alone.
+abbrev pub field_role : Option ℕ → Role
+field_role None = role.Operand
+field_role (Some group) = role.Field group
+
+abbrev pub key_role : Option ℕ → Role
+key_role None = role.Operand
+key_role (Some group) = role.Key group
+
+abbrev pub parameter_role : Option ℕ → Option Scope → Role
+parameter_role None scope = role.Operand
+parameter_role (Some group) scope = role.Parameter group scope
 
 -- A name that is an entry of the parameters is a parameter where these have names, and a type where they have none.
 abbrev pub entry_role : Bool → Tree → ℕ → Option Scope → Role
@@ -98,10 +128,10 @@ role_in c kind.ExpressionList i j named n p = if_name p c.role
 role_in c kind.Call i j named n p = if_first n role.Called
 role_in c kind.Parenthesized i j named n p = called_in c.role
 role_in c kind.Selector i j named n p = if_name p (role.Selected j (is_called c.role))
-role_in c kind.Fields i j named n p = if_first n (role.Field c.group)
-role_in c kind.Keyed i j named n p = if_first n (role.Key c.group)
+role_in c kind.Fields i j named n p = if_first n (field_role c.group)
+role_in c kind.Keyed i j named n p = if_first n (key_role c.group)
 role_in c kind.Parameters i j named n p = entry_role named p i c.parameters
-role_in c kind.Parameter i j named n p = if_first n (role.Parameter c.group c.parameters)
+role_in c kind.Parameter i j named n p = if_first n (parameter_role c.group c.parameters)
 role_in c k i j named n p = role.Operand
 
 -- Declared names of slice elements and function types don't count in some cases; those of an array's length always do.
@@ -118,8 +148,13 @@ abbrev pub column_site : ℕ → Site → Site
 column_site n (site.Value d m alone) = site.Value d n alone
 column_site n s = s
 
+-- values of a specification
+abbrev pub value_site : Option ℕ → Bool → Site
+value_site None alone = site.Elsewhere
+value_site (Some s) alone = site.Value s 0 alone
+
 abbrev pub values_site : Context → Tree → Site
-values_site c p = site.Value c.specification 0 (nat_eq (count (parts p)) 1)
+values_site c p = value_site c.specification (nat_eq (count (parts p)) 1)
 
 abbrev pub sequence_site : Context → Trees → ℕ → Site
 sequence_site c ps zero = length_site c.site
@@ -147,35 +182,35 @@ site_in c kind.SequenceType i ps n p = sequence_site c ps n
 site_in c kind.FunctionType i ps n p = element_site false c.site
 site_in c k i ps n p = c.site
 
-abbrev pub specification_in : Context → Kind → ℕ → ℕ
-specification_in c (kind.Specification s) i = i
+abbrev pub specification_in : Context → Kind → ℕ → Option ℕ
+specification_in c (kind.Specification s) i = Some i
 specification_in c k i = c.specification
 
 abbrev pub has_values : Sort → Trees → Bool
 has_values sort.Constant ps = is_there (part_at ps 1)
 has_values s ps = true
 
-abbrev pub own_source : ℕ → Sort → ℕ → Trees → ℕ
-own_source source s i ps = if has_values s ps then i else source
+abbrev pub own_source : Option ℕ → Sort → ℕ → Trees → Option ℕ
+own_source source s i ps = if has_values s ps then Some i else source
 
-abbrev pub source_of : ℕ → Kind → ℕ → Trees → ℕ
+abbrev pub source_of : Option ℕ → Kind → ℕ → Trees → Option ℕ
 source_of source (kind.Specification s) i ps = own_source source s i ps
 source_of source k i ps = source
 
 -- The specification whose values a constant has, at the part and behind it
-abbrev pub source_at : Context → Tree → ℕ
+abbrev pub source_at : Context → Tree → Option ℕ
 source_at c p = source_of c.source (kind_of p) (first p) (parts p)
 
 -- and in front of a declaration's parts, where there is none
-abbrev pub source_in : Context → Kind → ℕ
-source_in c (kind.Declaration s) = 0
+abbrev pub source_in : Context → Kind → Option ℕ
+source_in c (kind.Declaration s) = None
 source_in c k = c.source
 
-abbrev pub group_in : Context → Kind → ℕ → ℕ
-group_in c kind.StructType i = i
-group_in c kind.Composite i = i
-group_in c kind.LiteralValue i = i
-group_in c kind.Parameters i = i
+abbrev pub group_in : Context → Kind → ℕ → Option ℕ
+group_in c kind.StructType i = Some i
+group_in c kind.Composite i = Some i
+group_in c kind.LiteralValue i = Some i
+group_in c kind.Parameters i = Some i
 group_in c k i = c.group
 
 abbrev pub body_scope : Bool → ℕ → ℕ → Option Scope
@@ -250,4 +285,21 @@ falls_in c k b = false
 
 -- The context of a part.
 abbrev pub enter : Context → Kind → ℕ → ℕ → Trees → Bool → ℕ → Tree → Bool → Context
-enter c k i j ps named n p b = record { block = block_in c k i; end = end_in c k j; role = role_in c k i j named n p; site = site_in c k i ps n p; specification = specification_in c k i; source = source_at c p; column = n; group = group_in c k i; parameters = parameters_in c k j ps n p; constant = constant_in c k; initial = initial_in c k n; listed = listed_in k n; breaks = breaks_in c k; continues = continues_in c k; followed = followed_in k b; falls = falls_in c k b }
+enter c k i j ps named n p b = record {
+  block = block_in c k i;
+  end = end_in c k j;
+  role = role_in c k i j named n p;
+  site = site_in c k i ps n p;
+  specification = specification_in c k i;
+  source = source_at c p;
+  column = n;
+  group = group_in c k i;
+  parameters = parameters_in c k j ps n p;
+  constant = constant_in c k;
+  initial = initial_in c k n;
+  listed = listed_in k n;
+  breaks = breaks_in c k;
+  continues = continues_in c k;
+  followed = followed_in k b;
+  falls = falls_in c k b;
+}

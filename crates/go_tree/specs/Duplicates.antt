@@ -7,7 +7,7 @@ use Rattle.go_tree.specs.declared.event.Member.{Member}
 use Rattle.go_tree.specs.declared.event.Member.TheVariants as member
 use Rattle.go_tree.specs.declared.event.Event.{Event}
 use Rattle.go_tree.specs.declared.event.Event.TheVariants as event
-use Rattle.go_tree.specs.Meanings.{Unit, Place, word, is_blank, bytes_at}
+use Rattle.go_tree.specs.Units.{Unit, Place, word, is_blank, bytes_at}
 use Rattle.go_tree.specs.Failures.{place_if, of_files}
 
 abbrev pub same_member : Member → Member → Bool

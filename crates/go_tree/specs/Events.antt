@@ -27,7 +27,7 @@ used c name = event.Use (record { name = name; role = c.role; site = c.site; con
 
 -- A parameter is declared in the block of the body.
 abbrev pub parameter_declared : ℕ → Scope → Event
-parameter_declared name s = event.Declaration (record { name = name; entity = entity.Parameter; manner = manner.Declared; block = block.Local s.from; scope = s; statement = name; source = 0; column = 0 })
+parameter_declared name s = event.Declaration (record { name = name; entity = entity.Parameter; manner = manner.Declared; block = block.Local s.from; scope = s; statement = name; source = None; column = 0 })
 
 abbrev pub parameter_events : ℕ → ℕ → Option Scope → List Event
 parameter_events group name None = event.Member member.Parameter group name ∷ []
@@ -43,7 +43,7 @@ name_events c name r = used c name ∷ []
 
 -- A function is in scope in the whole package.
 abbrev pub function_declared : ℕ → ℕ → Event
-function_declared i j = event.Declaration (record { name = suc i; entity = entity.Function; manner = manner.Declared; block = block.Package; scope = record { from = i; to = j }; statement = i; source = i; column = 0 })
+function_declared i j = event.Declaration (record { name = suc i; entity = entity.Function; manner = manner.Declared; block = block.Package; scope = record { from = i; to = j }; statement = i; source = Some i; column = 0 })
 
 abbrev pub function_events : ℕ → ℕ → Bool → List Event
 function_events i j true = function_declared i j ∷ []
@@ -55,7 +55,7 @@ declaration_events i j ps = if nat_lt i j then function_events i j (is_there (pa
 
 -- A local type is in scope from its name on.
 abbrev pub type_declared : Context → ℕ → Event
-type_declared c i = event.Declaration (record { name = i; entity = entity.Type; manner = manner.Declared; block = c.block; scope = record { from = i; to = c.end }; statement = i; source = i; column = 0 })
+type_declared c i = event.Declaration (record { name = i; entity = entity.Type; manner = manner.Declared; block = c.block; scope = record { from = i; to = c.end }; statement = i; source = Some i; column = 0 })
 
 abbrev pub misplaced : Bool → ℕ → ℕ → List Event
 misplaced true i j = []

@@ -6,7 +6,7 @@ use Rattle.go_base.specs.declared.fault.FaultCode.{FaultCode}
 use Rattle.go_base.specs.Fault.{code_number}
 use Rattle.go_tokens.specs.Tokens.{TokenList}
 use Rattle.go_tree.specs.declared.event.Event.{Event}
-use Rattle.go_tree.specs.Meanings.{Unit, Place}
+use Rattle.go_tree.specs.Units.{Unit, Place}
 
 -- which rule fails, and where
 pub record Failure : Type 0 where

@@ -4,7 +4,9 @@
 -- least place is reported, and of those at one place the one with the least code.
 use Rattle.std.specs.Prelude.{◌+◌, List, ◌++◌, length, Option}
 use Rattle.go_base.specs.declared.fault.FaultCode.TheVariants as code
-use Rattle.go_tree.specs.Meanings.{Unit, Found, found, declarations, meanings}
+use Rattle.go_tree.specs.Units.{Unit}
+use Rattle.go_tree.specs.Declarations.{Found, found, declarations}
+use Rattle.go_tree.specs.Meanings.{meanings}
 use Rattle.go_tree.specs.Failures.{Failure, failing, least, or_else}
 use Rattle.go_tree.specs.Clauses.{package_names, imports, outside_declarations, missing_bodies}
 use Rattle.go_tree.specs.Redeclared.{redeclared}
@@ -22,7 +24,9 @@ clause_faults us = clause_faults_by us (found us)
 
 -- The arguments are the files, their declarations, and the names that are looked up.
 abbrev pub lookup_faults : List Asked → List Failure
-lookup_faults asks = failing code.Undeclared (undeclared asks) ++ failing code.Outside (outside_names asks) ++ failing code.Outside (outside_members asks) ++ failing code.NotAValue (not_called asks) ++ failing code.Initialiser (initialisers asks)
+lookup_faults asks =
+    failing code.Undeclared (undeclared asks) ++ failing code.Outside (outside_names asks) ++ failing code.Outside (outside_members asks)
+    ++ failing code.NotAValue (not_called asks) ++ failing code.Initialiser (initialisers asks)
 
 abbrev pub unused_faults : List Unit → List Found → List Asked → List Failure
 unused_faults us ds asks = failing code.UnusedVariable (unused_variables asks ds) ++ failing code.UnusedImport (unused_imports asks us)

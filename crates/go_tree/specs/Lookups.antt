@@ -15,7 +15,10 @@ use Rattle.go_tree.specs.declared.object.Object.{Object}
 use Rattle.go_tree.specs.declared.object.Object.TheVariants as object
 use Rattle.go_tree.specs.Contexts.{is_package}
 use Rattle.go_tree.specs.Predeclared.{unknown_names}
-use Rattle.go_tree.specs.Meanings.{Unit, Place, word, is_blank, bytes_of, bytes_at, Found, Meaning, meaning_at, object_by, is_declared_at}
+use Rattle.go_tree.specs.Units.{Unit, Place, word, is_blank, bytes_of, bytes_at}
+use Rattle.go_tree.specs.Declarations.{Found}
+use Rattle.go_tree.specs.Meanings.{Meaning, meaning_at}
+use Rattle.go_tree.specs.Objects.{object_by, is_declared_at}
 use Rattle.go_tree.specs.Failures.{place_if, of_files}
 
 -- A name that is looked up: the number of its file, the name and its bytes; and if it is the operand of a selector, the bytes

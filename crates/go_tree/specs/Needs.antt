@@ -10,7 +10,9 @@ use Rattle.go_tree.specs.declared.context.Reach.TheVariants as reach
 use Rattle.go_tree.specs.declared.context.Site.{Site}
 use Rattle.go_tree.specs.declared.context.Site.TheVariants as site
 use Rattle.go_tree.specs.declared.event.Declaration.{Declaration}
-use Rattle.go_tree.specs.Meanings.{Place, Found, Meaning}
+use Rattle.go_tree.specs.Units.{Place}
+use Rattle.go_tree.specs.Declarations.{Found}
+use Rattle.go_tree.specs.Meanings.{Meaning}
 use Rattle.go_tree.specs.Failures.{place_if}
 use Rattle.go_tree.specs.Lookups.{Asked}
 
@@ -30,11 +32,19 @@ abbrev pub if_so : Bool → Option Bool → Option Bool
 if_so true w = w
 if_so false w = None
 
+-- Whether this is the specification of the declaration: no parameter and no variable declared by `:=` has one.
+abbrev pub is_source : ℕ → Option ℕ → Bool
+is_source s None = false
+is_source s (Some n) = nat_eq s n
+
+abbrev pub way_by : Option ℕ → ℕ → Bool → Site → Option Bool
+way_by source own f site.Elsewhere = None
+way_by source own f (site.Type s) = if_so (is_source s source) (Some true)
+way_by source own f (site.Value s column alone) = if_so (is_source s source && (nat_eq column own || alone)) (Some true)
+way_by source own f (site.Right s r) = if_so (is_source s source) (right_way f r)
+
 abbrev pub way : Declaration → Bool → Site → Option Bool
-way d f site.Elsewhere = None
-way d f (site.Type s) = if_so (nat_eq s d.source) (Some true)
-way d f (site.Value s column alone) = if_so (nat_eq s d.source && (nat_eq column d.column || alone)) (Some true)
-way d f (site.Right s r) = if_so (nat_eq s d.source) (right_way f r)
+way d f s = way_by d.source d.column f s
 
 abbrev pub needed_source : Bool → Option Found → List Needed → List Needed
 needed_source f None ns = ns
@@ -45,14 +55,10 @@ needed_meaning None m ns = ns
 needed_meaning (Some f) None ns = ns
 needed_meaning (Some f) (Some m) ns = needed_source f m.source ns
 
--- Whether it has a part in which it needs names: no parameter and no variable declared by `:=` has one.
-abbrev pub has_source : Declaration → Bool
-has_source d = not (nat_eq d.source 0)
-
 -- what a declaration needs at once
 abbrev pub needs : List Asked → Needed → List Needed
 needs [] x = []
-needs (a ∷ asks) x = needed_meaning (if_so (has_source x.it.it && nat_eq a.file x.it.file) (way x.it.it x.full a.it.site)) a.meaning (needs asks x)
+needs (a ∷ asks) x = needed_meaning (if_so (nat_eq a.file x.it.file) (way x.it.it x.full a.it.site)) a.meaning (needs asks x)
 
 abbrev pub is_same : Found → Found → Bool
 is_same d x = nat_eq d.file x.file && nat_eq d.it.name x.it.name

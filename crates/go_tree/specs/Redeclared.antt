@@ -9,7 +9,9 @@ use Rattle.go_tree.specs.declared.context.Manner.TheVariants as manner
 use Rattle.go_tree.specs.declared.event.Event.{Event}
 use Rattle.go_tree.specs.declared.event.Event.TheVariants as event
 use Rattle.go_tree.specs.Contexts.{is_package}
-use Rattle.go_tree.specs.Meanings.{Unit, Place, is_fmt, bytes_at, Found, found, same_block, is_fmt_path, imports_fmt}
+use Rattle.go_tree.specs.Units.{Unit, Place, is_fmt, bytes_at}
+use Rattle.go_tree.specs.Declarations.{Found, found, same_block}
+use Rattle.go_tree.specs.Imports.{is_fmt_path, imports_fmt}
 use Rattle.go_tree.specs.Failures.{place_if, of_files}
 
 -- No name is declared twice in a block. Parameters are told from one another by another rule.

@@ -5,7 +5,8 @@ use Rattle.go_tree.specs.declared.event.Member.TheVariants as member
 use Rattle.go_tree.specs.declared.event.Event.{Event}
 use Rattle.go_tree.specs.declared.event.Event.TheVariants as event
 use Rattle.go_tree.specs.Contexts.{is_package}
-use Rattle.go_tree.specs.Meanings.{Unit, Place, word, is_fmt, bytes_at, Found, declarations}
+use Rattle.go_tree.specs.Units.{Unit, Place, word, is_fmt, bytes_at}
+use Rattle.go_tree.specs.Declarations.{Found, declarations}
 use Rattle.go_tree.specs.Redeclared.{has_clash, has_import}
 use Rattle.go_tree.specs.Duplicates.{is_duplicate}
 

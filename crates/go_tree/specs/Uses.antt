@@ -6,7 +6,9 @@ use Rattle.go_tree.specs.declared.object.Object.{Object}
 use Rattle.go_tree.specs.declared.object.Object.TheVariants as object
 use Rattle.go_tree.specs.declared.object.Declared.{Declared}
 use Rattle.go_tree.specs.Contexts.{is_package}
-use Rattle.go_tree.specs.Meanings.{Unit, Found, declarations, is_function, objects}
+use Rattle.go_tree.specs.Units.{Unit}
+use Rattle.go_tree.specs.Declarations.{Found, declarations, is_function}
+use Rattle.go_tree.specs.Objects.{objects}
 
 -- Of each file, the objects of its tokens; the objects of the package; and the locals of each function. So object.Package n is
 -- the n-th of the package's objects, and object.Local f n the n-th of the locals of the f-th function.

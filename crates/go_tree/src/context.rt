@@ -44,9 +44,9 @@ pub struct Naming {
     pub scope: Scope,
     /// The first token of the statement or specification that declares them.
     pub statement: u32,
-    /// The first token of the specification whose type and values they have, or 0 if there is none. For a constant without
-    /// values it is an earlier one of the same group (Go specification: Constant declarations).
-    pub source: u32,
+    /// The first token of the specification whose type and values they have, if there is one. For a constant without values it
+    /// is an earlier one of the same group (Go specification: Constant declarations).
+    pub source: Option<u32>,
 }
 
 /// What a name that stands here is for.
@@ -115,13 +115,13 @@ pub struct Context {
     /// The part of a declaration.
     pub site: Site,
     /// The specification, if it is in one.
-    pub specification: u32,
-    /// The specification whose values a constant without any has here.
-    pub source: u32,
+    pub specification: Option<u32>,
+    /// The specification whose values a constant without any has here, if there is one.
+    pub source: Option<u32>,
     /// The number of the part in a list of names or values.
     pub column: usize,
-    /// The first token of the struct type, composite literal or list of parameters around it.
-    pub group: u32,
+    /// The first token of the struct type, composite literal or list of parameters around it, if it is in one.
+    pub group: Option<u32>,
     /// The scope of the parameters of the signature, if they have one.
     pub parameters: Option<Scope>,
     /// Whether it is inside a declaration of constants.

@@ -14,8 +14,8 @@ pub struct Declaration {
     pub scope: Scope,
     /// The first token of the statement or specification.
     pub statement: u32,
-    /// The first token of the specification whose type and values it has, or 0.
-    pub source: u32,
+    /// The first token of the specification whose type and values it has, if there is one.
+    pub source: Option<u32>,
     /// Its number among the names that are declared together.
     pub column: usize,
 }

@@ -5,3 +5,4 @@
 
 #[cfg(test)]
 mod names;
+pub mod worked;

@@ -280,6 +280,28 @@ fn cycles(rt: HostRuntime) -> Result<(), Fail> {
     Ok(())
 }
 
+/// Declarations stand behind those that they need.
+#[test]
+fn order(rt: HostRuntime) -> Result<(), Fail> {
+    let alloc = rt.alloc();
+    let mut files = Vec::new(alloc);
+    let text = b"package p\ntype A struct { b B }\ntype B struct { c C }\ntype C int";
+    files.push(file(alloc, 0, text)?)?;
+    let units = units_of(alloc, &files)?;
+    if units.len() > 256 {
+        return Err("a package has at most 256 files".into());
+    }
+    let declared = new_among(alloc, &all_found(alloc, &units)?)?;
+    let asked = look_up(alloc, &units, &declared)?.asked;
+    let mut names = Vec::new(alloc);
+    let sorted = order_of(alloc, &asked, &declared)?.in_order(alloc, &declared)?;
+    for d in sorted.iter().flatten() {
+        names.extend_from_slice(d.name)?;
+    }
+    assert!(rt; names.as_slice() == b"CBA");
+    Ok(())
+}
+
 /// What the name means at a token of a package of one file.
 fn object_at<'a>(
     alloc: Global,

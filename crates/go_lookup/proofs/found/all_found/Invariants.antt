@@ -1,5 +1,5 @@
 use Rattle.std.proofs.Common.{◌≡◌, ◌≤◌, ◌+◌, ◌++◌, length, map}
-use Rattle.go_tree.specs.Meanings.{found, found_from}
+use Rattle.go_tree.specs.Declarations.{found, found_from}
 use Rattle.go_lookup.specs.Views.{units_view, found_view}
 use Rattle.go_lookup.proofs.found.all_found.Given as goal
 

@@ -1,5 +1,5 @@
 use Rattle.std.proofs.Common.{◌≡◌, ◌++◌, length, map}
-use Rattle.go_tree.specs.Meanings.{new_among}
+use Rattle.go_tree.specs.Declarations.{new_among}
 use Rattle.go_lookup.specs.Views.{found_view}
 use Rattle.go_lookup.proofs.found.new_among.Given as goal
 

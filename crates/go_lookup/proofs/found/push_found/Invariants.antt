@@ -1,5 +1,5 @@
 use Rattle.std.proofs.Common.{◌≡◌, ◌++◌, length, map}
-use Rattle.go_tree.specs.Meanings.{found_in}
+use Rattle.go_tree.specs.Declarations.{found_in}
 use Rattle.go_lookup.specs.Views.{found_view}
 use Rattle.go_lookup.proofs.found.push_found.Given as goal
 

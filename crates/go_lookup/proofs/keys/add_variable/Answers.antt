@@ -2,7 +2,7 @@ use Rattle.std.proofs.Common.{◌≡◌, Bool, true, false, ◌&&◌, ◌||◌, 
 use Rattle.std.specs.Prelude.{nat_lt}
 use Rattle.std.specs.HashMap.{get}
 use Rattle.std.specs.HashMap.Eq.{lookup_congr}
-use Rattle.go_tree.specs.Meanings.{is_variable, is_reused}
+use Rattle.go_tree.specs.Declarations.{is_variable, is_reused}
 use Rattle.go_lookup.specs.Views.{found_view}
 use Rattle.go_lookup.specs.Keys.{same_key, key_of, first_of, is_before}
 use Rattle.go_lookup.proofs.Named.{key_laws, one_variable, no_variable, reused_more, variable_step, or_false}

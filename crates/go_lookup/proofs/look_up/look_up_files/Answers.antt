@@ -1,6 +1,6 @@
 use Rattle.std.proofs.Common.{◌≡◌, ◌∙◌, ◌++◌, ◌∷◌, ◌+◌, ◌<◌, suc, Option, List, length, drop, sym, ap, map, append_assoc, subst, arith}
 use Rattle.std.specs.Option.{option_map}
-use Rattle.go_tree.specs.Meanings.{objects_from, token_objects}
+use Rattle.go_tree.specs.Objects.{objects_from, token_objects}
 use Rattle.std.specs.declared.vec.Vec.{Vec}
 use Rattle.go_tree.specs.declared.object.Object.{Object}
 use Rattle.go_lookup.specs.Tables.{Owns}

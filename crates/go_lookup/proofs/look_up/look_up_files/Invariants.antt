@@ -1,5 +1,5 @@
 use Rattle.std.proofs.Common.{◌≡◌, ◌++◌, map, drop}
-use Rattle.go_tree.specs.Meanings.{objects_from}
+use Rattle.go_tree.specs.Objects.{objects_from}
 use Rattle.go_tree.specs.Lookups.{asked_from}
 use Rattle.go_lookup.specs.Views.{units_view, asked_view}
 use Rattle.go_lookup.specs.Sorted.{all_of}

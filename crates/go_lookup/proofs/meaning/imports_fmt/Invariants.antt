@@ -1,5 +1,5 @@
 use Rattle.std.proofs.Common.{◌≡◌, drop}
-use Rattle.go_tree.specs.Meanings.{imports_fmt}
+use Rattle.go_tree.specs.Imports.{imports_fmt}
 use Rattle.go_lookup.proofs.meaning.imports_fmt.Given as goal
 
 abbrev pub invariant-loop-event : goal.invariant-loop-event

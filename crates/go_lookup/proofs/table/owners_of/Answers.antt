@@ -1,6 +1,6 @@
 use Rattle.std.proofs.Common.{arith, ◌≡◌, ◌-◌, ◌&&◌, ◌∷◌, ◌∙◌, ap, map, drop, nat_eq}
 use Rattle.std.specs.Option.{option_map}
-use Rattle.go_tree.specs.Meanings.{is_declared_at}
+use Rattle.go_tree.specs.Objects.{is_declared_at}
 use Rattle.go_lookup.specs.Tables.{declared_object}
 use Rattle.go_lookup.specs.Views.{found_view, meaning_view}
 use Rattle.go_lookup.proofs.Tables.{drop-back, drop-nothing}

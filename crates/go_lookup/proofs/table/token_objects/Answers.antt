@@ -1,7 +1,7 @@
 use Rattle.std.proofs.Common.{rules, arith, ◌≡◌, ◌-◌, ◌<◌, ◌∙◌, ap, sym, length, drop, replicate, Some, None, []}
 use Rattle.std.specs.Prelude.{slice_get}
 use Rattle.std.proofs.Math.Seq.{drop-length}
-use Rattle.go_tree.specs.Meanings.{token_objects}
+use Rattle.go_tree.specs.Objects.{token_objects}
 use Rattle.go_lookup.specs.Tables.{over_event}
 use Rattle.go_lookup.proofs.Tables.{token_objects-none, token_objects-event, drop-back}
 use Rattle.go_lookup.proofs.Told.{get_some}

@@ -1,6 +1,6 @@
 use Rattle.std.proofs.Common.{◌≡◌, List, map, drop, length}
 use Rattle.std.specs.Option.{option_map}
-use Rattle.go_tree.specs.Meanings.{token_objects}
+use Rattle.go_tree.specs.Objects.{token_objects}
 use Rattle.go_tree.specs.Meanings as meanings
 use Rattle.go_lookup.specs.Tables.{Owns}
 use Rattle.go_lookup.specs.Views.{meaning_view}

@@ -2,7 +2,8 @@ use Rattle.std.proofs.Common.{◌≡◌, ◌&&◌, false, true, ap, sym, ◌∙�
 use Rattle.std.specs.Str.{IsAscii}
 use Rattle.std.proofs.lemmas.Str.{IsUtf8-from_ascii, chars-IsAscii}
 use Rattle.go_tokens.specs.Literals.{string_value}
-use Rattle.go_tree.specs.Meanings.{is_ascii, is_fmt, word}
+use Rattle.go_tree.specs.Units.{is_fmt, word}
+use Rattle.go_tree.specs.Imports.{is_ascii}
 use Rattle.go_lookup.proofs.Ascii.{is_ascii-from, is_ascii-not}
 use Rattle.go_lookup.proofs.unit.is_fmt_path.Goals as goal
 

@@ -1,7 +1,7 @@
 use Rattle.std.proofs.Common.{◌≡◌, [], ◌++◌, false, map}
 use Rattle.std.specs.Option.{option_map}
 use Rattle.go_base.specs.declared.fault.FaultCode.TheVariants as code
-use Rattle.go_tree.specs.Meanings.{found}
+use Rattle.go_tree.specs.Declarations.{found}
 use Rattle.go_tree.specs.Failures.{of_files}
 use Rattle.go_tree.specs.Redeclared.{second_declarations, has_import, hidden_imports, second_imports, none_new}
 use Rattle.go_lookup.specs.Views.{units_view, found_view}

@@ -1,6 +1,6 @@
 use Rattle.std.proofs.Common.{◌≡◌, None, map, rules, arith}
 use Rattle.std.proofs.lemmas.Grind.{common_steps}
-use Rattle.go_tree.specs.Meanings.{declarations}
+use Rattle.go_tree.specs.Declarations.{declarations}
 use Rattle.go_tree.specs.Failures.{least}
 use Rattle.go_tree.specs.Faults.{clause_faults}
 use Rattle.go_lookup.specs.Views.{units_view, found_view}

@@ -1,6 +1,6 @@
 use Rattle.std.proofs.Common.{◌≡◌, ◌||◌, drop, map}
 use Rattle.std.specs.HashSet as set
-use Rattle.go_tree.specs.Meanings.{Found}
+use Rattle.go_tree.specs.Declarations.{Found}
 use Rattle.go_tree.specs.Lookups.{is_used}
 use Rattle.go_lookup.specs.Tables.{same_spot}
 use Rattle.go_lookup.specs.Views.{asked_view}
