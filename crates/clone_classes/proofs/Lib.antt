@@ -1,0 +1,4 @@
+mod Examples
+pub mod Groups
+pub mod Pairs
+pub mod Sameness

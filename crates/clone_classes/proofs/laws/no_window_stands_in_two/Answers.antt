@@ -1,0 +1,8 @@
+use Rattle.std.specs.Prelude.{nat_eq}
+use Rattle.clone_classes.specs.Listing.{windows_of_all, are_same}
+use Rattle.clone_classes.proofs.Groups.{no-window-in-two}
+use Rattle.clone_classes.proofs.Sameness.{within, numbers}
+use Rattle.clone_classes.proofs.laws.no_window_stands_in_two.Goals as goal
+
+pub returns : goal.returns
+returns c = λ bounds bodies. no-window-in-two (are_same nat_eq bodies bodies) (within nat_eq numbers bodies) (windows_of_all bounds 0 bodies)

@@ -1,0 +1,46 @@
+//! Laws of sameness and of classes, where the test of identical types is an equivalence.
+
+ghost use Rattle.std.specs.Prelude.{◌≡◌, ℕ, Bool, List, true, nat_eq};
+ghost use Rattle.go_typed.specs.declared.window.Window.{Window as Run};
+ghost use Rattle.clone_window.specs.declared.bounds.Bounds.{Bounds as Limits};
+ghost use Rattle.clone_window.specs.Sameness.{is_one_to_one};
+ghost use Rattle.clone_classes.specs.Classes.{classes, Among, Agree, AllApart, IsEquivalent, Together};
+ghost use Rattle.clone_classes.specs.Listing.{Body, windows_of_all, are_same, listing};
+
+/// Sameness is an equivalence on the windows of a package, whatever equivalence tells identical types.
+pub fn sameness_is_an_equivalence()
+    ensures { (identical : ℕ → ℕ → Bool) → IsEquivalent identical → (bodies : List (Body ℕ)) → IsEquivalent (are_same identical bodies bodies) }
+{}
+
+/// Between packages sameness turns and joins as the tests of identical types do.
+pub fn sameness_between_packages()
+    ensures symmetric { (there back : ℕ → ℕ → Bool) → ((t u : ℕ) → there t u ≡ true → back u t ≡ true) → (here others : List (Body ℕ)) (w v : Run)
+        → are_same there here others w v ≡ true → are_same back others here v w ≡ true }
+    ensures transitive { (first second both : ℕ → ℕ → Bool) → ((t u v : ℕ) → first t u ≡ true → second u v ≡ true → both t v ≡ true)
+        → (one two three : List (Body ℕ)) (w v x : Run) → are_same first one two w v ≡ true → are_same second two three v x ≡ true → are_same both one three w x ≡ true }
+{}
+
+/// Members of a class are windows, and each two of them are the same.
+pub fn members_are_the_same()
+    ensures windows { (bounds : Limits) (bodies : List (Body ℕ)) (class : List Run) → Among (listing nat_eq bounds bodies) class
+        → (w : Run) → Among class w → Among (windows_of_all bounds 0 bodies) w }
+    ensures alike { (bounds : Limits) (bodies : List (Body ℕ)) (class : List Run) → Among (listing nat_eq bounds bodies) class
+        → (w v : Run) → Among class w → Among class v → are_same nat_eq bodies bodies w v ≡ true }
+{}
+
+/// Two windows that are the same stand in one class.
+pub fn the_same_stand_together()
+    ensures { (bounds : Limits) (bodies : List (Body ℕ)) (w v : Run) → (w ≡ v → ⊥) → are_same nat_eq bodies bodies w v ≡ true
+        → Among (windows_of_all bounds 0 bodies) w → Among (windows_of_all bounds 0 bodies) v → Together (listing nat_eq bounds bodies) w v }
+{}
+
+/// No window stands in two classes.
+pub fn no_window_stands_in_two()
+    ensures { (bounds : Limits) (bodies : List (Body ℕ)) → AllApart (listing nat_eq bounds bodies) }
+{}
+
+/// Pairs are one to one exactly where each two of them have one first local just where they have one second local.
+pub fn pairs_are_one_to_one()
+    ensures agree { (pairs : List (ℕ × ℕ)) → is_one_to_one pairs ≡ true → (p q : ℕ × ℕ) → Among pairs p → Among pairs q → Agree p q }
+    ensures only { (pairs : List (ℕ × ℕ)) → ((p q : ℕ × ℕ) → Among pairs p → Among pairs q → Agree p q) → is_one_to_one pairs ≡ true }
+{}

@@ -1,0 +1,7 @@
+mod Examples
+pub mod Opened
+pub mod Equivalence
+pub mod Pairing
+pub mod Runs
+pub mod Sizes
+pub mod Walks

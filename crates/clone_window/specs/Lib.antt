@@ -1,0 +1,5 @@
+pub mod Caps
+pub mod Kinds
+pub mod Masses
+pub mod Windows
+pub mod Sameness
