@@ -1,5 +1,5 @@
 -- What plans ask of a type is told by its group.
-use Rattle.std.proofs.Common.{◌≡◌, ℕ, suc, refl, sym, ap, ◌∙◌, List}
+use Rattle.std.proofs.Common.{◌≡◌, ℕ, refl, sym, ap, List}
 use Rattle.std.specs.Prelude.{Bool, true, false}
 use Rattle.go_grammar.specs.declared.kind.Arithmetic.{Arithmetic}
 use Rattle.go_grammar.specs.declared.kind.Operator.{Operator}

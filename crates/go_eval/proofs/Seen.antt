@@ -1,7 +1,7 @@
 -- The parts of nodes in a table.
 use Rattle.std.proofs.Common.{rules, arith, ◌≡◌, ◌≤◌, ℕ, zero, suc, List, [], ◌∷◌, refl, sym, ap, ◌∙◌, subst, Option, Some, None, drop}
 use Rattle.std.proofs.lemmas.Option.{slice_get_past, slice_get_read}
-use Rattle.std.specs.Prelude.{Bool, true, false, IfSome, MatchOption, is_some, nat_lt, slice_get, get_or, length, ◌<◌, if◌then◌else◌}
+use Rattle.std.specs.Prelude.{true, false, IfSome, MatchOption, is_some, nat_lt, slice_get, get_or, length, ◌<◌, if◌then◌else◌}
 use Rattle.std.specs.Option.{option_map}
 use Rattle.std.proofs.lemmas.Bool.{le-ltb}
 use Rattle.go_types.specs.Trees.{TypeTree, boolean}
@@ -12,7 +12,7 @@ use Rattle.type_tests.specs.Questions.{entry}
 use Rattle.go_typed.specs.declared.node.TypedNode.{TypedNode}
 use Rattle.go_typed.specs.declared.node.TypedNode.TheViews.{out-TypedNode}
 use Rattle.go_typed.specs.declared.node.TypedNode.TheFolds.{fold_out-TypedNode}
-use Rattle.go_typed.specs.Trees.{Label, Nothing, Typed, typed, Typeds, mapped, all_mapped, sort_mapped, sort_of, label_of, form_of, SortHas, Every, EveryPart}
+use Rattle.go_typed.specs.Trees.{Label, Nothing, typed, Typeds, mapped, all_mapped, sort_mapped, sort_of, label_of, form_of, SortHas, Every, EveryPart}
 use Rattle.go_typed.specs.Views.{view, views, label_view, sort_view}
 use Rattle.go_meaning.specs.Planning.{part_at, is_there, sort_type, type_there, sort_there, calls_there, default_at, at_most_one, form_plan, sort_plan, plan}
 use Rattle.go_meaning.specs.Plans.{Once, Loop}

@@ -1,5 +1,5 @@
 -- The plans of go_meaning that those of the program stand for.
-use Rattle.std.specs.Prelude.{◌≡◌, ℕ, Bool, true, false, List, [], ◌∷◌, Option, Some, None}
+use Rattle.std.specs.Prelude.{◌≡◌, ℕ, Bool, true, false, Option, Some, None}
 use Rattle.go_types.specs.Trees.{TypeTree, boolean, text, integer, array, slice, structure, function, declared}
 use Rattle.go_types.specs.Trees as types
 use Rattle.go_types.specs.Relations.{Rights}

@@ -94,10 +94,7 @@ fn conversion(types: &Types, ty: Option<TypeId>, parts: &[Option<TypedNode>]) ->
     ensures { (s : sort_of TypeTree) → plan_view (rights_of types.now) (type_of types.now.shapes) s (all_seen types.now parts.now) result
         ≡ plans.Once (plans.Perform (planning.conversion (planning.shape_of (rights_of types.now) (type_in (type_of types.now.shapes) ty)) (planning.shape_at (rights_of types.now) (all_seen types.now parts.now) 1))) }
 {
-    Plan::Perform(tables::conversion(
-        group_of(types, ty),
-        group_at(types, parts, 1),
-    ))
+    Plan::Perform(tables::conversion(group_of(types, ty), group_at(types, parts, 1)))
 }
 
 fn composite(types: &Types, ty: Option<TypeId>) -> Plan
@@ -208,7 +205,12 @@ fn form_plan(types: &Types, form: Form, ty: Option<TypeId>, parts: &[Option<Type
         Form::Composite => composite(types, ty),
         Form::Unary(sign) => unary(types, sign, parts),
         Form::Binary(operator) => binary(types, operator, parts),
-        Form::For | Form::Constants | Form::TypeNames | Form::Literal | Form::Type | Form::Held(_) => Plan::Skip,
+        Form::For
+        | Form::Constants
+        | Form::TypeNames
+        | Form::Literal
+        | Form::Type
+        | Form::Held(_) => Plan::Skip,
     }
 }
 

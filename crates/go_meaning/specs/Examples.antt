@@ -79,7 +79,8 @@ endless = main_of 0 (forever (println (num (pos 1) ∷ []) ∷ []) ∷ [])
 
 -- `for i, c := range "a\u00e9\xff" { fmt.Println(i, c) }`
 abbrev pub spells : Code
-spells = main_of 2 (range (expression int (form.New 0) none ∷ expression (integer kind.Int32) (form.New 1) none ∷ []) (string (97 ∷ 195 ∷ 169 ∷ 255 ∷ [])) (println (local int 0 ∷ local (integer kind.Int32) 1 ∷ []) ∷ []) ∷ [])
+spells = main_of 2 (range (expression int (form.New 0) none ∷ expression (integer kind.Int32) (form.New 1) none ∷ []) (string (97 ∷ 195 ∷ 169 ∷ 255 ∷ []))
+        (println (local int 0 ∷ local (integer kind.Int32) 1 ∷ []) ∷ []) ∷ [])
 
 -- `var a [2][2]int; i := 5` and then one assignment of p(7)
 abbrev pub square : TypeTree

@@ -1,7 +1,5 @@
-use Rattle.std.proofs.Common.{◌≡◌, ℕ, sym, ap, ◌∙◌}
-use Rattle.go_types.specs.Trees.{TypeTree}
+use Rattle.std.proofs.Common.{sym, ap, ◌∙◌}
 use Rattle.go_types.specs.Tables.{type_of, rights_of}
-use Rattle.go_typed.specs.declared.form.Form.{Form}
 use Rattle.go_typed.specs.Views.{all_seen}
 use Rattle.go_meaning.specs.Operations.{Cut}
 use Rattle.go_meaning.specs.Plans.{Once, Select, Perform}

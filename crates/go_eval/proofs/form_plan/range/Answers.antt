@@ -3,7 +3,7 @@ use Rattle.std.specs.Prelude.{nat_lt}
 use Rattle.go_types.specs.Tables.{type_of, rights_of}
 use Rattle.go_typed.specs.Views.{all_seen}
 use Rattle.go_meaning.specs.Plans.{Once, Iterate}
-use Rattle.go_meaning.specs.Planning.{part_at, calls_there, shape_at, at_most_one, items_of}
+use Rattle.go_meaning.specs.Planning.{shape_at, at_most_one, items_of}
 use Rattle.go_eval.proofs.Grouped.{told, items_blind}
 use Rattle.go_eval.proofs.Seen.{at_most_one_is}
 use Rattle.go_eval.proofs.form_plan.range.Goals as goal

@@ -1,5 +1,5 @@
-use Rattle.std.proofs.Common.{◌≡◌, ℕ, suc, ◌+◌, sym, ap, ◌∙◌, arith}
-use Rattle.std.specs.Prelude.{Bool, true, false, if◌then◌else◌}
+use Rattle.std.proofs.Common.{◌≡◌, suc, ◌+◌, sym, ap, ◌∙◌, arith}
+use Rattle.std.specs.Prelude.{true, false, if◌then◌else◌}
 use Rattle.go_types.specs.Tables.{type_of, rights_of}
 use Rattle.go_typed.specs.Views.{all_seen}
 use Rattle.go_meaning.specs.Plans.{Once, AssignTo, ZeroTo}

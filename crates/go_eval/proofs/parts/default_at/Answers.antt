@@ -1,4 +1,4 @@
-use Rattle.std.proofs.Common.{◌≡◌, ◌<◌, ◌≤◌, ◌+◌, ℕ, suc, Some, refl, sym, ap, ◌∙◌, arith, drop, length, slice_get}
+use Rattle.std.proofs.Common.{◌≡◌, ◌≤◌, ◌+◌, suc, Some, refl, sym, ap, ◌∙◌, arith, drop, length, slice_get}
 use Rattle.std.proofs.lemmas.Option.{slice_get_read}
 use Rattle.std.proofs.lemmas.List.{drop_all}
 use Rattle.go_typed.specs.Trees.{all_mapped}
@@ -22,10 +22,12 @@ loop-place-preserved c =
     let i = c.loop-place.place in
     let r = c.index-parts-place.result in
     let there : slice_get xs i ≡ Some r = slice_get_read xs (length xs) i r refl c.loop-place-test.true c.index-parts-place.is in
-    let next : suc i ≡ i + 1 = omega arith in
-    (λ f. let later : default_at (all_mapped f (views (drop i xs))) ≡ suc (default_at (all_mapped f (views (drop (i + 1) xs))))
-        = default_later f xs i r there (sym (c.is_default.ensures f) ∙ c.if-is_default.false) ∙ ap (λ k. suc (default_at (all_mapped f (views (drop k xs))))) next in
-        omega (arith, c.loop-place.invariant.0 f, later), omega (arith, c.loop-place-test.true))
+    let next : suc i ≡ i + 1 = omega arith in (
+      λ f. let later : default_at (all_mapped f (views (drop i xs))) ≡ suc (default_at (all_mapped f (views (drop (i + 1) xs))))
+          = default_later f xs i r there (sym (c.is_default.ensures f) ∙ c.if-is_default.false) ∙ ap (λ k. suc (default_at (all_mapped f (views (drop k xs))))) next in
+          omega (arith, c.loop-place.invariant.0 f, later),
+      omega (arith, c.loop-place-test.true),
+    )
 
 pub returns : goal.returns
 returns c f =
