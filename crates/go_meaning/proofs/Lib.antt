@@ -8,3 +8,4 @@ pub mod Programs
 pub mod Equal
 pub mod Clock
 pub mod Renaming
+pub mod Bound

@@ -41,7 +41,8 @@ shared = main_of 4 (
     ∷ define pair 3 (local pair 1)
     ∷ assign (index int (local ints 2) (num (pos 0))) (num (pos 9))
     ∷ assign (index int (local pair 3) (num (pos 1))) (num (pos 3))
-    ∷ println (index int (local ints 0) (num (pos 0)) ∷ builtin predeclared.Len int (local ints 0 ∷ []) ∷ builtin predeclared.Cap int (local ints 0 ∷ []) ∷ index int (local pair 1) (num (pos 1)) ∷ index int (local pair 3) (num (pos 0)) ∷ [])
+    ∷ println (index int (local ints 0) (num (pos 0))
+    ∷ builtin predeclared.Len int (local ints 0 ∷ []) ∷ builtin predeclared.Cap int (local ints 0 ∷ []) ∷ index int (local pair 1) (num (pos 1)) ∷ index int (local pair 3) (num (pos 0)) ∷ [])
     ∷ [])
 
 -- an operation on values of another integer type
@@ -57,7 +58,8 @@ wraps = main_of 3 (
     define long 0 (num (negsuc 9223372036854775807))
     ∷ define long 1 (num (negsuc 0))
     ∷ define int 2 (num (pos 64))
-    ∷ println (sum_of long Divide (local long 0) (local long 1) ∷ sum_of long Remainder (local long 0) (local long 1) ∷ sum_of long ShiftRight (local long 0) (local int 2) ∷ sum ShiftLeft (num (pos 1)) (local int 2) ∷ sum_of (integer kind.Uint8) ShiftLeft (conversion (integer kind.Uint8) (local int 2)) (num (pos 2)) ∷ [])
+    ∷ println (sum_of long Divide (local long 0) (local long 1) ∷ sum_of long Remainder (local long 0) (local long 1)
+    ∷ sum_of long ShiftRight (local long 0) (local int 2) ∷ sum ShiftLeft (num (pos 1)) (local int 2) ∷ sum_of (integer kind.Uint8) ShiftLeft (conversion (integer kind.Uint8) (local int 2)) (num (pos 2)) ∷ [])
     ∷ [])
 
 -- `_ = x`, behind `n := z`
@@ -77,7 +79,8 @@ endless = main_of 0 (forever (println (num (pos 1) ∷ []) ∷ []) ∷ [])
 
 -- `for i, c := range "a\u00e9\xff" { fmt.Println(i, c) }`
 abbrev pub spells : Code
-spells = main_of 2 (range (expression int (form.New 0) none ∷ expression (integer kind.Int32) (form.New 1) none ∷ []) (string (97 ∷ 195 ∷ 169 ∷ 255 ∷ [])) (println (local int 0 ∷ local (integer kind.Int32) 1 ∷ []) ∷ []) ∷ [])
+spells = main_of 2 (range (expression int (form.New 0) none ∷ expression (integer kind.Int32) (form.New 1) none ∷ []) (string (97 ∷ 195 ∷ 169 ∷ 255 ∷ []))
+    (println (local int 0 ∷ local (integer kind.Int32) 1 ∷ []) ∷ []) ∷ [])
 
 -- `var a [2][2]int; i := 5` and then one assignment of p(7)
 abbrev pub square : TypeTree
@@ -194,7 +197,9 @@ pub record Examples : Type 0 where
   pub field_late : outcome 20 (in_none (field int 0 at_zero)) (shows ∷ []) ≡ Panicked Index (codes "0\n7\n")
   pub field_early : outcome 20 (in_none (index int (field pair 1 at_zero) (p 1))) (shows ∷ []) ≡ Panicked Index (codes "0\n")
   -- `a[0] += h()` reads a[0] before h sets a[0] and a[1], and the store reads a anew.
-  pub read_before : outcome_with (specified pair 0 (literal pair []) ∷ []) (main_of 0 (statement (form.Operate Add) (more (index int a (num (pos 0))) (more (call_of 1 []) none)) ∷ println (index int a (num (pos 0)) ∷ index int a (num (pos 1)) ∷ []) ∷ [])) (code [] 0 (assign (index int a (num (pos 0))) (num (pos 7)) ∷ assign (index int a (num (pos 1))) (num (pos 5)) ∷ returns (num (pos 10) ∷ []) ∷ []) ∷ [])
+  pub read_before : outcome_with (specified pair 0 (literal pair []) ∷ [])
+      (main_of 0 (statement (form.Operate Add) (more (index int a (num (pos 0))) (more (call_of 1 []) none)) ∷ println (index int a (num (pos 0)) ∷ index int a (num (pos 1)) ∷ []) ∷ []))
+      (code [] 0 (assign (index int a (num (pos 0))) (num (pos 7)) ∷ assign (index int a (num (pos 1))) (num (pos 5)) ∷ returns (num (pos 10) ∷ []) ∷ []) ∷ [])
       ≡ Ended (codes "10 5\n")
   -- `a[h()]` reads a before h sets a[0].
   pub read_first : outcome_with (specified pair 0 (literal pair (num (pos 1) ∷ num (pos 2) ∷ [])) ∷ []) (main_of 0 (println (index int a (call_of 1 []) ∷ []) ∷ [])) (changes pair ∷ []) ≡ Ended (codes "1\n")
@@ -214,7 +219,8 @@ pub record Examples : Type 0 where
   pub read_deep : run (package_of [] (descends_from 198 ∷ descends ∷ read_byte ∷ [])) [] 300 200 ≡ Ended []
   pub too_deep : run (package_of [] (descends_from 198 ∷ descends ∷ main_of 0 [] ∷ [])) [] 300 200 ≡ Unfinished []
   -- of two package_of variables that panic the first decides
-  pub first_variable : outcome_with (specified int 0 (sum Divide (num (pos 1)) (index int (literal ints (num (pos 0) ∷ [])) (num (pos 0)))) ∷ specified int 1 (index int (literal ints []) (conversion int (num (pos 0)))) ∷ []) (main_of 0 []) [] ≡ Panicked ByZero []
+  pub first_variable : outcome_with (specified int 0 (sum Divide (num (pos 1)) (index int (literal ints (num (pos 0) ∷ [])) (num (pos 0))))
+      ∷ specified int 1 (index int (literal ints []) (conversion int (num (pos 0)))) ∷ []) (main_of 0 []) [] ≡ Panicked ByZero []
   -- an integer that is no code point gives U+FFFD
   pub surrogate : outcome 10 (main_of 1 (define int 0 (num (pos 57343)) ∷ println (conversion text n ∷ []) ∷ [])) [] ≡ Ended (239 ∷ 191 ∷ 189 ∷ 10 ∷ [])
   pub greatest : outcome 10 (main_of 1 (define int 0 (num (pos 1114111)) ∷ println (conversion text n ∷ []) ∷ [])) [] ≡ Ended (244 ∷ 143 ∷ 191 ∷ 191 ∷ 10 ∷ [])

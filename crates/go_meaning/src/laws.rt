@@ -1,6 +1,6 @@
 //! Laws of the meaning. Each stands in the contract of a function that does nothing.
 
-ghost use Rattle.std.specs.Prelude.{◌≡◌, ◌≤◌, ℕ, List};
+ghost use Rattle.std.specs.Prelude.{◌≡◌, ◌≤◌, ◌<◌, ℕ, List};
 ghost use Rattle.go_types.specs.Trees.{TypeTree};
 ghost use Rattle.go_typed.specs.Trees.{Typed};
 ghost use Rattle.go_meaning.specs.Values.{Value};
@@ -27,12 +27,18 @@ pub fn more_turns_go_on()
 {}
 
 /// The same for each tree in each state: how it ends, with which values, frame and world, doesn't
-/// change, nor does the number by which calls and turns inside one another are bounded show.
+/// change.
 pub fn trees_go_on()
     ensures ended { (P : Program) (n n' : ℕ) (t : Typed TypeTree) (d d' : ℕ) (f f1 : List Value) (w w1 : World) (turns turns' left : ℕ) (e : Ending) → n ≤ n' → d ≤ d' → turns ≤ turns' →
         bounded P n t d f w turns ≡ Ends e f1 w1 left → EndsLater P n' t d' f w turns turns' e f1 w1 left }
     ensures undecided { (P : Program) (n n' : ℕ) (t : Typed TypeTree) (d d' : ℕ) (f : List Value) (w : World) (turns turns' : ℕ) (o : List ℕ) → n ≤ n' → d ≤ d' → turns ≤ turns' →
         bounded P n t d f w turns ≡ Undecided o → IsPrefix o (output_of (bounded P n' t d' f w turns')) }
+{}
+
+/// The number by which calls and turns inside one another are bounded doesn't show where it is above
+/// the turns, so a run has the outcome of every such number.
+pub fn greater_bounds_do_not_show()
+    ensures { (P : Program) (n n' : ℕ) (t : Typed TypeTree) (d : ℕ) (f : List Value) (w : World) (turns : ℕ) → turns < n → turns < n' → bounded P n t d f w turns ≡ bounded P n' t d f w turns }
 {}
 
 /// The output only grows: whatever a tree does, what was printed before stays.
