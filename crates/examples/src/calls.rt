@@ -4,7 +4,7 @@ ghost use Rattle.std.specs.Prelude.{◌≡◌, ◌≤◌};
 ghost use Rattle.go_base.specs.Steps.{no_counts};
 
 use go_base::{Bytes, FaultCode, Phase, Steps};
-use go_constants::{Basic, Const, ConstOp, fold, represent};
+use go_constants::{Basic, Const, ConstOp, SharedBytes, fold, represent};
 use go_ints::{Kind, Op, arith, fits, wrap};
 use go_types::{Field, Fields, Shape, TypeId, TypeIds, Types};
 use std::marker::Brand;
@@ -60,14 +60,26 @@ fn has_the_words_of_replies(rt: HostRuntime) {
 #[test]
 fn joins_texts(rt: HostRuntime) -> Result<(), Fail> {
     let alloc = rt.alloc();
-    let left = Const::Text(Bytes::from_slice(alloc, b"a")?);
-    let right = Const::Text(Bytes::from_slice(alloc, b"bc")?);
+    let left = Const::Text(SharedBytes::from_slice(alloc, b"a")?);
+    let right = Const::Text(SharedBytes::of(Vec::from_slice(alloc, b"bc")?)?);
     let joined = fold(alloc, ConstOp::Arith(Op::Add), &left, &right)?;
     assert!(rt; represent(&joined, Basic::Text));
     let Const::Text(bytes) = joined else {
         return Err("a text".into());
     };
     assert_eq!(rt; bytes.as_slice(), b"abc".as_slice());
+    Ok(())
+}
+
+/// Copies would take 30 GB.
+#[test]
+fn owners_share_a_text(rt: HostRuntime) -> Result<(), Fail> {
+    let text = Const::Text(SharedBytes::of(vec![in rt.alloc(); 97u8; 500_000]?)?);
+    let mut owners = Vec::new(rt.alloc());
+    for _ in 0..60_000 {
+        owners.push(text.shared()?)?;
+    }
+    assert!(rt; owners.last() == Some(&text));
     Ok(())
 }
 

@@ -3,9 +3,9 @@ ghost use Rattle.std.specs.Prelude.{◌≡◌, false};
 ghost use Rattle.go_base.specs.Gives.{Gives};
 ghost use Rattle.go_constants.specs.Folding.{folded, folded_bools, folded_wholes, folded_texts, comparison, refusal_of, itself, rune_mark, joins, takes_memory};
 
+use crate::shared::SharedBytes;
 use crate::values::{Const, ConstFault, ConstOp};
 use crate::wholes::exact;
-use go_base::Bytes;
 use go_ints::Op;
 use std::alloc::Global;
 use std::cmp::Ordering;
@@ -83,12 +83,7 @@ fn fold_texts(alloc: Global, op: ConstOp, a: &[u8], b: &[u8]) -> Result<Const, C
     ensures no_memory { joins op ≡ false → result ≡ folded_texts op a.now b.now }
 {
     match op {
-        ConstOp::Arith(Op::Add) => {
-            let mut joined = Vec::with_capacity(alloc, a.len() + b.len())?;
-            joined.extend_from_slice(a)?;
-            joined.extend_from_slice(b)?;
-            Ok(Const::Text(Bytes::of(joined)))
-        }
+        ConstOp::Arith(Op::Add) => Ok(Const::Text(SharedBytes::joined(alloc, a, b)?)),
         ConstOp::Arith(_) => Err(ConstFault::Operands),
         _ => compare(op, a.cmp(b)),
     }

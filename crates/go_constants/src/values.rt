@@ -1,18 +1,34 @@
 //! Constants, the operations on them, and why one has no value.
-use go_base::{Bytes, Memory};
+ghost use Rattle.std.specs.Prelude.{◌≡◌, IfOk};
+
+use crate::shared::SharedBytes;
+use go_base::Memory;
 use go_ints::Op;
 use std::alloc::{AllocError, AllocFailed};
 use thiserror::Error;
 
 /// The value of a constant (Go specification, "Constants").
-#[derive(Debug, Drop)]
+#[derive(Clone, PartialEq, Eq, Debug, Drop)]
 pub enum Const {
     /// A boolean.
     Bool(bool),
     /// An integer, or a rune where the mark is set.
     Int { value: i128, rune: bool },
     /// The bytes of a string.
-    Text(Bytes),
+    Text(SharedBytes),
+}
+
+impl Const {
+    /// One more owner of the value; the bytes of a string are shared.
+    ///
+    /// # Errors
+    ///
+    /// Want of memory.
+    pub fn shared(&self) -> Result<Const, Memory>
+        ensures { IfOk result (λ c. c ≡ self.now) }
+    {
+        Ok(self.clone()?)
+    }
 }
 
 /// A binary operation on constants (Go specification, "Constant expressions").

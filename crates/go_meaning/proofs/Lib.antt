@@ -1,0 +1,9 @@
+pub mod Growing
+pub mod Trees
+pub mod Examples
+pub mod Following
+pub mod Matching
+pub mod Kin
+pub mod Programs
+pub mod Equal
+pub mod Clock

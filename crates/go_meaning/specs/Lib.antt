@@ -1,0 +1,11 @@
+pub mod Values
+pub mod Texts
+pub mod Computations
+pub mod Operations
+pub mod Plans
+pub mod Doings
+pub mod Planning
+pub mod Meaning
+pub mod Laws
+pub mod Builders
+pub mod Examples
