@@ -1,0 +1,177 @@
+//! Slices and their arrays (Go specification, "Slice types").
+
+ghost use Rattle.std.specs.Prelude.{◌≡◌, [], ◌∷◌, IfOk, OnOk, OnErr, get_or, length, slice_set};
+ghost use Rattle.go_meaning.specs.Operations.{Cell, Gather, Gives, SetCell, array_at, capacity_of, cell, contents, length_of, new_slice, perform, put_at, with_cells};
+ghost use Rattle.go_values.specs.Views.{view, views};
+ghost use Rattle.go_values.specs.Worlds.{array_views, world_view};
+ghost use Rattle.go_values.specs.Deeds.{IsDone, IsStored};
+
+use crate::lists::{copy_at, filled, put_or_push, window};
+use crate::panic::Stop;
+use crate::parts::place_of;
+use crate::value::{Segment, Value};
+use crate::world::World;
+use go_base::Memory;
+use std::alloc::Global;
+
+/// The length of a string, an array or a slice (Go specification, "Length and capacity").
+pub fn length(value: &Value) -> usize
+    ensures { result ≡ length_of (view value.now) }
+{
+    match value {
+        Value::Slice(segment) => segment.length,
+        Value::Text(bytes) => bytes.as_slice().len(),
+        Value::Parts(parts) => parts.as_slice().len(),
+        _ => 0,
+    }
+}
+
+/// The capacity of a slice, or the length of a string or an array (Go specification, "Length and capacity").
+pub fn capacity(value: &Value) -> usize
+    ensures { result ≡ capacity_of (view value.now) }
+{
+    match value {
+        Value::Slice(segment) => segment.capacity,
+        Value::Text(_) | Value::Parts(_) => length(value),
+        _ => 0,
+    }
+}
+
+/// Puts a value into one of the arrays; an array that ends before the place gets it behind its last one.
+#[tactic(auto, using(crate::proofs::Arrays::arrays_set, crate::proofs::Arrays::array_within, crate::proofs::Arrays::arrays_beyond, crate::proofs::Arrays::same_array))]
+fn put_in(
+    arrays: &mut Vec<Vec<Value>>,
+    array: usize,
+    place: u128,
+    value: Value,
+) -> Result<(), Memory>
+    ensures put { OnOk result (array_views arrays.new.items ≡ slice_set (array_views arrays.old.items) array (put_at place (view value ∷ []) (get_or (array_views arrays.old.items) array []))) }
+    ensures err { OnErr result (array_views arrays.new.items ≡ array_views arrays.old.items) }
+{
+    if array < arrays.len() {
+        put_or_push(&mut arrays[array], place, value)?;
+    }
+    Ok(())
+}
+
+impl World {
+    /// The elements of an array.
+    fn array(&self, number: usize) -> &[Value]
+        ensures { views result.now ≡ array_at (world_view self.now) number }
+    {
+        if number < self.arrays.len() {
+            self.arrays[number].as_slice()
+        } else {
+            &[]
+        }
+    }
+
+    /// The elements of a slice; none of what is no slice.
+    pub fn contents(&self, slice: &Value) -> &[Value]
+        ensures { views result.now ≡ contents (view slice.now) (world_view self.now) }
+    {
+        match slice {
+            Value::Slice(segment) => {
+                window(self.array(segment.array), segment.start, segment.length)
+            }
+            _ => &[],
+        }
+    }
+
+    /// A copy of an element of a slice, by its place there; a nil function where there is none.
+    ///
+    /// # Errors
+    ///
+    /// Want of memory.
+    pub fn copy_cell(&self, alloc: Global, slice: &Value, place: usize) -> Result<Value, Memory>
+        ensures { IfOk result (λ v. view v ≡ cell (view slice.now) place (world_view self.now)) }
+    {
+        match slice {
+            Value::Slice(segment) => {
+                let place = segment.start as u128 + place as u128;
+                copy_at(alloc, self.array(segment.array), place)
+            }
+            _ => Ok(Value::NilFunction),
+        }
+    }
+
+    /// A copy of an element of a slice (Go specification, "Index expressions").
+    ///
+    /// # Errors
+    ///
+    /// An index out of range; want of memory.
+    pub fn cell(&self, alloc: Global, slice: &Value, index: &Value) -> Result<Value, Stop>
+        ensures { IsDone result (world_view self.now) (perform Cell (view slice.now ∷ view index.now ∷ []) (world_view self.now)) }
+    {
+        let place = place_of(index, length(slice))?;
+        Ok(self.copy_cell(alloc, slice, place)?)
+    }
+
+    /// A slice of a new array of these values, and of copies of the filler up to the capacity (Go specification, "Making
+    /// slices, maps and channels"). Where memory is wanting the world stays as it was.
+    ///
+    /// # Errors
+    ///
+    /// Want of memory.
+    pub fn new_slice(
+        &mut self,
+        alloc: Global,
+        values: Vec<Value>,
+        capacity: usize,
+        filler: &Value,
+    ) -> Result<Value, Memory>
+        ensures value { IfOk result (λ v. new_slice (views values.items) capacity (view filler.now) (world_view self.old) ≡ Gives (view v ∷ []) (world_view self.new)) }
+        ensures err { OnErr result (world_view self.new ≡ world_view self.old) }
+    {
+        let length = values.len();
+        let values = filled(alloc, values, capacity.saturating_sub(length), filler)?;
+        let array = self.arrays.len();
+        self.arrays.push(values)?;
+        Ok(Value::Slice(Segment {
+            array,
+            start: 0,
+            length,
+            capacity,
+        }))
+    }
+
+    /// A slice of a new array of these values (Go specification, "Composite literals"). Where memory is wanting the world
+    /// stays as it was.
+    ///
+    /// # Errors
+    ///
+    /// Want of memory.
+    pub fn gather(&mut self, alloc: Global, values: Vec<Value>) -> Result<Value, Memory>
+        ensures value { IfOk result (λ v. perform Gather (views values.items) (world_view self.old) ≡ Gives (view v ∷ []) (world_view self.new)) }
+        ensures err { OnErr result (world_view self.new ≡ world_view self.old) }
+    {
+        let capacity = values.len();
+        self.new_slice(alloc, values, capacity, &Value::NilFunction)
+    }
+
+    /// Assigns to an element of a slice (Go specification, "Assignment statements"). Where it panics, or memory is wanting, the
+    /// world stays as it was. Memory can be wanting only for a slice that is longer than its array.
+    ///
+    /// # Errors
+    ///
+    /// An index out of range; want of memory.
+    pub fn set_cell(&mut self, slice: &Value, index: &Value, value: Value) -> Result<(), Stop>
+        ensures { IsStored result (perform SetCell (view slice.now ∷ view index.now ∷ view value ∷ []) (world_view self.old)) (world_view self.old) (world_view self.new) }
+    {
+        let place = place_of(index, length(slice))?;
+        Ok(self.put_cell(slice, place, value)?)
+    }
+
+    fn put_cell(&mut self, slice: &Value, place: usize, value: Value) -> Result<(), Memory>
+        ensures value { OnOk result (world_view self.new ≡ with_cells (view slice.now) place (view value ∷ []) (world_view self.old)) }
+        ensures err { OnErr result (world_view self.new ≡ world_view self.old) }
+    {
+        match slice {
+            Value::Slice(segment) => {
+                let place = segment.start as u128 + place as u128;
+                put_in(&mut self.arrays, segment.array, place, value)
+            }
+            _ => Ok(()),
+        }
+    }
+}
