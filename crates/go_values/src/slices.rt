@@ -1,18 +1,23 @@
 //! Slices and their arrays (Go specification, "Slice types").
 
-ghost use Rattle.std.specs.Prelude.{◌≡◌, [], ◌∷◌, IfOk, OnOk, OnErr, get_or, length, slice_set};
-ghost use Rattle.go_meaning.specs.Operations.{Cell, Gather, Gives, SetCell, array_at, capacity_of, cell, contents, length_of, new_slice, perform, put_at, with_cells};
+ghost use Rattle.std.specs.Prelude.{◌≡◌, ◌&&◌, [], ◌∷◌, IfOk, IfSome, OnOk, OnErr, get_or, int_le, is_some, length, pos, slice_set};
+ghost use Rattle.type_tests.specs.Zeros.{Zero};
+ghost use Rattle.go_meaning.specs.Values.{whole_of, zero_value};
+ghost use Rattle.go_meaning.specs.Operations.{Cell, Gather, Gives, SetCell, array_at, capacity_of, cell, contents, length_of, made, new_slice, perform, put_at, with_cells};
 ghost use Rattle.go_values.specs.Views.{view, views};
 ghost use Rattle.go_values.specs.Worlds.{array_views, world_view};
 ghost use Rattle.go_values.specs.Deeds.{IsDone, IsStored};
 
 use crate::lists::{copy_at, filled, put_or_push, window};
-use crate::panic::Stop;
+use crate::panic::{Panic, Stop};
 use crate::parts::place_of;
 use crate::value::{Segment, Value};
 use crate::world::World;
 use go_base::Memory;
 use std::alloc::Global;
+
+/// The most elements of a slice that `make` makes.
+const MOST_ELEMENTS: i128 = 1 << 24;
 
 /// The length of a string, an array or a slice (Go specification, "Length and capacity").
 pub fn length(value: &Value) -> usize
@@ -34,6 +39,18 @@ pub fn capacity(value: &Value) -> usize
         Value::Slice(segment) => segment.capacity,
         Value::Text(_) | Value::Parts(_) => length(value),
         _ => 0,
+    }
+}
+
+/// The length and the capacity of a slice that `make` makes, where it doesn't panic.
+fn sizes_of(length: i128, capacity: i128) -> Option<(usize, usize)>
+    ensures some { IfSome result (λ s. (length ≡ pos s.0) × (capacity ≡ pos s.1)) }
+    ensures test { is_some result ≡ (int_le (pos 0) length && int_le length capacity && int_le capacity (pos 16777216)) }
+{
+    if 0 <= length && length <= capacity && capacity <= MOST_ELEMENTS {
+        Some((length as usize, capacity as usize))
+    } else {
+        None
     }
 }
 
@@ -172,6 +189,31 @@ impl World {
                 put_in(&mut self.arrays, segment.array, place, value)
             }
             _ => Ok(()),
+        }
+    }
+
+    /// `make` of a slice, with copies of the zero value of its elements (Go specification, "Making slices, maps and channels").
+    /// Where it panics, or memory is wanting, the world stays as it was.
+    ///
+    /// # Errors
+    ///
+    /// A length or a capacity that is negative, a length above the capacity, more than 2^24 elements; want of memory.
+    pub fn make_slice(
+        &mut self,
+        alloc: Global,
+        zero: &Value,
+        length: &Value,
+        capacity: &Value,
+    ) -> Result<Value, Stop>
+        ensures value { (z : Zero) → zero_value z ≡ view zero.now → IsDone result (world_view self.new) (made z (whole_of (view length.now)) (whole_of (view capacity.now)) (world_view self.old)) }
+        ensures err { OnErr result (world_view self.new ≡ world_view self.old) }
+    {
+        match sizes_of(length.whole(), capacity.whole()) {
+            Some((length, capacity)) => {
+                let values = filled(alloc, Vec::new(alloc), length, zero)?;
+                Ok(self.new_slice(alloc, values, capacity, zero)?)
+            }
+            None => Err(Stop::Panic(Panic::Make)),
         }
     }
 }
