@@ -14,7 +14,7 @@ length_views (v ∷ vs) = omega (arith, length_views vs)
 
 -- ---- values put into an array
 
-append_nil : (vs : List meant.Value) → vs ++ [] ≡ vs
+pub append_nil : (vs : List meant.Value) → vs ++ [] ≡ vs
 append_nil [] = refl
 append_nil (v ∷ vs) = ap (λ us. v ∷ us) (append_nil vs)
 
@@ -29,7 +29,7 @@ take_past [] (suc i) h = refl
 take_past (v ∷ vs) zero h = absurd (omega arith)
 take_past (v ∷ vs) (suc i) h = ap (λ us. view v ∷ us) (take_past vs i (omega arith))
 
-drop_past : (vs : List Value) (i : ℕ) → length vs ≤ i → drop i (views vs) ≡ []
+pub drop_past : (vs : List Value) (i : ℕ) → length vs ≤ i → drop i (views vs) ≡ []
 drop_past [] zero h = refl
 drop_past [] (suc i) h = refl
 drop_past (v ∷ vs) zero h = absurd (omega arith)

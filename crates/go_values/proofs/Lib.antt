@@ -4,3 +4,4 @@ pub mod Wrapping
 pub mod Equality
 pub mod Heap
 pub mod Arrays
+pub mod Appending

@@ -23,7 +23,7 @@ pub none_more : (us : List meant.Value) (x : meant.Value) → us ≡ us ++ repli
 none_more [] x = refl
 none_more (u ∷ us) x = ap (λ ws. u ∷ ws) (none_more us x)
 
-take_views : (vs : List Value) (n : ℕ) → views (take n vs) ≡ take n (views vs)
+pub take_views : (vs : List Value) (n : ℕ) → views (take n vs) ≡ take n (views vs)
 take_views vs zero = refl
 take_views [] (suc n) = refl
 take_views (v ∷ vs) (suc n) = ap (λ us. view v ∷ us) (take_views vs n)
@@ -52,7 +52,7 @@ window_past [] (suc s) (suc n) h = refl
 window_past (v ∷ vs) zero n h = absurd (omega arith)
 window_past (v ∷ vs) (suc s) n h = window_past vs s n (omega arith)
 
-whole : (vs : List Value) (n : ℕ) → length vs ≤ n → take n vs ≡ vs
+pub whole : (vs : List Value) (n : ℕ) → length vs ≤ n → take n vs ≡ vs
 whole [] zero h = refl
 whole [] (suc n) h = refl
 whole (v ∷ vs) zero h = absurd (omega arith)

@@ -1,6 +1,6 @@
 //! Lists of values.
 
-ghost use Rattle.std.specs.Prelude.{◌≡◌, ◌++◌, [], ◌∷◌, IfOk, OnOk, OnErr, replicate, slice_set, take, drop};
+ghost use Rattle.std.specs.Prelude.{◌≡◌, ◌+◌, ◌++◌, ◌<◌, ◌≤◌, ◌^◌, length, [], ◌∷◌, IfOk, OnOk, OnErr, replicate, slice_set, take, drop};
 ghost use Rattle.go_meaning.specs.Values.{nth};
 ghost use Rattle.go_meaning.specs.Operations.{put_at};
 ghost use Rattle.go_values.specs.Views.{view, views};
@@ -76,4 +76,48 @@ pub(crate) fn put_or_push(values: &mut Vec<Value>, place: u128, value: Value) ->
         values.push(value)?;
     }
     Ok(())
+}
+
+/// Puts values one behind the other from a place on, over those that stand there; a list that ends before gets them behind its
+/// last one. No other value is moved.
+#[tactic(auto, using(crate::proofs::Appending::put_inside, crate::proofs::Appending::put_last, crate::proofs::Appending::put_behind))]
+pub(crate) fn put_all(values: &mut Vec<Value>, place: u128, new: Vec<Value>) -> Result<(), Memory>
+    requires { place < 2 ^ 66 }
+    ensures { OnOk result (views values.new.items ≡ put_at place (views new.items) (views values.old.items)) }
+{
+    let mut new = new;
+    if values.len() as u128 <= place {
+        values.append(&mut new)?;
+        return Ok(());
+    }
+    let start = place as usize;
+    if new.len() <= values.len() - start {
+        overwrite(values, start, new);
+        return Ok(());
+    }
+    values.truncate(start);
+    values.append(&mut new)?;
+    Ok(())
+}
+
+/// Writes values over those that stand from a place on.
+#[tactic(auto, using(crate::proofs::Appending::put_inside))]
+fn overwrite(values: &mut Vec<Value>, start: usize, new: Vec<Value>)
+    requires { start + length new.items ≤ length values.old.items }
+    ensures { views values.new.items ≡ put_at start (views new.items) (views values.old.items) }
+{
+    let mut new = new;
+    let end = start + new.len();
+    values.as_mut_slice()[start..end].swap_with_slice(new.as_mut_slice());
+}
+
+/// The one values and then the other ones.
+#[tactic(auto, using(crate::proofs::Appending::views_append))]
+pub(crate) fn joined(values: Vec<Value>, more: Vec<Value>) -> Result<Vec<Value>, Memory>
+    ensures { IfOk result (λ vs. views vs.items ≡ views values.items ++ views more.items) }
+{
+    let mut joined = values;
+    let mut more = more;
+    joined.append(&mut more)?;
+    Ok(joined)
 }

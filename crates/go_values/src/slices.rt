@@ -1,17 +1,17 @@
 //! Slices and their arrays (Go specification, "Slice types").
 
-ghost use Rattle.std.specs.Prelude.{◌≡◌, ◌&&◌, [], ◌∷◌, IfOk, IfSome, OnOk, OnErr, get_or, int_le, is_some, length, pos, slice_set};
+ghost use Rattle.std.specs.Prelude.{◌≡◌, ◌&&◌, ◌+◌, ◌*◌, ◌^◌, ◌<◌, ◌≤◌, ◌++◌, max, [], ◌∷◌, IfOk, IfSome, IfNone, OnOk, OnErr, get_or, int_le, is_some, length, pos, slice_set};
 ghost use Rattle.type_tests.specs.Zeros.{Zero};
-ghost use Rattle.go_meaning.specs.Values.{whole_of, zero_value};
-ghost use Rattle.go_meaning.specs.Operations.{Cell, Gather, Gives, SetCell, array_at, capacity_of, cell, contents, length_of, made, new_slice, perform, put_at, with_cells};
+ghost use Rattle.go_meaning.specs.Values.{Slice, whole_of, zero_value};
+ghost use Rattle.go_meaning.specs.Operations.{Append, Cell, Gather, Gives, SetCell, array_at, capacity_of, cell, contents, length_of, longer, made, new_slice, perform, put_at, with_cells};
 ghost use Rattle.go_values.specs.Views.{view, views};
 ghost use Rattle.go_values.specs.Worlds.{array_views, world_view};
 ghost use Rattle.go_values.specs.Deeds.{IsDone, IsStored};
 
-use crate::lists::{copy_at, filled, put_or_push, window};
+use crate::lists::{copy_at, filled, joined, put_all, put_or_push, window};
 use crate::panic::{Panic, Stop};
 use crate::parts::place_of;
-use crate::value::{Segment, Value};
+use crate::value::{Segment, Value, copies_of};
 use crate::world::World;
 use go_base::Memory;
 use std::alloc::Global;
@@ -54,6 +54,33 @@ fn sizes_of(length: i128, capacity: i128) -> Option<(usize, usize)>
     }
 }
 
+/// The capacity of a new array for the elements of a slice and these values.
+fn capacity_for(slice: &Value, values: &[Value]) -> Result<usize, Memory>
+    ensures { IfOk result (λ n. n ≡ max (length_of (view slice.now) + length values.now) (2 * capacity_of (view slice.now))) }
+{
+    let needed = length(slice).checked_add(values.len()).ok_or(Memory)?;
+    let doubled = capacity(slice).checked_mul(2).ok_or(Memory)?;
+    Ok(needed.max(doubled))
+}
+
+/// Where a slice lies that has room for these values.
+fn room(slice: &Value, values: &[Value]) -> Option<Segment>
+    ensures some { IfSome result (λ s. (view slice.now ≡ Slice s.array s.start s.length s.capacity) × (s.length + length values.now ≤ s.capacity)) }
+    ensures none { IfNone result (0 < length values.now → capacity_of (view slice.now) < length_of (view slice.now) + length values.now) }
+{
+    match slice {
+        Value::Slice(segment) => {
+            let needed = segment.length as u128 + values.len() as u128;
+            if needed <= segment.capacity as u128 {
+                Some(*segment)
+            } else {
+                None
+            }
+        }
+        _ => None,
+    }
+}
+
 /// Puts a value into one of the arrays; an array that ends before the place gets it behind its last one.
 #[tactic(auto, using(crate::proofs::Arrays::arrays_set, crate::proofs::Arrays::array_within, crate::proofs::Arrays::arrays_beyond, crate::proofs::Arrays::same_array))]
 fn put_in(
@@ -67,6 +94,23 @@ fn put_in(
 {
     if array < arrays.len() {
         put_or_push(&mut arrays[array], place, value)?;
+    }
+    Ok(())
+}
+
+/// Puts values into one of the arrays, one behind the other from a place on.
+#[tactic(auto, using(crate::proofs::Arrays::arrays_set, crate::proofs::Arrays::array_within, crate::proofs::Arrays::arrays_beyond))]
+fn put_all_in(
+    arrays: &mut Vec<Vec<Value>>,
+    array: usize,
+    place: u128,
+    new: Vec<Value>,
+) -> Result<(), Memory>
+    requires { place < 2 ^ 66 }
+    ensures { OnOk result (array_views arrays.new.items ≡ slice_set (array_views arrays.old.items) array (put_at place (views new.items) (get_or (array_views arrays.old.items) array []))) }
+{
+    if array < arrays.len() {
+        put_all(&mut arrays[array], place, new)?;
     }
     Ok(())
 }
@@ -214,6 +258,58 @@ impl World {
                 Ok(self.new_slice(alloc, values, capacity, zero)?)
             }
             None => Err(Stop::Panic(Panic::Make)),
+        }
+    }
+
+    /// `append` within the capacity: the values are written behind the last element.
+    fn append_within(&mut self, segment: Segment, values: Vec<Value>) -> Result<Value, Memory>
+        requires { segment.length + length values.items ≤ segment.capacity }
+        ensures value { IfOk result (λ v. view v ≡ longer (Slice segment.array segment.start segment.length segment.capacity) (length values.items)) }
+        ensures world { OnOk result (world_view self.new ≡ with_cells (Slice segment.array segment.start segment.length segment.capacity) segment.length (views values.items) (world_view self.old)) }
+    {
+        let length = segment.length + values.len();
+        let place = segment.start as u128 + segment.length as u128;
+        put_all_in(&mut self.arrays, segment.array, place, values)?;
+        Ok(Value::Slice(Segment { length, ..segment }))
+    }
+
+    /// `append` above the capacity: a new array gets copies of the elements, and then the values.
+    fn append_anew(
+        &mut self,
+        alloc: Global,
+        zero: &Value,
+        slice: &Value,
+        values: Vec<Value>,
+    ) -> Result<Value, Memory>
+        ensures { IfOk result (λ v. new_slice (contents (view slice.now) (world_view self.old) ++ views values.items) (max (length_of (view slice.now) + length values.items) (2 * capacity_of (view slice.now))) (view zero.now) (world_view self.old) ≡ Gives (view v ∷ []) (world_view self.new)) }
+    {
+        let capacity = capacity_for(slice, values.as_slice())?;
+        let elements = copies_of(alloc, self.contents(slice))?;
+        let all = joined(elements, values)?;
+        self.new_slice(alloc, all, capacity, zero)
+    }
+
+    /// `append` (Go specification, "Appending to and copying slices"): in place where the capacity allows, else in a new array
+    /// whose capacity is the greater of what is needed and twice the old one, with copies of the zero value behind the elements.
+    ///
+    /// # Errors
+    ///
+    /// Want of memory; the world stays as it was, unless the slice is longer than its array.
+    pub fn append(
+        &mut self,
+        alloc: Global,
+        zero: &Value,
+        slice: Value,
+        values: Vec<Value>,
+    ) -> Result<Value, Memory>
+        ensures { (z : Zero) → zero_value z ≡ view zero.now → IfOk result (λ v. perform (Append z) (view slice ∷ views values.items) (world_view self.old) ≡ Gives (view v ∷ []) (world_view self.new)) }
+    {
+        if values.as_slice().is_empty() {
+            return Ok(slice);
+        }
+        match room(&slice, values.as_slice()) {
+            Some(segment) => self.append_within(segment, values),
+            None => self.append_anew(alloc, zero, &slice, values),
         }
     }
 }
