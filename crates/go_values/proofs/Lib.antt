@@ -1,0 +1,7 @@
+pub mod Views
+pub mod Rows
+pub mod Wrapping
+pub mod Equality
+pub mod Heap
+pub mod Arrays
+pub mod Appending
