@@ -1,5 +1,5 @@
 -- What holds of each of the declarations that are needed.
-use Rattle.std.proofs.Common.{◌≡◌, ◌∙◌, Bool, true, false, ◌||◌, List, [], ◌∷◌, ◌++◌, ap, sym, subst, refl, arith, Option, Some, None, inl, inr}
+use Rattle.std.proofs.Common.{◌≡◌, Bool, true, false, List, [], ◌∷◌, ◌++◌, sym, subst, refl, arith, Option, Some, None, inl, inr}
 use Rattle.std.specs.Prelude.{if◌then◌else◌}
 use Rattle.go_tree.specs.Declarations.{Found}
 use Rattle.go_tree.specs.Lookups.{Asked}

@@ -1,5 +1,5 @@
 -- What a needed declaration needs is needed.
-use Rattle.std.proofs.Common.{◌≡◌, ◌∙◌, ℕ, zero, suc, Bool, true, false, ◌&&◌, ◌||◌, nat_eq, List, [], ◌∷◌, ◌++◌, ap, sym, subst, refl, arith, Option, Some, None, ◌⊎◌, inl, inr}
+use Rattle.std.proofs.Common.{◌≡◌, ◌∙◌, ℕ, zero, suc, Bool, true, false, ◌&&◌, ◌||◌, nat_eq, List, [], ◌∷◌, ap, sym, subst, refl, arith, Option, Some, None, ◌⊎◌, inl, inr}
 use Rattle.go_tree.specs.declared.context.Site.{Site}
 use Rattle.go_tree.specs.declared.context.Site.TheVariants as site
 use Rattle.go_tree.specs.Declarations.{Found}
