@@ -1,0 +1,6 @@
+mod AllNeeded
+mod Alike
+mod Each
+mod Enough
+mod Placed
+mod Through
