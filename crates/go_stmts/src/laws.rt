@@ -1,0 +1,23 @@
+//! Laws and worked examples of the definitions. These functions do nothing: their contracts are what holds.
+ghost use Rattle.go_stmts.specs.Examples.{AssignmentExamples, DeclarationExamples, StatementExamples};
+ghost use Rattle.go_stmts.specs.Moving.{PlaceSaysNothing};
+
+/// What a function says with its types doesn't depend on where it stands in its file.
+pub fn place_says_nothing()
+    ensures { PlaceSaysNothing }
+{}
+
+/// Assignments: which rule fails where.
+pub fn assignments()
+    ensures { AssignmentExamples }
+{}
+
+/// Declarations: what names stand for behind them, or which rule fails where.
+pub fn declarations()
+    ensures { DeclarationExamples }
+{}
+
+/// Expression statements, branches, loops, returned values and terminating statements.
+pub fn statements()
+    ensures { StatementExamples }
+{}
