@@ -6,6 +6,7 @@ use Rattle.type_tests.specs.Questions.{answers}
 use Rattle.type_tests.specs.Tests.{is_assignable}
 use Rattle.go_rules.specs.Faults.{sooner}
 use Rattle.go_stmts.specs.BodyExamples.{BodyExamples}
+use Rattle.go_stmts.specs.BranchExamples.{BranchExamples}
 use Rattle.go_stmts.specs.Examples.{AssignmentExamples, DeclarationExamples, StatementExamples}
 
 pub assignments_hold : AssignmentExamples
@@ -75,4 +76,27 @@ bodies_hold = record {
   whole = refl;
   variable = refl;
   constant = refl;
+}
+
+pub branches_hold : BranchExamples
+unfolding sooner answers is_assignable is_digit_of letter_base encode_utf8
+branches_hold = record {
+  loop_condition = refl;
+  late_loop = refl;
+  late_condition = refl;
+  initialized_tag = refl;
+  late_tag_missing = refl;
+  no_range = refl;
+  constant_of_range = refl;
+  both_branches = refl;
+  falling = refl;
+  no_default = refl;
+  panicking = refl;
+  results_declared = refl;
+  without_value = refl;
+  nil_variable = refl;
+  other_constant = refl;
+  one_constant_short = refl;
+  results_dropped = refl;
+  shifted_by_text = refl;
 }

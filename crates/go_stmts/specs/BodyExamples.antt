@@ -7,7 +7,7 @@ use Rattle.go_grammar.specs.declared.kind.Kind.TheVariants as kind
 use Rattle.go_grammar.specs.declared.kind.Operator.TheVariants as operator
 use Rattle.go_grammar.specs.declared.kind.Sort.TheVariants as declaring
 use Rattle.go_grammar.specs.declared.kind.Step.TheVariants as step
-use Rattle.go_grammar.specs.Trees.{Tree, node, none, more, skip}
+use Rattle.go_grammar.specs.Trees.{Tree, node, none, more}
 use Rattle.go_tree.specs.declared.object.Predeclared.TheVariants as predeclared
 use Rattle.go_types.specs.Trees.{TypeTree, integer}
 use Rattle.go_typed.specs.declared.form.Form.{Form}

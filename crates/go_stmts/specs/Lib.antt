@@ -10,3 +10,4 @@ pub mod Moving
 pub mod Sentences
 pub mod Examples
 pub mod BodyExamples
+pub mod BranchExamples
