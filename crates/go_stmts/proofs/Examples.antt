@@ -76,6 +76,10 @@ bodies_hold = record {
   whole = refl;
   variable = refl;
   constant = refl;
+  signature = refl;
+  parameters = refl;
+  sorts = refl;
+  tokens = refl;
 }
 
 pub branches_hold : BranchExamples

@@ -1,5 +1,5 @@
 -- Worked examples of typed trees: what is left of a declaration, and a function with most sorts of statements.
-use Rattle.std.specs.Prelude.{◌≡◌, ℕ, true, false, List, [], ◌∷◌, codes, pos, Ok}
+use Rattle.std.specs.Prelude.{◌≡◌, ℕ, suc, true, false, List, [], ◌∷◌, codes, pos, Option, Some, None, Result, Ok, Err}
 use Rattle.go_ints.specs.declared.kinds.Kind.TheVariants as integer_kind
 use Rattle.go_constants.specs.declared.values.Const.TheVariants as const
 use Rattle.go_grammar.specs.declared.kind.Comparison.TheVariants as comparison
@@ -9,7 +9,11 @@ use Rattle.go_grammar.specs.declared.kind.Sort.TheVariants as declaring
 use Rattle.go_grammar.specs.declared.kind.Step.TheVariants as step
 use Rattle.go_grammar.specs.Trees.{Tree, node, none, more}
 use Rattle.go_tree.specs.declared.object.Predeclared.TheVariants as predeclared
-use Rattle.go_types.specs.Trees.{TypeTree, integer}
+use Rattle.go_names.specs.Moved.{moved}
+use Rattle.go_types.specs.Trees.{TypeTree, integer, row}
+use Rattle.go_types.specs.Trees as types
+use Rattle.go_typed.specs.Contents.{FuncContent}
+use Rattle.go_rules.specs.declared.fault.TypeFault.{TypeFault}
 use Rattle.go_typed.specs.declared.form.Form.{Form}
 use Rattle.go_typed.specs.declared.form.Form.TheVariants as form
 use Rattle.go_typed.specs.Funcs.{is_tiled, is_whole}
@@ -18,9 +22,9 @@ use Rattle.go_typed.specs.Trees as trees
 use Rattle.go_rules.specs.Settling.{Part}
 use Rattle.go_rules.specs.Sorts.{int}
 use Rattle.go_rules.specs.Scopes.{free}
-use Rattle.go_rules.specs.Sentences.{Word, word, mark, predeclared_word, name, number, infix_of, s_word}
+use Rattle.go_rules.specs.Sentences.{Word, word, mark, predeclared_word, local_word, name, number, infix_of, s_word}
 use Rattle.go_rules.specs.Sentences as expressions
-use Rattle.go_stmts.specs.Bodies.{token_locals}
+use Rattle.go_stmts.specs.Bodies.{token_locals, body_answer_at}
 use Rattle.go_stmts.specs.Reading.{Reading, read, reading}
 use Rattle.go_stmts.specs.Sentences.{frame_of, stated, one, two, assignment, block, declared_name, values, p_word, q_word, r_word, z_word}
 
@@ -65,6 +69,30 @@ body = block 7 54 (
 abbrev pub function : Tree
 function = node kind.FunctionDeclaration 0 54 (two (node kind.Signature 2 7 (two (node kind.Parameters 2 6 (one (node kind.Parameter 3 5 (two (name 3) (name 4))))) (name 6))) body)
 
+-- what a typed function says, where there is one
+abbrev pub said : {A : Type 0} → (FuncContent → A) → Result FuncContent TypeFault → Option A
+said g (Ok f) = Some (g f)
+said g (Err e) = None
+
+-- func g(p int8, _ int8) int8 { return p }, the function 3 of its package, behind two other tokens of its file
+abbrev pub first_local : Word
+first_local = local_word (codes "p") 0
+
+abbrev pub int8 : TypeTree
+int8 = integer integer_kind.Int8
+
+abbrev pub int8_word : Word
+int8_word = predeclared_word predeclared.Int8
+
+abbrev pub parameter : ℕ → Tree
+parameter i = node kind.Parameter i (suc (suc i)) (two (name i) (name (suc i)))
+
+abbrev pub small : Result FuncContent TypeFault
+small =
+    body_answer_at 2 (expressions.scope_of (mark ∷ mark ∷ mark ∷ first_local ∷ int8_word ∷ mark ∷ mark ∷ int8_word ∷ mark ∷ int8_word ∷ mark ∷ mark ∷ first_local ∷ mark ∷ [])) 3 1 (λ n. n)
+    (moved 2 (node kind.FunctionDeclaration 0 14 (two (node kind.Signature 2 10 (two (node kind.Parameters 2 9 (two (parameter 3) (parameter 6))) (name 9)))
+    (block 10 14 (one (node kind.Return 11 13 (one (node kind.ExpressionList 12 13 (one (name 12))))))))))
+
 pub record BodyExamples : Type 0 where
   -- what its locals stand for
   pub locals : stated words function ≡ Ok (trees.Value int ∷ trees.Value int ∷ trees.OpenConstant (const.Int (pos 2) false) ∷ trees.Value int ∷ [])
@@ -86,3 +114,9 @@ pub record BodyExamples : Type 0 where
       tree_of (mark ∷ p_word ∷ mark ∷ word (codes "1") ∷ [])
       (node (kind.Declaration declaring.Constant) 0 4 (one (node (kind.Specification declaring.Constant) 1 4 (two (node kind.NameList 1 2 (one (declared_name 1))) (values 2 4 (one (number 3)))))))
       ≡ labelled form.Constants 0 4 trees.Nothing (trees.more (labelled (form.Declared 21) 1 2 (trees.OpenConstant (const.Int (pos 1) false)) trees.none) trees.none)
+  pub signature : said (λ f. f.signature) small ≡ Some (types.function (row (int8 ∷ int8 ∷ [])) (row (int8 ∷ [])))
+  pub parameters : said (λ f. f.parameters) small ≡ Some (Some 0 ∷ None ∷ [])
+  pub sorts : said (λ f. f.locals) small ≡ Some (trees.Value int8 ∷ [])
+  pub tokens :
+      said (λ f. f.tokens) small
+      ≡ Some (None ∷ None ∷ None ∷ Some 0 ∷ None ∷ None ∷ None ∷ None ∷ None ∷ None ∷ None ∷ None ∷ Some 0 ∷ None ∷ [])
