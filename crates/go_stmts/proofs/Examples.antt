@@ -5,6 +5,8 @@ use Rattle.go_tokens.specs.Literals.{is_digit_of, letter_base}
 use Rattle.type_tests.specs.Questions.{answers}
 use Rattle.type_tests.specs.Tests.{is_assignable}
 use Rattle.go_rules.specs.Faults.{sooner}
+use Rattle.go_stmts.specs.BodyExamples.{BodyExamples}
+use Rattle.go_stmts.specs.BranchExamples.{BranchExamples}
 use Rattle.go_stmts.specs.Examples.{AssignmentExamples, DeclarationExamples, StatementExamples}
 
 pub assignments_hold : AssignmentExamples
@@ -23,6 +25,7 @@ assignments_hold = record {
   constant_stepped = refl;
   text_stepped = refl;
   wide_added = refl;
+  divided_by_zero = refl;
 }
 
 pub declarations_hold : DeclarationExamples
@@ -52,6 +55,7 @@ statements_hold = record {
   initialized = refl;
   nil_tag = refl;
   other_case = refl;
+  compared_slices = refl;
   no_tag = refl;
   range_of_rune = refl;
   range_of_text = refl;
@@ -62,4 +66,41 @@ statements_hold = record {
   no_return = refl;
   endless = refl;
   left_loop = refl;
+}
+
+pub bodies_hold : BodyExamples
+unfolding sooner answers is_assignable is_digit_of letter_base encode_utf8
+bodies_hold = record {
+  locals = refl;
+  tiles = refl;
+  whole = refl;
+  variable = refl;
+  constant = refl;
+  signature = refl;
+  parameters = refl;
+  sorts = refl;
+  tokens = refl;
+}
+
+pub branches_hold : BranchExamples
+unfolding sooner answers is_assignable is_digit_of letter_base encode_utf8
+branches_hold = record {
+  loop_condition = refl;
+  late_loop = refl;
+  late_condition = refl;
+  initialized_tag = refl;
+  late_tag_missing = refl;
+  no_range = refl;
+  constant_of_range = refl;
+  both_branches = refl;
+  falling = refl;
+  no_default = refl;
+  panicking = refl;
+  results_declared = refl;
+  without_value = refl;
+  nil_variable = refl;
+  other_constant = refl;
+  one_constant_short = refl;
+  results_dropped = refl;
+  shifted_by_text = refl;
 }

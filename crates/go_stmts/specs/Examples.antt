@@ -73,6 +73,10 @@ pub record AssignmentExamples : Type 0 where
   pub wide_added :
       stated (x8_word ∷ mark ∷ word (codes "300") ∷ []) (node (kind.OperatorAssignment arithmetic.Add) 0 3 (two (name 0) (number 2)))
       ≡ refused code.Representable 2 3
+  -- n /= 0
+  pub divided_by_zero :
+      stated (n_word ∷ mark ∷ word (codes "0") ∷ []) (node (kind.OperatorAssignment arithmetic.Divide) 0 3 (two (name 0) (number 2)))
+      ≡ refused code.ZeroDivisor 2 3
 
 -- Variable declarations, Short variable declarations, Constant declarations, Type declarations
 pub record DeclarationExamples : Type 0 where
@@ -171,6 +175,11 @@ pub record StatementExamples : Type 0 where
       stated (mark ∷ word (codes "300") ∷ mark ∷ mark ∷ x8_word ∷ mark ∷ mark ∷ [])
       (node kind.Switch 0 7 (two (number 1) (node kind.Case 3 6 (one (node kind.ExpressionList 4 5 (one (name 4)))))))
       ≡ refused code.Operands 4 5
+  -- switch s { case s: }
+  pub compared_slices :
+      stated (mark ∷ s_word ∷ mark ∷ mark ∷ s_word ∷ mark ∷ mark ∷ [])
+      (node kind.Switch 0 7 (two (name 1) (node kind.Case 3 6 (one (node kind.ExpressionList 4 5 (one (name 4)))))))
+      ≡ refused code.NotComparable 4 5
   -- switch { case b: }
   pub no_tag :
       stated (mark ∷ mark ∷ mark ∷ b_word ∷ mark ∷ mark ∷ [])

@@ -16,7 +16,7 @@ use Rattle.go_typed.specs.Trees as sort
 use Rattle.go_rules.specs.Settling.{Part}
 use Rattle.go_rules.specs.Scopes.{Hint, value, several, type_place, statement, target, declares, free}
 use Rattle.go_rules.specs.Names.{declared_form}
-use Rattle.go_rules.specs.Tables.{Parts, held, all_held, cut, made, behind_first}
+use Rattle.go_rules.specs.Tables.{Parts, held, all_held, first_cut, made, behind_first}
 use Rattle.go_stmts.specs.Frames.{Frame, Locals, declared_type}
 
 -- ---- what a part is told
@@ -106,13 +106,9 @@ abbrev pub typed_or_not : Option Part → Parts
 typed_or_not None = None ∷ []
 typed_or_not (Some x) = if is_values (Some x) then None ∷ held (Some x) else held (Some x)
 
-abbrev pub first_type_cut : Parts → Parts
-first_type_cut [] = []
-first_type_cut (x ∷ xs) = cut x ∷ xs
-
 -- names.. type? values..
 abbrev pub specification_parts : Parts → Parts
-specification_parts (ns ∷ x ∷ []) = held ns ++ first_type_cut (typed_or_not x)
+specification_parts (ns ∷ x ∷ []) = held ns ++ first_cut (typed_or_not x)
 specification_parts xs = xs
 
 -- how many names a specification declares

@@ -9,3 +9,5 @@ pub mod Bodies
 pub mod Moving
 pub mod Sentences
 pub mod Examples
+pub mod BodyExamples
+pub mod BranchExamples

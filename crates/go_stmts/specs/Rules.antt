@@ -1,5 +1,5 @@
 -- The rules of statements and declarations: which fail, by the parts as they are laid out, and what the parts take.
-use Rattle.std.specs.Prelude.{ℕ, zero, suc, ◌-◌, ◌==◌, Bool, true, false, ◌&&◌, ◌||◌, not, if◌then◌else◌, List, [], ◌∷◌, ◌++◌, length, take, drop, map, replicate, Option, Some, None}
+use Rattle.std.specs.Prelude.{ℕ, zero, suc, ◌-◌, ◌==◌, Bool, true, false, ◌&&◌, ◌||◌, not, if◌then◌else◌, List, [], ◌∷◌, ◌++◌, length, take, drop, map, replicate, Option, Some, None, is_some}
 use Rattle.go_base.specs.declared.fault.FaultCode.TheVariants as code
 use Rattle.go_grammar.specs.declared.kind.Comparison.TheVariants as comparison
 use Rattle.go_grammar.specs.declared.kind.Kind.{Kind}
@@ -79,12 +79,8 @@ constants_counted rights i j n t xs = (if n == length xs then [] else fault_at c
 
 -- ---- types: the limit on array types whose size isn't known before the right side is
 
-abbrev pub is_known : Option ℕ → Bool
-is_known (Some n) = true
-is_known None = false
-
 abbrev pub is_late : Rights → Rights → Stands → Bool
-is_late before behind (sort.IsType (array n t)) = not (is_known (scalars_of before (array n t))) && exceeds (scalars_of behind (array n t))
+is_late before behind (sort.IsType (array n t)) = not (is_some (scalars_of before (array n t))) && exceeds (scalars_of behind (array n t))
 is_late before behind x = false
 
 abbrev mutual

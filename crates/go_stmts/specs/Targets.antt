@@ -10,7 +10,7 @@ use Rattle.go_typed.specs.Trees as sort
 use Rattle.go_rules.specs.Settling.{Part}
 use Rattle.go_rules.specs.Sorts.{Stands, form_of_value, is_unknown}
 use Rattle.go_rules.specs.Names.{is_blank}
-use Rattle.go_rules.specs.Tables.{is_variable_name, on_first}
+use Rattle.go_rules.specs.Tables.{is_variable_name, is_call, on_first}
 
 -- an element of an array is a variable where the array is, an element of a slice always
 abbrev pub varies_by : Option TypeTree → Bool → Bool
@@ -52,10 +52,6 @@ abbrev mutual
   first_bare x none = x
   first_bare x (more p ps) = bare p
   first_bare x (skip ps) = x
-
-abbrev pub is_call : Form → Bool
-is_call form.Call = true
-is_call f = false
 
 abbrev pub is_panic : Stands → Bool
 is_panic (sort.Builtin predeclared.Panic) = true

@@ -1,4 +1,6 @@
 //! Laws and worked examples of the definitions. These functions do nothing: their contracts are what holds.
+ghost use Rattle.go_stmts.specs.BodyExamples.{BodyExamples};
+ghost use Rattle.go_stmts.specs.BranchExamples.{BranchExamples};
 ghost use Rattle.go_stmts.specs.Examples.{AssignmentExamples, DeclarationExamples, StatementExamples};
 ghost use Rattle.go_stmts.specs.Moving.{PlaceSaysNothing};
 
@@ -20,4 +22,14 @@ pub fn declarations()
 /// Expression statements, branches, loops, returned values and terminating statements.
 pub fn statements()
     ensures { StatementExamples }
+{}
+
+/// Typed trees of declarations and of a whole function.
+pub fn bodies()
+    ensures { BodyExamples }
+{}
+
+/// Headers, branches and further declarations.
+pub fn branches()
+    ensures { BranchExamples }
 {}
