@@ -195,8 +195,10 @@ pub record CallExamples : Type 0 where
       ≡ Ok (sort.Constant (integer integer_kind.Int) (const.Int (pos 3) false))
   -- len([2]int{n, len(s)})
   pub array_with_call :
-      typed_value (sentence (predeclared_word predeclared.Len ∷ mark ∷ mark ∷ word (codes "2") ∷ mark ∷ predeclared_word predeclared.Int ∷ mark ∷ n_word ∷ mark ∷ predeclared_word predeclared.Len ∷ mark ∷ s_word ∷ mark ∷ mark ∷ mark ∷ [])
-      (node kind.Call 0 15 (more (name 0) (more (node kind.Composite 2 14 (more (node kind.SequenceType 2 6 (more (number 3) (more (name 5) none))) (more (name 7) (more (node kind.Call 9 13 (more (name 9) (more (name 11) none))) none)))) none))))
+      typed_value (sentence (predeclared_word predeclared.Len ∷ mark ∷ mark ∷ word (codes "2") ∷ mark ∷
+      predeclared_word predeclared.Int ∷ mark ∷ n_word ∷ mark ∷ predeclared_word predeclared.Len ∷ mark ∷ s_word ∷ mark ∷ mark ∷ mark ∷ [])
+      (node kind.Call 0 15 (more (name 0) (more (node kind.Composite 2 14 (more (node kind.SequenceType 2 6 (more (number 3)
+      (more (name 5) none))) (more (name 7) (more (node kind.Call 9 13 (more (name 9) (more (name 11) none))) none)))) none))))
       ≡ Ok (sort.Value (integer integer_kind.Int))
   -- len([2]int{n, 1})
   pub array_without_call :
@@ -230,7 +232,8 @@ pub record CallExamples : Type 0 where
       ≡ fault code.ConstIndex 6 7
   -- make([]int, "a", "b", "c")
   pub texts_as_sizes :
-      typed_value (sentence (predeclared_word predeclared.Make ∷ mark ∷ mark ∷ mark ∷ predeclared_word predeclared.Int ∷ mark ∷ word (codes "\"a\"") ∷ mark ∷ word (codes "\"b\"") ∷ mark ∷ word (codes "\"c\"") ∷ mark ∷ [])
+      typed_value (sentence (predeclared_word predeclared.Make ∷ mark ∷ mark ∷ mark ∷ predeclared_word predeclared.Int ∷
+      mark ∷ word (codes "\"a\"") ∷ mark ∷ word (codes "\"b\"") ∷ mark ∷ word (codes "\"c\"") ∷ mark ∷ [])
       (node kind.Call 0 12 (more (name 0) (more (node kind.SequenceType 2 5 (skip (more (name 4) none))) (more (string 6) (more (string 8) (more (string 10) none)))))))
       ≡ fault code.Operands 0 12
   -- make([]int)
@@ -255,7 +258,8 @@ pub record CallExamples : Type 0 where
       ≡ fault code.ConstIndex 6 8
   -- make([]int, -1, 1, 2)
   pub many_sizes :
-      typed_value (sentence (predeclared_word predeclared.Make ∷ mark ∷ mark ∷ mark ∷ predeclared_word predeclared.Int ∷ mark ∷ mark ∷ word (codes "1") ∷ mark ∷ word (codes "1") ∷ mark ∷ word (codes "2") ∷ mark ∷ [])
+      typed_value (sentence (predeclared_word predeclared.Make ∷ mark ∷ mark ∷ mark ∷
+      predeclared_word predeclared.Int ∷ mark ∷ mark ∷ word (codes "1") ∷ mark ∷ word (codes "1") ∷ mark ∷ word (codes "2") ∷ mark ∷ [])
       (node kind.Call 0 13 (more (name 0) (more (node kind.SequenceType 2 5 (skip (more (name 4) none))) (more (prefix_of sign.Minus (number 7)) (more (number 9) (more (number 11) none)))))))
       ≡ fault code.Count 0 13
   -- append(s, 1)

@@ -110,8 +110,11 @@ pub record LiteralExamples : Type 0 where
       ≡ Ok (sort.Value (slice (integer integer_kind.Int)))
   -- [2][]int{{1}, {2, n}}
   pub nested :
-      typed_value (sentence (mark ∷ word (codes "2") ∷ mark ∷ mark ∷ mark ∷ predeclared_word predeclared.Int ∷ mark ∷ mark ∷ word (codes "1") ∷ mark ∷ mark ∷ mark ∷ word (codes "2") ∷ mark ∷ n_word ∷ mark ∷ mark ∷ [])
-      (node kind.Composite 0 17 (more (node kind.SequenceType 0 6 (more (number 1) (more (node kind.SequenceType 3 6 (skip (more (name 5) none))) none))) (more (node kind.LiteralValue 7 10 (more (number 8) none)) (more (node kind.LiteralValue 11 16 (more (number 12) (more (name 14) none))) none)))))
+      typed_value (sentence (mark ∷ word (codes "2") ∷ mark ∷ mark ∷ mark ∷ predeclared_word predeclared.Int ∷ mark ∷
+      mark ∷ word (codes "1") ∷ mark ∷ mark ∷ mark ∷ word (codes "2") ∷ mark ∷ n_word ∷ mark ∷ mark ∷ [])
+      (node kind.Composite 0 17 (more (node kind.SequenceType 0 6 (more (number 1) (more (node kind.SequenceType 3 6 (skip
+      (more (name 5) none))) none))) (more (node kind.LiteralValue 7 10 (more (number 8) none)) (more (node kind.LiteralValue 11 16
+      (more (number 12) (more (name 14) none))) none)))))
       ≡ Ok (sort.Value (array 2 (slice (integer integer_kind.Int))))
   -- []T{{1}}
   pub wrong_elided :

@@ -56,7 +56,8 @@ pub record TypeExamples : Type 0 where
   -- [1 << 11][1 << 10]int
   pub two_dimensions :
       told type_place (sentence (mark ∷ word (codes "1") ∷ mark ∷ word (codes "11") ∷ mark ∷ mark ∷ word (codes "1") ∷ mark ∷ word (codes "10") ∷ mark ∷ predeclared_word predeclared.Int ∷ [])
-      (node kind.SequenceType 0 11 (more (infix_of (operator.Compute arithmetic.ShiftLeft) (number 1) (number 3)) (more (node kind.SequenceType 5 11 (more (infix_of (operator.Compute arithmetic.ShiftLeft) (number 6) (number 8)) (more (name 10) none))) none))))
+      (node kind.SequenceType 0 11 (more (infix_of (operator.Compute arithmetic.ShiftLeft) (number 1) (number 3))
+      (more (node kind.SequenceType 5 11 (more (infix_of (operator.Compute arithmetic.ShiftLeft) (number 6) (number 8)) (more (name 10) none))) none))))
       ≡ fault code.Limit 0 11
   -- [1 << 70]int
   pub wide_length :
@@ -76,12 +77,17 @@ pub record TypeExamples : Type 0 where
   -- struct { a, b int; c []T }
   pub struct_type :
       told type_place (sentence (mark ∷ mark ∷ word (codes "a") ∷ mark ∷ b_word ∷ predeclared_word predeclared.Int ∷ mark ∷ word (codes "c") ∷ mark ∷ mark ∷ T_word ∷ mark ∷ [])
-      (node kind.StructType 0 12 (more (node kind.Fields 2 6 (more (node kind.NameList 2 5 (more (node kind.DeclaredName 2 3 none) (more (node kind.DeclaredName 4 5 none) none))) (more (name 5) none))) (more (node kind.Fields 7 11 (more (node kind.NameList 7 8 (more (node kind.DeclaredName 7 8 none) none)) (more (node kind.SequenceType 8 11 (skip (more (name 10) none))) none))) none))))
+      (node kind.StructType 0 12 (more (node kind.Fields 2 6 (more (node kind.NameList 2 5 (more (node kind.DeclaredName 2 3 none)
+      (more (node kind.DeclaredName 4 5 none) none))) (more (name 5) none))) (more (node kind.Fields 7 11 (more (node kind.NameList 7 8
+      (more (node kind.DeclaredName 7 8 none) none)) (more (node kind.SequenceType 8 11 (skip (more (name 10) none))) none))) none))))
       ≡ Ok (sort.IsType (structure (codes "a" ∷ codes "b" ∷ codes "c" ∷ []) (row ((integer integer_kind.Int) ∷ (integer integer_kind.Int) ∷ (slice (declared 1)) ∷ []))))
   -- func(n, u int, t string) (bool, T)
   pub function_type :
-      told type_place (sentence (mark ∷ mark ∷ n_word ∷ mark ∷ u_word ∷ predeclared_word predeclared.Int ∷ mark ∷ t_word ∷ predeclared_word predeclared.String ∷ mark ∷ mark ∷ predeclared_word predeclared.Bool ∷ mark ∷ T_word ∷ mark ∷ [])
-      (node kind.FunctionType 0 15 (more (node kind.Signature 1 15 (more (node kind.Parameters 1 10 (more (name 2) (more (node kind.Parameter 4 6 (more (name 4) (more (name 5) none))) (more (node kind.Parameter 7 9 (more (name 7) (more (name 8) none))) none)))) (more (node kind.Results 10 15 (more (name 11) (more (name 13) none))) none))) none)))
+      told type_place (sentence (mark ∷ mark ∷ n_word ∷ mark ∷ u_word ∷ predeclared_word predeclared.Int ∷ mark ∷ t_word ∷
+      predeclared_word predeclared.String ∷ mark ∷ mark ∷ predeclared_word predeclared.Bool ∷ mark ∷ T_word ∷ mark ∷ [])
+      (node kind.FunctionType 0 15 (more (node kind.Signature 1 15 (more (node kind.Parameters 1 10 (more (name 2)
+      (more (node kind.Parameter 4 6 (more (name 4) (more (name 5) none))) (more (node kind.Parameter 7 9 (more (name 7)
+      (more (name 8) none))) none)))) (more (node kind.Results 10 15 (more (name 11) (more (name 13) none))) none))) none)))
       ≡ Ok (sort.IsType (function (row ((integer integer_kind.Int) ∷ (integer integer_kind.Int) ∷ text ∷ [])) (row (boolean ∷ (declared 1) ∷ []))))
   -- func(int, []T) T
   pub unnamed_parameters :
