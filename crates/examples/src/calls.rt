@@ -6,6 +6,7 @@ ghost use Rattle.go_base.specs.Steps.{no_counts};
 use go_base::{Bytes, FaultCode, Phase, Steps};
 use go_constants::{Basic, Const, ConstOp, SharedBytes, fold, represent};
 use go_ints::{Kind, Op, arith, fits, wrap};
+use go_print::literal_text;
 use go_types::{Field, Fields, Shape, TypeId, TypeIds, Types};
 use std::marker::Brand;
 use std::process::Abort;
@@ -68,6 +69,22 @@ fn joins_texts(rt: HostRuntime) -> Result<(), Fail> {
         return Err("a text".into());
     };
     assert_eq!(rt; bytes.as_slice(), b"abc".as_slice());
+    Ok(())
+}
+
+#[test]
+fn writes_literals(rt: HostRuntime) -> Result<(), Fail> {
+    let alloc = rt.alloc();
+    let text = Const::Text(SharedBytes::from_slice(alloc, b"a\"\n\xff")?);
+    assert_eq!(rt;
+        literal_text(alloc, &text)?.as_slice(),
+        b"\"a\\\"\\x0a\\xff\"".as_slice()
+    );
+    let number = Const::Int {
+        value: -3,
+        rune: false,
+    };
+    assert_eq!(rt; literal_text(alloc, &number)?.as_slice(), b"-3".as_slice());
     Ok(())
 }
 

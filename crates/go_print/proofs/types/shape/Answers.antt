@@ -1,0 +1,5 @@
+use Rattle.type_tests.proofs.Calls.{shape_tree}
+use Rattle.go_print.proofs.types.shape.Goals as goal
+
+pub returns-clause-tree : goal.returns-clause-tree
+returns-clause-tree c = shape_tree c.args.types.now c.count.ensures.table c.args.of c.shape.result.now c.shape.ensures
