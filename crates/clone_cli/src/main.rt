@@ -6,6 +6,3 @@ use std::process::ExitCode;
 fn main(rt: HostRuntime) -> ExitCode {
     clone_serve::run(rt)
 }
-
-#[cfg(test)]
-mod tests;

@@ -1,5 +1,4 @@
 mod Order
 mod Lists
 mod AtPlace
-mod Applied
-mod OneFile
+pub mod Applied

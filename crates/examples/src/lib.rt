@@ -9,8 +9,14 @@
 #[cfg(test)]
 mod calls;
 #[cfg(test)]
+mod folders;
+#[cfg(test)]
 mod path_files;
 #[cfg(test)]
+mod program;
+#[cfg(test)]
 mod script;
+#[cfg(test)]
+mod texts;
 #[cfg(test)]
 mod types;

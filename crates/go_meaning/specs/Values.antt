@@ -1,5 +1,5 @@
 -- Values, and what is read of them.
-use Rattle.std.specs.Prelude.{ℕ, zero, suc, ℤ, pos, negsuc, Bool, true, false, ◌&&◌, not, nat_lt, if◌then◌else◌, List, [], ◌∷◌, Option, Some, None, get_or, slice_set}
+use Rattle.std.specs.Prelude.{ℕ, zero, suc, ◌%◌, ℤ, pos, negsuc, Bool, true, false, ◌&&◌, not, nat_lt, if◌then◌else◌, List, [], ◌∷◌, Option, Some, None, get_or, slice_set}
 use Rattle.std.specs.Ordering.{int_eq}
 use Rattle.std.specs.Str.{bytes_eq}
 use Rattle.go_constants.specs.declared.values.Const.{Const}
@@ -80,7 +80,7 @@ text_of (Text bytes) = bytes
 text_of v = []
 
 abbrev pub byte_of : Value → ℕ
-byte_of (Whole (pos n)) = n
+byte_of (Whole (pos n)) = n % 256
 byte_of v = 0
 
 -- the array or struct with another part at the place

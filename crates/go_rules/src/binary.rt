@@ -42,7 +42,8 @@ fn op_of(operator: Arithmetic) -> Op
     }
 }
 
-pub(crate) fn comparing(operator: Comparison) -> ConstOp
+/// The operation on constants of a comparison.
+pub fn comparing(operator: Comparison) -> ConstOp
     ensures { result ≡ comparing operator }
 {
     match operator {
@@ -56,7 +57,7 @@ pub(crate) fn comparing(operator: Comparison) -> ConstOp
 }
 
 /// The operation on constants.
-pub(crate) fn constant_op(operator: Operator) -> ConstOp
+pub fn constant_op(operator: Operator) -> ConstOp
     ensures { result ≡ constant_op operator }
 {
     match operator {

@@ -61,7 +61,7 @@ fn typed_compared(types: &Types, left: &Sort, right: &Sort) -> Option<Joint>
 }
 
 /// Where two values are compared: one is assignable to the other's type, or one is `nil`.
-pub(crate) fn compared_in(types: &Types, left: &Sort, right: &Sort) -> Option<Joint>
+pub fn compared_in(types: &Types, left: &Sort, right: &Sort) -> Option<Joint>
     requires left { KnownSort (length types.now.shapes) left.now }
     requires right { KnownSort (length types.now.shapes) right.now }
     ensures known { IfSome result (KnownJoint (length types.now.shapes)) }

@@ -31,7 +31,7 @@ use type_tests::{assignable, identical, underlying};
 
 /// The number of the underlying type, or `None` for a declared type that has no right side yet (Go specification, "Underlying
 /// types").
-pub(crate) fn underlying_type(types: &Types, of: TypeId) -> Option<TypeId>
+pub fn underlying_type(types: &Types, of: TypeId) -> Option<TypeId>
     requires { of < length types.now.shapes }
     ensures known { IfSome result (λ u. u < length types.now.shapes) }
     ensures tree { option_map (type_of types.now.shapes) result ≡ underlying_of (rights_of types.now) (type_of types.now.shapes of) }
@@ -94,7 +94,7 @@ fn is_text_type(types: &Types, of: TypeId) -> bool
 }
 
 /// Whether a constant is of the family of the type, so that it keeps its value.
-fn keeps_value(types: &Types, to: TypeId, constant: Option<&Const>) -> bool
+pub fn keeps_value(types: &Types, to: TypeId, constant: Option<&Const>) -> bool
     requires { to < length types.now.shapes }
     ensures { result ≡ keeps_value (rights_of types.now) (type_of types.now.shapes to) (option_map (λ c. c.now) constant.entry) }
 {
@@ -105,7 +105,7 @@ fn keeps_value(types: &Types, to: TypeId, constant: Option<&Const>) -> bool
 }
 
 /// Whether it is an integer constant that becomes a text.
-fn becomes_text(types: &Types, to: TypeId, constant: Option<&Const>) -> bool
+pub fn becomes_text(types: &Types, to: TypeId, constant: Option<&Const>) -> bool
     requires { to < length types.now.shapes }
     ensures { result ≡ becomes_text (rights_of types.now) (type_of types.now.shapes to) (option_map (λ c. c.now) constant.entry) }
 {
@@ -162,7 +162,8 @@ fn value_type(types: &Types, basics: Basics, sort: &Sort) -> Option<TypeId>
     }
 }
 
-fn operands_unless(place: Place, holds: bool) -> Option<TypeFault>
+/// The fault of operands that the operation here doesn't have, unless a test holds.
+pub fn operands_unless(place: Place, holds: bool) -> Option<TypeFault>
     ensures { result ≡ least (operands_unless holds place.first place.last) }
 {
     if holds {

@@ -23,7 +23,7 @@ pub struct Place {
 
 impl Place {
     /// The fault of a rule that fails here.
-    pub(crate) fn fault(self, code: FaultCode) -> TypeFault
+    pub fn fault(self, code: FaultCode) -> TypeFault
         ensures { result ≡ record { code = code; first = self.first; last = self.last } }
     {
         TypeFault {
@@ -51,7 +51,7 @@ impl TypeFault {
 
 /// The first of two faults, where there is one.
 #[tactic(auto, unfolding(crate::specs::Faults::sooner))]
-pub(crate) fn earlier(one: Option<TypeFault>, other: Option<TypeFault>) -> Option<TypeFault>
+pub fn earlier(one: Option<TypeFault>, other: Option<TypeFault>) -> Option<TypeFault>
     ensures { result ≡ earlier one other }
 {
     match (one, other) {
@@ -63,7 +63,7 @@ pub(crate) fn earlier(one: Option<TypeFault>, other: Option<TypeFault>) -> Optio
 
 /// The first of two faults, of which one may be none.
 #[tactic(auto, unfolding(crate::specs::Faults::sooner))]
-pub(crate) fn or_earlier(one: Option<TypeFault>, other: TypeFault) -> TypeFault
+pub fn or_earlier(one: Option<TypeFault>, other: TypeFault) -> TypeFault
     ensures { earlier one (Some other) ≡ Some result }
 {
     match one {

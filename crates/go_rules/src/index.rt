@@ -61,7 +61,8 @@ pub fn bound(
     }
 }
 
-fn text_length(constant: Option<&Const>) -> Option<u64>
+/// The length in bytes of a constant text.
+pub fn text_length(constant: Option<&Const>) -> Option<u64>
     ensures { result ≡ text_length (option_map (λ c. c.now) constant.entry) }
 {
     match constant {
@@ -71,7 +72,7 @@ fn text_length(constant: Option<&Const>) -> Option<u64>
 }
 
 /// The type of the elements of an array or a slice.
-pub(crate) fn element(types: &Types, sort: &Sort) -> Option<TypeId>
+pub fn element(types: &Types, sort: &Sort) -> Option<TypeId>
     requires { KnownSort (length types.now.shapes) sort.now }
     ensures known { IfSome result (λ t. t < length types.now.shapes) }
     ensures tree { option_map (type_of types.now.shapes) result ≡ element_of (form_of_value (rights_of types.now) (sort_seen types.now sort.now)) }
@@ -86,7 +87,8 @@ pub(crate) fn element(types: &Types, sort: &Sort) -> Option<TypeId>
     }
 }
 
-fn array_length(types: &Types, sort: &Sort) -> Option<u64>
+/// The length of an array's type.
+pub fn array_length(types: &Types, sort: &Sort) -> Option<u64>
     requires { KnownSort (length types.now.shapes) sort.now }
     ensures { result ≡ array_length (form_of_value (rights_of types.now) (sort_seen types.now sort.now)) }
 {

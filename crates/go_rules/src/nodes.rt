@@ -13,7 +13,7 @@ use go_typed::{Sort, TypedNode};
 use go_types::{TypeId, Types};
 
 /// What a node stands for.
-pub(crate) fn sort_of<'a>(types: &Types, node: &'a TypedNode) -> &'a Sort
+pub fn sort_of<'a>(types: &Types, node: &'a TypedNode) -> &'a Sort
     requires { Known (length types.now.shapes) node.now }
     ensures tree { sort_seen types.now result.now ≡ sort_of (seen types.now node.now) }
     ensures known { KnownSort (length types.now.shapes) result.now }
@@ -22,7 +22,7 @@ pub(crate) fn sort_of<'a>(types: &Types, node: &'a TypedNode) -> &'a Sort
 }
 
 /// The fault of a rule that fails at a node.
-pub(crate) fn fault_at(_types: &Types, node: &TypedNode, code: FaultCode) -> TypeFault
+pub fn fault_at(_types: &Types, node: &TypedNode, code: FaultCode) -> TypeFault
     ensures { at_part code (seen _types.now node.now) ≡ result ∷ [] }
 {
     let place = Place {

@@ -14,7 +14,7 @@ use type_tests::identical;
 
 /// Where two operands meet: in a type, or in a kind where both are untyped.
 #[derive(Clone, Copy, Debug, PartialEq, Eq)]
-pub(crate) enum Joint {
+pub enum Joint {
     Type(TypeId),
     Kind(OpenKind),
 }
@@ -64,7 +64,7 @@ fn open_kinds(types: &Types, one: Option<OpenKind>, other: Option<OpenKind>) -> 
 
 /// Where the operands of a binary operator meet (Go specification, "Operators"): an untyped one takes the other's type, two
 /// untyped ones stay untyped.
-pub(crate) fn common(types: &Types, left: &Sort, right: &Sort) -> Option<Joint>
+pub fn common(types: &Types, left: &Sort, right: &Sort) -> Option<Joint>
     requires left { KnownSort (length types.now.shapes) left.now }
     requires right { KnownSort (length types.now.shapes) right.now }
     ensures known { IfSome result (KnownJoint (length types.now.shapes)) }
@@ -82,7 +82,8 @@ pub(crate) fn common(types: &Types, left: &Sort, right: &Sort) -> Option<Joint>
     }
 }
 
-pub(crate) fn joint_family(types: &Types, joint: Joint) -> Option<Family>
+/// The family of that in which two operands meet.
+pub fn joint_family(types: &Types, joint: Joint) -> Option<Family>
     requires { KnownJoint (length types.now.shapes) joint }
     ensures { result ≡ family_in (rights_of types.now) (common_seen types.now joint) }
 {

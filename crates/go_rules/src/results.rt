@@ -33,7 +33,7 @@ fn open_value(types: &Types, kind: OpenKind) -> Sort
 }
 
 /// A value that is no constant.
-pub(crate) fn value_in(types: &Types, joint: Joint) -> Sort
+pub fn value_in(types: &Types, joint: Joint) -> Sort
     requires { KnownJoint (length types.now.shapes) joint }
     ensures tree { sort_seen types.now result ≡ value_in (common_seen types.now joint) }
     ensures known { KnownSort (length types.now.shapes) result }
@@ -45,7 +45,7 @@ pub(crate) fn value_in(types: &Types, joint: Joint) -> Sort
 }
 
 /// A constant, where its type has the value.
-pub(crate) fn constant_in(
+pub fn constant_in(
     types: &Types,
     place: Place,
     joint: Joint,
@@ -66,7 +66,7 @@ pub(crate) fn constant_in(
 }
 
 /// What an operation on two constants stands for.
-pub(crate) fn computed(
+pub fn computed(
     alloc: Global,
     types: &Types,
     place: Place,
@@ -89,7 +89,7 @@ pub(crate) fn computed(
 }
 
 /// What an operation on two operands stands for.
-pub(crate) fn operation(
+pub fn operation(
     alloc: Global,
     types: &Types,
     place: Place,

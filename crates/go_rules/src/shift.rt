@@ -26,7 +26,8 @@ use go_typed::{Sort, TypedNode};
 use go_types::Types;
 use std::alloc::Global;
 
-pub(crate) fn is_negative(constant: Option<&Const>) -> bool
+/// Whether it is an integer below 0.
+pub fn is_negative(constant: Option<&Const>) -> bool
     ensures { result ≡ is_negative (option_map (λ c. c.now) constant.entry) }
 {
     match constant {
@@ -36,7 +37,7 @@ pub(crate) fn is_negative(constant: Option<&Const>) -> bool
 }
 
 /// Whether it is an integer, or an untyped number.
-pub(crate) fn is_whole(types: &Types, sort: &Sort) -> bool
+pub fn is_whole(types: &Types, sort: &Sort) -> bool
     requires { KnownSort (length types.now.shapes) sort.now }
     ensures { result ≡ is_whole (rights_of types.now) (sort_seen types.now sort.now) }
 {

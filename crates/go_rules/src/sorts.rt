@@ -13,7 +13,8 @@ use go_typed::{Sort, Untyped};
 use go_types::{Shape, TypeId, Types};
 use type_tests::underlying;
 
-pub(crate) fn const_family(constant: &Const) -> Family
+/// The family of a constant.
+pub fn const_family(constant: &Const) -> Family
     ensures { result ≡ family_of_const constant.now }
 {
     match constant {
@@ -23,7 +24,8 @@ pub(crate) fn const_family(constant: &Const) -> Family
     }
 }
 
-pub(crate) fn const_kind(constant: &Const) -> OpenKind
+/// The kind of an untyped constant.
+pub fn const_kind(constant: &Const) -> OpenKind
     ensures { result ≡ kind_of_const constant.now }
 {
     match constant {
@@ -34,7 +36,8 @@ pub(crate) fn const_kind(constant: &Const) -> OpenKind
     }
 }
 
-pub(crate) fn kind_family(kind: OpenKind) -> Family
+/// The family of a kind of untyped values.
+pub fn kind_family(kind: OpenKind) -> Family
     ensures { result ≡ family_of_open kind }
 {
     match kind {
@@ -44,7 +47,8 @@ pub(crate) fn kind_family(kind: OpenKind) -> Family
     }
 }
 
-pub(crate) fn untyped_kind(untyped: Untyped) -> OpenKind
+/// The kind of an untyped value that is no constant.
+pub fn untyped_kind(untyped: Untyped) -> OpenKind
     ensures { result ≡ kind_of_untyped untyped }
 {
     match untyped {
@@ -55,7 +59,7 @@ pub(crate) fn untyped_kind(untyped: Untyped) -> OpenKind
 }
 
 /// The kind of what is untyped.
-pub(crate) fn open_kind(_types: &Types, sort: &Sort) -> Option<OpenKind>
+pub fn open_kind(_types: &Types, sort: &Sort) -> Option<OpenKind>
     ensures { result ≡ open_kind (sort_seen _types.now sort.now) }
 {
     match sort {
@@ -67,14 +71,15 @@ pub(crate) fn open_kind(_types: &Types, sort: &Sort) -> Option<OpenKind>
     }
 }
 
-pub(crate) fn is_open(_types: &Types, sort: &Sort) -> bool
+/// Whether it is an untyped value.
+pub fn is_open(_types: &Types, sort: &Sort) -> bool
     ensures { result ≡ is_open (sort_seen _types.now sort.now) }
 {
     matches!(sort, Sort::Open(_) | Sort::OpenConstant(_))
 }
 
 /// The type of what has one.
-pub(crate) fn own_type(types: &Types, sort: &Sort) -> Option<TypeId>
+pub fn own_type(types: &Types, sort: &Sort) -> Option<TypeId>
     requires { KnownSort (length types.now.shapes) sort.now }
     ensures known { IfSome result (λ t. t < length types.now.shapes) }
     ensures tree { option_map (type_of types.now.shapes) result ≡ own_type (sort_seen types.now sort.now) }
@@ -86,7 +91,8 @@ pub(crate) fn own_type(types: &Types, sort: &Sort) -> Option<TypeId>
     }
 }
 
-pub(crate) fn constant_of<'a>(_types: &Types, sort: &'a Sort) -> Option<&'a Const>
+/// The constant that it is, if it is one.
+pub fn constant_of<'a>(_types: &Types, sort: &'a Sort) -> Option<&'a Const>
     ensures { option_map (λ c. c.now) result ≡ constant_of (sort_seen _types.now sort.now) }
 {
     match sort {
@@ -96,20 +102,22 @@ pub(crate) fn constant_of<'a>(_types: &Types, sort: &'a Sort) -> Option<&'a Cons
     }
 }
 
-pub(crate) fn is_constant(_types: &Types, sort: &Sort) -> bool
+/// Whether it is a constant.
+pub fn is_constant(_types: &Types, sort: &Sort) -> bool
     ensures { result ≡ is_constant (sort_seen _types.now sort.now) }
 {
     matches!(sort, Sort::Constant(_, _) | Sort::OpenConstant(_))
 }
 
-pub(crate) fn is_nil(_types: &Types, sort: &Sort) -> bool
+/// Whether it is `nil`.
+pub fn is_nil(_types: &Types, sort: &Sort) -> bool
     ensures { result ≡ is_nil (sort_seen _types.now sort.now) }
 {
     matches!(sort, Sort::Nil)
 }
 
 /// The family of a type by its underlying type.
-pub(crate) fn type_family(types: &Types, of: TypeId) -> Option<Family>
+pub fn type_family(types: &Types, of: TypeId) -> Option<Family>
     requires { of < length types.now.shapes }
     ensures { result ≡ family_of_type (underlying_of (rights_of types.now) (type_of types.now.shapes of)) }
 {
@@ -122,7 +130,7 @@ pub(crate) fn type_family(types: &Types, of: TypeId) -> Option<Family>
 }
 
 /// The family of a value of a basic type, or of an untyped one.
-pub(crate) fn family(types: &Types, sort: &Sort) -> Option<Family>
+pub fn family(types: &Types, sort: &Sort) -> Option<Family>
     requires { KnownSort (length types.now.shapes) sort.now }
     ensures { result ≡ family_of (rights_of types.now) (sort_seen types.now sort.now) }
 {
@@ -136,7 +144,8 @@ pub(crate) fn family(types: &Types, sort: &Sort) -> Option<Family>
     }
 }
 
-pub(crate) fn is_family(one: Family, other: Option<Family>) -> bool
+/// Whether it is there and this family.
+pub fn is_family(one: Family, other: Option<Family>) -> bool
     ensures { result ≡ is_family one other }
 {
     match other {
@@ -157,7 +166,7 @@ fn is_same(one: Family, other: Family) -> bool
 }
 
 /// Whether an untyped value of the kind may take the type.
-pub(crate) fn suits(types: &Types, kind: OpenKind, of: TypeId) -> bool
+pub fn suits(types: &Types, kind: OpenKind, of: TypeId) -> bool
     requires { of < length types.now.shapes }
     ensures { result ≡ suits (rights_of types.now) kind (type_of types.now.shapes of) }
 {
@@ -165,7 +174,7 @@ pub(crate) fn suits(types: &Types, kind: OpenKind, of: TypeId) -> bool
 }
 
 /// Whether `nil` is a value of the type.
-pub(crate) fn has_nil(types: &Types, of: TypeId) -> bool
+pub fn has_nil(types: &Types, of: TypeId) -> bool
     requires { of < length types.now.shapes }
     ensures { result ≡ has_nil (underlying_of (rights_of types.now) (type_of types.now.shapes of)) }
 {
@@ -177,7 +186,7 @@ pub(crate) fn has_nil(types: &Types, of: TypeId) -> bool
 }
 
 /// Whether the type has the constant's value (Go specification, "Representability").
-pub(crate) fn represents(types: &Types, of: TypeId, constant: &Const) -> bool
+pub fn represents(types: &Types, of: TypeId, constant: &Const) -> bool
     requires { of < length types.now.shapes }
     ensures { result ≡ represents (rights_of types.now) (type_of types.now.shapes of) constant.now }
 {

@@ -73,7 +73,8 @@ pub fn compared_take(types: &Types, basics: Basics, left: &Sort, right: &Sort) -
     }
 }
 
-pub(crate) fn is_integer_type(types: &Types, of: TypeId) -> bool
+/// Whether its underlying type is an integer type.
+pub fn is_integer_type(types: &Types, of: TypeId) -> bool
     requires { of < length types.now.shapes }
     ensures { result ≡ is_integer_type (rights_of types.now) (type_of types.now.shapes of) }
 {

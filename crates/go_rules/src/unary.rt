@@ -24,7 +24,7 @@ use std::alloc::Global;
 use type_tests::underlying;
 
 /// In what a value stands by itself.
-pub(crate) fn own(types: &Types, sort: &Sort) -> Option<Joint>
+pub fn own(types: &Types, sort: &Sort) -> Option<Joint>
     requires { KnownSort (length types.now.shapes) sort.now }
     ensures known { IfSome result (KnownJoint (length types.now.shapes)) }
     ensures tree { option_map (common_seen types.now) result ≡ own (sort_seen types.now sort.now) }

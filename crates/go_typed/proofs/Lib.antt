@@ -3,6 +3,7 @@ mod Innermost
 mod ListPlaces
 mod Mapped
 mod Nodes
+mod NodeTables
 mod Referents
 mod Renamings
 mod Uses

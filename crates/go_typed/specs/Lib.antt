@@ -6,6 +6,7 @@ pub mod Lists
 pub mod Funcs
 pub mod Windows
 pub mod Places
+pub mod NodeTables
 pub mod Packages
 pub mod Contents
 pub mod Examples

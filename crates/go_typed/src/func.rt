@@ -1,12 +1,17 @@
 //! Functions with their types.
 
-ghost use Rattle.std.specs.Prelude.{◌≡◌, map};
-ghost use Rattle.go_typed.specs.Funcs.{FuncView, IsTypedFunc, named_at};
-ghost use Rattle.go_typed.specs.Views.{sort_view};
+ghost use Rattle.std.specs.Prelude.{◌≡◌, IfOk, map, slice_get};
+ghost use Rattle.std.specs.Option.{option_map};
+ghost use Rattle.go_typed.specs.Funcs.{FuncView, IsTypedFunc, named_at, tree_of};
+ghost use Rattle.go_typed.specs.Lists.{statement_lists};
+ghost use Rattle.go_typed.specs.Views.{sort_view, view};
 
 use crate::node::TypedNode;
+use crate::node_table::NodeTable;
 use crate::sort::Sort;
+use go_base::Memory;
 use go_types::TypeId;
+use std::alloc::Global;
 use std::marker::Model;
 
 /// A function with its types.
@@ -21,6 +26,7 @@ pub struct TypedFunc {
     locals: Vec<Sort>,
     tokens: Vec<Option<u32>>,
     root: TypedNode,
+    table: NodeTable,
 }
 
 impl Model for TypedFunc {
@@ -28,6 +34,7 @@ impl Model for TypedFunc {
     ghost use Rattle.std.specs.Prelude.{map};
     ghost use Rattle.go_typed.specs.contracts.node.TypedNode as e;
     ghost use Rattle.go_typed.specs.Funcs.{FuncView, IsTypedFunc};
+    ghost use Rattle.go_typed.specs.NodeTables.{IsNodeTable};
     ghost use Rattle.go_typed.specs.Views.{sort_view};
 
     ghost Value = { FuncView };
@@ -36,31 +43,38 @@ impl Model for TypedFunc {
 
     ghost view = { λ f. record { number = f.number; signature = f.signature; parameters = f.parameters.items; locals = map sort_view f.locals.items; tokens = f.tokens.items; root = f.root } };
 
-    ghost invariant = { λ f. IsTypedFunc (record { number = f.number; signature = f.signature; parameters = f.parameters.items; locals = map sort_view f.locals.items; tokens = f.tokens.items; root = f.root }) };
+    ghost invariant = { λ f. IsTypedFunc (record { number = f.number; signature = f.signature; parameters = f.parameters.items; locals = map sort_view f.locals.items; tokens = f.tokens.items; root = f.root }) × IsNodeTable f.root f.table };
 }
 
 impl TypedFunc {
     /// The function of this number and type, with its locals: which of them each parameter is and each token names, and what
     /// they stand for.
+    ///
+    /// # Errors
+    ///
+    /// Want of memory.
     pub fn new(
+        alloc: Global,
         number: u32,
         signature: TypeId,
         parameters: Vec<Option<u32>>,
         locals: Vec<Sort>,
         tokens: Vec<Option<u32>>,
         root: TypedNode,
-    ) -> TypedFunc
+    ) -> Result<TypedFunc, Memory>
         requires { IsTypedFunc (record { number = number; signature = signature; parameters = parameters.items; locals = map sort_view locals.items; tokens = tokens.items; root = root }) }
-        ensures { result ≡ record { number = number; signature = signature; parameters = parameters.items; locals = map sort_view locals.items; tokens = tokens.items; root = root } }
+        ensures { IfOk result (λ f. f ≡ record { number = number; signature = signature; parameters = parameters.items; locals = map sort_view locals.items; tokens = tokens.items; root = root }) }
     {
-        TypedFunc {
+        let table = NodeTable::of(alloc, &root)?;
+        Ok(TypedFunc {
             number,
             signature,
             parameters,
             locals,
             tokens,
             root,
-        }
+            table,
+        })
     }
 
     /// Its number among the functions of the package, from 0, in the order of files and places.
@@ -106,6 +120,14 @@ impl TypedFunc {
             Some(Some(local)) => Some(*local),
             _ => None,
         }
+    }
+
+    /// Its statement list of this number, if there are so many; they are numbered from 0, each before those within it and otherwise
+    /// in order of place. It costs the way from the function's root to it.
+    pub fn list(&self, number: usize) -> Option<&TypedNode>
+        ensures { slice_get (statement_lists (tree_of self.now)) number ≡ option_map (λ n. view n.now) result }
+    {
+        self.table.list(&self.root, number)
     }
 
     /// Its tree.

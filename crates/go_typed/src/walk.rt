@@ -12,7 +12,6 @@ ghost use Rattle.go_typed.specs.Windows.{local_uses, use_at, uses_from};
 
 use crate::form::Form;
 use crate::func::TypedFunc;
-use crate::lists::StatementLists;
 use crate::node::TypedNode;
 use crate::window::Window;
 use go_base::Memory;
@@ -39,10 +38,9 @@ pub fn walk_locals(
 ) -> Result<Vec<LocalUse>, Memory>
     ensures { IfOk result (λ uses. uses.items ≡ local_uses func.now window.now) }
 {
-    let lists = StatementLists::of(alloc, func.root())?;
     let last = (window.first as usize + window.count as usize).saturating_sub(1);
     let mut uses = Vec::new(alloc);
-    if let Some(list) = lists.get(window.list as usize) {
+    if let Some(list) = func.list(window.list as usize) {
         if let Some(first) = list.statement(window.first as usize) {
             if let Some(last) = list.statement(last) {
                 push_uses(func, first.first, last.last, &mut uses)?;

@@ -23,6 +23,3 @@ mod store;
 pub use folder::{DirFolder, Folder, FolderError, MemFolder, SureFolder};
 pub use sink::{FileSink, MemSink, Sink, SinkError, SureSink};
 pub use source::{Failed, FileSource, MemSource, Source, SureSource};
-
-#[cfg(test)]
-mod tests;

@@ -2,8 +2,8 @@
 
 ghost use Rattle.std.specs.Prelude.{◌≡◌, IsSome};
 
-use crate::{DirFolder, FileSink, FileSource, Folder, FolderError, Sink, SinkError, Source};
 use go_base::Name;
+use port_io::{DirFolder, FileSink, FileSource, Folder, FolderError, Sink, SinkError, Source};
 use std::io::{ErrorKind, Write};
 use std::test::Fail;
 use std::{fs, io};

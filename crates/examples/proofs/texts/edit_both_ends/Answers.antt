@@ -1,6 +1,6 @@
 use Rattle.std.proofs.Common.{length, ap, sym, ◌∙◌}
-use Rattle.edit_apply.proofs.OneFile.{both-applicable}
-use Rattle.edit_apply.proofs.texts.tests.edit_both_ends.Goals as goal
+use Rattle.examples.proofs.OneFile.{both-applicable}
+use Rattle.examples.proofs.texts.edit_both_ends.Goals as goal
 
 pub apply-requires : goal.apply-requires
 apply-requires c =
