@@ -53,7 +53,7 @@ abbrev pub counting : Tree
 counting = node kind.For 18 26 (two (infix_of (operator.Compare comparison.Less) (name 19) (name 21)) (block 22 26 (one (node (kind.StepStatement step.Increment) 23 25 (one (name 23))))))
 
 abbrev pub ranging : Tree
-ranging = node kind.For 27 37 (two (node kind.DefiningRange 28 32 (two (node kind.NewNames 28 30 (one (name 28))) (name 31))) (block 32 37 (one (assignment 33 35 36 (one (name 33)) (one (name 35))))))
+ranging = node kind.For 27 37 (two (node kind.DefiningRange 28 32 (two (node kind.NewNames 28 30 (one (node kind.ExpressionList 28 29 (one (name 28))))) (name 31))) (block 32 37 (one (assignment 33 35 36 (one (name 33)) (one (name 35))))))
 
 abbrev pub switching : Tree
 switching = node kind.Switch 38 50 (more (name 39) (two

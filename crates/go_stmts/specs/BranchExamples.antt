@@ -49,12 +49,12 @@ pub record BranchExamples : Type 0 where
   -- for p := range n { p++ }
   pub no_range :
       stated (mark ∷ p_word ∷ mark ∷ mark ∷ n_word ∷ mark ∷ p_word ∷ mark ∷ mark ∷ [])
-      (node kind.For 0 9 (two (node kind.DefiningRange 1 5 (two (node kind.NewNames 1 3 (one (name 1))) (name 4))) (block 5 9 (one (node (kind.StepStatement step.Increment) 6 8 (one (name 6)))))))
+      (node kind.For 0 9 (two (node kind.DefiningRange 1 5 (two (node kind.NewNames 1 3 (one (node kind.ExpressionList 1 2 (one (name 1))))) (name 4))) (block 5 9 (one (node (kind.StepStatement step.Increment) 6 8 (one (name 6)))))))
       ≡ refused code.Operands 4 5
   -- for 1 = range s { }
   pub constant_of_range :
       stated (mark ∷ word (codes "1") ∷ mark ∷ mark ∷ s_word ∷ mark ∷ mark ∷ [])
-      (node kind.For 0 7 (two (node kind.AssigningRange 1 5 (two (node kind.Targets 1 3 (one (number 1))) (name 4))) (block 5 7 none)))
+      (node kind.For 0 7 (two (node kind.AssigningRange 1 5 (two (node kind.Targets 1 3 (one (node kind.ExpressionList 1 2 (one (number 1))))) (name 4))) (block 5 7 none)))
       ≡ refused code.LeftSide 1 2
   -- func () int { if b { return 1 } else { return 2 } }
   pub both_branches :

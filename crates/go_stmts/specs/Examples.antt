@@ -188,17 +188,17 @@ pub record StatementExamples : Type 0 where
   -- for _, p := range 'e' { x8 = p }
   pub range_of_rune :
       stated (mark ∷ mark ∷ mark ∷ p_word ∷ mark ∷ mark ∷ word (codes "'e'") ∷ mark ∷ x8_word ∷ mark ∷ p_word ∷ mark ∷ [])
-      (node kind.For 0 12 (two (node kind.DefiningRange 1 7 (two (node kind.NewNames 1 5 (two (name 1) (name 3))) (character 6))) (block 7 12 (one (assignment 8 10 11 (one (name 8)) (one (name 10)))))))
+      (node kind.For 0 12 (two (node kind.DefiningRange 1 7 (two (node kind.NewNames 1 5 (one (node kind.ExpressionList 1 4 (two (name 1) (name 3))))) (character 6))) (block 7 12 (one (assignment 8 10 11 (one (name 8)) (one (name 10)))))))
       ≡ refused code.Operands 6 7
   -- for p, q := range t { }
   pub range_of_text :
       stated (mark ∷ p_word ∷ mark ∷ q_word ∷ mark ∷ mark ∷ t_word ∷ mark ∷ mark ∷ [])
-      (node kind.For 0 9 (two (node kind.DefiningRange 1 7 (two (node kind.NewNames 1 5 (two (name 1) (name 3))) (name 6))) (block 7 9 none)))
+      (node kind.For 0 9 (two (node kind.DefiningRange 1 7 (two (node kind.NewNames 1 5 (one (node kind.ExpressionList 1 4 (two (name 1) (name 3))))) (name 6))) (block 7 9 none)))
       ≡ two_declared (sort.Value int) (sort.Value (integer integer_kind.Int32))
   -- for t = range s { }
   pub range_to_text :
       stated (mark ∷ t_word ∷ mark ∷ mark ∷ s_word ∷ mark ∷ mark ∷ [])
-      (node kind.For 0 7 (two (node kind.AssigningRange 1 5 (two (node kind.Targets 1 3 (one (name 1))) (name 4))) (block 5 7 none)))
+      (node kind.For 0 7 (two (node kind.AssigningRange 1 5 (two (node kind.Targets 1 3 (one (node kind.ExpressionList 1 2 (one (name 1))))) (name 4))) (block 5 7 none)))
       ≡ refused code.Assignable 4 5
   -- return 1, in a function without results
   pub value_returned : stated (mark ∷ word (codes "1") ∷ []) (node kind.Return 0 2 (one (node kind.ExpressionList 1 2 (one (number 1))))) ≡ refused code.Count 0 2

@@ -167,7 +167,8 @@ without_absent (None ∷ xs) = without_absent xs
 
 -- The parts of a node whose first token is i, with those of the nodes that only hold parts in their places
 abbrev pub layout : Frame → Kind → ℕ → Parts → Parts
-layout s kind.NewNames i xs = map (new_name s.locals) xs
+layout s kind.Targets i xs = all_held xs
+layout s kind.NewNames i xs = map (new_name s.locals) (all_held xs)
 layout s kind.Values i xs = all_held xs
 layout s kind.TypedValues i xs = all_held xs
 layout s (kind.Specification declaring.Type) i xs = Some (type_name s i) ∷ xs

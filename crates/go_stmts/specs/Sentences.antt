@@ -1,5 +1,5 @@
 -- Statements for worked examples, in the function around the examples of expressions, with four locals more: p, q, r and z.
-use Rattle.std.specs.Prelude.{ℕ, suc, List, [], ◌∷◌, ◌++◌, codes, map, Some, None, Result, Ok, Err}
+use Rattle.std.specs.Prelude.{ℕ, suc, ◌-◌, List, [], ◌∷◌, ◌++◌, codes, map, Some, None, Result, Ok, Err}
 use Rattle.go_base.specs.declared.fault.FaultCode.{FaultCode}
 use Rattle.go_grammar.specs.declared.kind.Kind.TheVariants as kind
 use Rattle.go_grammar.specs.Trees.{Tree, node, Trees, none, more}
@@ -75,10 +75,10 @@ two x y = more x (more y none)
 
 -- from i up to j, the values from m on
 abbrev pub assignment : ℕ → ℕ → ℕ → Trees → Trees → Tree
-assignment i m j ls rs = node kind.Assignment i j (two (node kind.Targets i m ls) (node kind.ExpressionList m j rs))
+assignment i m j ls rs = node kind.Assignment i j (two (node kind.Targets i m (one (node kind.ExpressionList i (m - 1) ls))) (node kind.ExpressionList m j rs))
 
 abbrev pub definition : ℕ → ℕ → ℕ → Trees → Trees → Tree
-definition i m j ls rs = node kind.Define i j (two (node kind.NewNames i m ls) (node kind.ExpressionList m j rs))
+definition i m j ls rs = node kind.Define i j (two (node kind.NewNames i m (one (node kind.ExpressionList i (m - 1) ls))) (node kind.ExpressionList m j rs))
 
 abbrev pub statement : ℕ → ℕ → Tree → Tree
 statement i j x = node kind.ExpressionStatement i j (one x)

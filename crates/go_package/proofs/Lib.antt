@@ -1,0 +1,5 @@
+pub mod Examples
+pub mod Checks
+pub mod Resolved
+pub mod Single
+pub mod Portions
