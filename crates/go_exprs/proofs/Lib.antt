@@ -1,0 +1,3 @@
+pub mod Nodes
+pub mod Giving
+pub mod Layouts

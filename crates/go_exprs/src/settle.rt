@@ -1,0 +1,95 @@
+//! Untyped values take types.
+ghost use Rattle.std.specs.Prelude.{◌≡◌, ◌<◌, ◌∷◌, [], length, map};
+ghost use Rattle.std.specs.Option.{option_map};
+ghost use Rattle.std.specs.List.{All};
+ghost use Rattle.go_types.specs.Tables.{type_of};
+ghost use Rattle.go_typed.specs.Trees.{sort_of};
+ghost use Rattle.go_typed.specs.Views.{seen, sort_seen, Known, AllKnown, KnownSort};
+ghost use Rattle.go_rules.specs.Seen.{AreBasics};
+ghost use Rattle.go_rules.specs.Takes.{take_seen, KnownTake};
+ghost use Rattle.go_rules.specs.Sorts.{retyped};
+ghost use Rattle.go_rules.specs.Settling.{settled, given};
+ghost use Rattle.go_rules.specs.Tables.{take_optional, all_given};
+
+use go_rules::basics::default_type;
+use go_rules::nodes::sort_of;
+use go_rules::sorts::{is_open, open_kind};
+use go_rules::{Basics, Take};
+use go_typed::{Sort, TypedNode};
+use go_types::{TypeId, Types};
+
+/// What is untyped takes the type; a constant keeps its value.
+fn retype(types: &Types, of: TypeId, sort: &mut Sort)
+    requires of { of < length types.now.shapes }
+    requires sort { KnownSort (length types.now.shapes) sort.old }
+    ensures tree { sort_seen types.now sort.new ≡ retyped (type_of types.now.shapes of) (sort_seen types.now sort.old) }
+    ensures known { KnownSort (length types.now.shapes) sort.new }
+{
+    *sort = match std::mem::replace(sort, Sort::Unknown) {
+        Sort::Open(_) => Sort::Value(of),
+        Sort::OpenConstant(constant) => Sort::Constant(of, constant),
+        other => other,
+    };
+}
+
+/// An untyped node and its untyped operands take the type.
+pub fn settle(types: &Types, of: TypeId, node: &mut TypedNode)
+    requires of { of < length types.now.shapes }
+    requires node { Known (length types.now.shapes) node.old }
+    ensures tree { seen types.now node.new ≡ settled (type_of types.now.shapes of) (seen types.now node.old) }
+    ensures known { Known (length types.now.shapes) node.new }
+{
+    if is_open(types, sort_of(types, node)) {
+        retype(types, of, &mut node.label.sort);
+        for part in node.parts.iter_mut() {
+            if let Some(part) = part {
+                settle(types, of, part);
+            }
+        }
+    }
+}
+
+/// A node takes what its place gives.
+pub fn give(types: &Types, basics: Basics, take: Take, node: &mut TypedNode)
+    requires basics { AreBasics types.now basics }
+    requires take { KnownTake (length types.now.shapes) take }
+    requires node { Known (length types.now.shapes) node.old }
+    ensures tree { seen types.now node.new ≡ given (take_seen types.now take) (seen types.now node.old) }
+    ensures known { Known (length types.now.shapes) node.new }
+{
+    match take {
+        Take::Stay => {}
+        Take::As(of) => settle(types, of, node),
+        Take::Default => {
+            if let Some(kind) = open_kind(types, sort_of(types, node)) {
+                settle(types, default_type(types, basics, kind), node);
+            }
+        }
+    }
+}
+
+/// A part, if there is one, takes what its place gives.
+fn give_part(types: &Types, basics: Basics, take: Take, part: &mut Option<TypedNode>)
+    requires basics { AreBasics types.now basics }
+    requires take { KnownTake (length types.now.shapes) take }
+    requires part { AllKnown (length types.now.shapes) (part.old ∷ []) }
+    ensures tree { option_map (seen types.now) part.new ≡ take_optional (take_seen types.now take) (option_map (seen types.now) part.old) }
+    ensures known { AllKnown (length types.now.shapes) (part.new ∷ []) }
+{
+    if let Some(node) = part {
+        give(types, basics, take, node);
+    }
+}
+
+/// Each part takes what is said for it; those for which nothing is said take nothing.
+pub fn give_all(types: &Types, basics: Basics, takes: &[Take], parts: &mut [Option<TypedNode>])
+    requires basics { AreBasics types.now basics }
+    requires takes { All (KnownTake (length types.now.shapes)) takes.now }
+    requires parts { AllKnown (length types.now.shapes) parts.old }
+    ensures tree { map (option_map (seen types.now)) parts.new ≡ all_given (map (take_seen types.now) takes.now) (map (option_map (seen types.now)) parts.old) }
+    ensures known { AllKnown (length types.now.shapes) parts.new }
+{
+    for number in 0..parts.len().min(takes.len()) {
+        give_part(types, basics, takes[number], &mut parts[number]);
+    }
+}
