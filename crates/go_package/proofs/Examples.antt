@@ -51,6 +51,10 @@ needed_declarations_hold = record {
   type_of_faulty = refl;
   value_unneeded = refl;
   out_of_range_twice = refl;
+  value_of_faulty_type = refl;
+  unjudged_specification = refl;
+  loose_limit_of_faulty = refl;
+  main_before_others = refl;
 }
 
 pub groups_hold : GroupExamples

@@ -3,3 +3,4 @@ pub mod Checks
 pub mod Resolved
 pub mod Single
 pub mod Portions
+pub mod Statements

@@ -297,6 +297,51 @@ pub record NeededExamples : Type 0 where
       (token.Identifier, codes "d") ∷ (token.Identifier, codes "int8") ∷ (token.Assign, codes "=") ∷ (token.Integer, codes "300") ∷
       (token.Comma, codes ",") ∷ (token.Identifier, codes "a") ∷ (token.Semicolon, codes ";") ∷ []) ∷ [])
       ≡ fault code.Representable 0 31 34
+  -- package p; var v T = 1
+  -- package p; type T struct { a [2]U; }; type U [1 << 20]int
+  pub value_of_faulty_type :
+      stated (
+      ((token.Package, codes "package") ∷ (token.Identifier, codes "p") ∷ (token.Semicolon, codes ";") ∷ (token.Var, codes "var") ∷
+      (token.Identifier, codes "v") ∷ (token.Identifier, codes "T") ∷ (token.Assign, codes "=") ∷ (token.Integer, codes "1") ∷
+      (token.Semicolon, codes ";") ∷ []) ∷
+      ((token.Package, codes "package") ∷ (token.Identifier, codes "p") ∷ (token.Semicolon, codes ";") ∷ (token.Type, codes "type") ∷
+      (token.Identifier, codes "T") ∷ (token.Struct, codes "struct") ∷ (token.LeftBrace, codes "{") ∷ (token.Identifier, codes "a") ∷
+      (token.LeftBracket, codes "[") ∷ (token.Integer, codes "2") ∷ (token.RightBracket, codes "]") ∷ (token.Identifier, codes "U") ∷
+      (token.Semicolon, codes ";") ∷ (token.RightBrace, codes "}") ∷ (token.Semicolon, codes ";") ∷ (token.Type, codes "type") ∷
+      (token.Identifier, codes "U") ∷ (token.LeftBracket, codes "[") ∷ (token.Integer, codes "1") ∷ (token.ShiftLeft, codes "<<") ∷
+      (token.Integer, codes "20") ∷ (token.RightBracket, codes "]") ∷ (token.Identifier, codes "int") ∷ (token.Semicolon, codes ";") ∷ []) ∷ [])
+      ≡ fault code.Limit 1 30 37
+  -- package p; const c0, d0 = "abc"[2], len(T{}); type T [1 << 21]int
+  pub unjudged_specification :
+      stated (
+      ((token.Package, codes "package") ∷ (token.Identifier, codes "p") ∷ (token.Semicolon, codes ";") ∷ (token.Const, codes "const") ∷
+      (token.Identifier, codes "c0") ∷ (token.Comma, codes ",") ∷ (token.Identifier, codes "d0") ∷ (token.Assign, codes "=") ∷
+      (token.Text, codes "\"abc\"") ∷ (token.LeftBracket, codes "[") ∷ (token.Integer, codes "2") ∷ (token.RightBracket, codes "]") ∷
+      (token.Comma, codes ",") ∷ (token.Identifier, codes "len") ∷ (token.LeftParenthesis, codes "(") ∷ (token.Identifier, codes "T") ∷
+      (token.LeftBrace, codes "{") ∷ (token.RightBrace, codes "}") ∷ (token.RightParenthesis, codes ")") ∷ (token.Semicolon, codes ";") ∷
+      (token.Type, codes "type") ∷ (token.Identifier, codes "T") ∷ (token.LeftBracket, codes "[") ∷ (token.Integer, codes "1") ∷
+      (token.ShiftLeft, codes "<<") ∷ (token.Integer, codes "21") ∷ (token.RightBracket, codes "]") ∷ (token.Identifier, codes "int") ∷
+      (token.Semicolon, codes ";") ∷ []) ∷ [])
+      ≡ fault code.Limit 0 65 80
+  -- package p; type A [][2]C; type C struct { b [1 << 21]int }
+  pub loose_limit_of_faulty :
+      stated (
+      ((token.Package, codes "package") ∷ (token.Identifier, codes "p") ∷ (token.Semicolon, codes ";") ∷ (token.Type, codes "type") ∷
+      (token.Identifier, codes "A") ∷ (token.LeftBracket, codes "[") ∷ (token.RightBracket, codes "]") ∷ (token.LeftBracket, codes "[") ∷
+      (token.Integer, codes "2") ∷ (token.RightBracket, codes "]") ∷ (token.Identifier, codes "C") ∷ (token.Semicolon, codes ";") ∷
+      (token.Type, codes "type") ∷ (token.Identifier, codes "C") ∷ (token.Struct, codes "struct") ∷ (token.LeftBrace, codes "{") ∷
+      (token.Identifier, codes "b") ∷ (token.LeftBracket, codes "[") ∷ (token.Integer, codes "1") ∷ (token.ShiftLeft, codes "<<") ∷
+      (token.Integer, codes "21") ∷ (token.RightBracket, codes "]") ∷ (token.Identifier, codes "int") ∷ (token.RightBrace, codes "}") ∷
+      (token.Semicolon, codes ";") ∷ []) ∷ [])
+      ≡ fault code.Limit 0 23 30
+  -- package main; const main = 1; const b = 1 / 0
+  pub main_before_others :
+      stated (
+      ((token.Package, codes "package") ∷ (token.Identifier, codes "main") ∷ (token.Semicolon, codes ";") ∷ (token.Const, codes "const") ∷
+      (token.Identifier, codes "main") ∷ (token.Assign, codes "=") ∷ (token.Integer, codes "1") ∷ (token.Semicolon, codes ";") ∷
+      (token.Const, codes "const") ∷ (token.Identifier, codes "b") ∷ (token.Assign, codes "=") ∷ (token.Integer, codes "1") ∷
+      (token.Slash, codes "/") ∷ (token.Integer, codes "0") ∷ (token.Semicolon, codes ";") ∷ []) ∷ [])
+      ≡ fault code.Operands 0 21 25
 
 -- Constants that repeat what others have.
 pub record GroupExamples : Type 0 where

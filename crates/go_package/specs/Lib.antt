@@ -11,3 +11,4 @@ pub mod CheckExamples
 pub mod Resolved
 pub mod Single
 pub mod Portions
+pub mod StatementExamples

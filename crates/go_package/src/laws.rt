@@ -1,5 +1,6 @@
 //! Laws and worked examples of the definitions. These functions do nothing: their contracts are what holds.
 ghost use Rattle.go_package.specs.CheckExamples.{CheckExamples, TypingExamples};
+ghost use Rattle.go_package.specs.StatementExamples.{StatementExamples};
 ghost use Rattle.go_package.specs.DeclarationExamples.{SingleExamples, NeededExamples, GroupExamples};
 ghost use Rattle.go_base.specs.declared.bytes.FileText.{FileText};
 ghost use Rattle.go_package.specs.Declarations.{Specification};
@@ -34,6 +35,11 @@ pub fn groups()
 /// Whole packages: whether one is good, or what is reported of it.
 pub fn checks()
     ensures { CheckExamples }
+{}
+
+/// Statements in whole packages.
+pub fn statements()
+    ensures { StatementExamples }
 {}
 
 /// The types of a package with those of its functions.
