@@ -8,5 +8,5 @@ use Rattle.clone_window.proofs.run.statements.Goals as goal
 pub run_of-requires : goal.run_of-requires
 run_of-requires c =
     record {
-      full = lists-full c.args.f.now.tokens (tree_of c.args.f.now) (view c.in-Some.list.now) c.args.window.now.list c.root-root.ensures.stands.whole (c.list.ensures ∙ ap (option_map (λ n. view n.now)) c.in-Some.is)
+      full = lists-full c.args.f.now.tokens (tree_of c.args.f.now) (view c.in-Some.list.now) c.args.window.now.list c.root-root.ensures.stands.whole (c.list.ensures ∙ ap (option_map (λ n. view n.now)) c.in-Some.is);
     }
