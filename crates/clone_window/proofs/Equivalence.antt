@@ -32,17 +32,17 @@ IsJoined {T} first second both = (t u v : T) → first t u ≡ true → second u
 
 -- ---- numbers, texts and constants
 
-number-sym : (a b : ℕ) → nat_eq a b ≡ true → nat_eq b a ≡ true
+pub number-sym : (a b : ℕ) → nat_eq a b ≡ true → nat_eq b a ≡ true
 number-sym a b h = eq-eqb b a (sym (eqb-true a b h))
 
-number-trans : (a b c : ℕ) → nat_eq a b ≡ true → nat_eq b c ≡ true → nat_eq a c ≡ true
+pub number-trans : (a b c : ℕ) → nat_eq a b ≡ true → nat_eq b c ≡ true → nat_eq a c ≡ true
 number-trans a b c h g = eq-eqb a c (eqb-true a b h ∙ eqb-true b c g)
 
-name-refl : (xs : List ℕ) → same_name xs xs ≡ true
+pub name-refl : (xs : List ℕ) → same_name xs xs ≡ true
 name-refl [] = refl
 name-refl (x ∷ xs) = and_from (nat_eq x x) (same_name xs xs) (eq-eqb x x refl) (name-refl xs)
 
-name-sym : (xs ys : List ℕ) → same_name xs ys ≡ true → same_name ys xs ≡ true
+pub name-sym : (xs ys : List ℕ) → same_name xs ys ≡ true → same_name ys xs ≡ true
 name-sym [] [] h = refl
 name-sym [] (y ∷ ys) h = cc
 name-sym (x ∷ xs) [] h = cc
@@ -50,7 +50,7 @@ name-sym (x ∷ xs) (y ∷ ys) h =
     let p = and_parts (nat_eq x y) (same_name xs ys) h in
     and_from (nat_eq y x) (same_name ys xs) (number-sym x y p.0) (name-sym xs ys p.1)
 
-name-trans : (xs ys zs : List ℕ) → same_name xs ys ≡ true → same_name ys zs ≡ true → same_name xs zs ≡ true
+pub name-trans : (xs ys zs : List ℕ) → same_name xs ys ≡ true → same_name ys zs ≡ true → same_name xs zs ≡ true
 name-trans [] [] zs h g = g
 name-trans [] (y ∷ ys) zs h g = cc
 name-trans (x ∷ xs) [] zs h g = cc

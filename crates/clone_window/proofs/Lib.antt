@@ -2,6 +2,7 @@ mod Examples
 pub mod Opened
 pub mod Equivalence
 pub mod Pairing
+pub mod RunParts
 pub mod Runs
 pub mod Sizes
 pub mod Walks

@@ -8,4 +8,5 @@
 pub mod bounds;
 pub mod mass;
 pub mod outline;
+pub mod run;
 pub mod windows;
