@@ -5,3 +5,5 @@ pub mod Equality
 pub mod Heap
 pub mod Arrays
 pub mod Appending
+pub mod Quotients
+pub mod Copying

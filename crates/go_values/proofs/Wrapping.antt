@@ -43,7 +43,7 @@ word Uint64 z = above_64 _ (wrapped_in_range 64 false z (lit< tt))
 word Int z = in_64 _ (wrapped_in_range 64 true z (lit< tt))
 word Uint z = above_64 _ (wrapped_in_range 64 false z (lit< tt))
 
-zero_less : (z : ℤ) → pos 0 -ℤ z ≡ neg_ℤ z
+pub zero_less : (z : ℤ) → pos 0 -ℤ z ≡ neg_ℤ z
 zero_less z = omega (arith, ints)
 
 opposite : (bits : ℕ) (signed : Bool) (z : ℤ) → 0 < bits → wrapped bits signed (pos 0 -ℤ wrapped bits signed z) ≡ wrapped bits signed (neg_ℤ z)

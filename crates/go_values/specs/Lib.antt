@@ -1,3 +1,4 @@
 pub mod Views
 pub mod Deeds
 pub mod Worlds
+pub mod Lines

@@ -2,16 +2,16 @@
 
 ghost use Rattle.std.specs.Prelude.{◌≡◌, [], ◌∷◌, pos, ◌-ℤ◌};
 ghost use Rattle.go_ints.specs.Kinds.{IsWord, wrapped_into};
-ghost use Rattle.go_ints.specs.Arithmetic.{AreOperands};
-ghost use Rattle.go_meaning.specs.Values.{Truth, Whole, whole_of};
+ghost use Rattle.go_meaning.specs.Values.{Truth, Whole};
 ghost use Rattle.go_meaning.specs.Computations.{World};
 ghost use Rattle.go_meaning.specs.Operations.{Compute, Not, Negate, Complement, Wrap, Gives, perform};
 ghost use Rattle.go_values.specs.Views.{view};
 ghost use Rattle.go_values.specs.Deeds.{deed};
 
+use crate::arithmetic::arith;
 use crate::panic::Panic;
 use crate::value::Value;
-use go_ints::{Kind, Op, Trap, arith, wrap};
+use go_ints::{Kind, Op, Trap, wrap};
 
 /// `a op b` for integers of the kind (Go specification, "Arithmetic operators", "Integer overflow").
 ///
@@ -19,7 +19,6 @@ use go_ints::{Kind, Op, Trap, arith, wrap};
 ///
 /// A division by zero, or a shift by a negative count.
 pub fn compute(kind: Kind, op: Op, a: &Value, b: &Value) -> Result<Value, Panic>
-    requires { AreOperands kind op (whole_of (view a.now)) (whole_of (view b.now)) }
     ensures { (w : World) → perform (Compute kind op) (view a.now ∷ view b.now ∷ []) w ≡ deed w result }
 {
     match arith(kind, op, a.whole(), b.whole()) {
@@ -73,7 +72,7 @@ fn opposite(kind: Kind, x: i128) -> i128
 }
 
 /// The value of the kind that `x` wraps to, with its bounds.
-fn within_word(kind: Kind, x: i128) -> i128
+pub(crate) fn within_word(kind: Kind, x: i128) -> i128
     ensures value { result ≡ wrapped_into kind x }
     ensures word { IsWord result }
 {
@@ -81,7 +80,7 @@ fn within_word(kind: Kind, x: i128) -> i128
 }
 
 /// The value of the kind that `x` wraps to.
-fn wrap_into(kind: Kind, x: i128) -> i128
+pub(crate) fn wrap_into(kind: Kind, x: i128) -> i128
     ensures { result ≡ wrapped_into kind x }
 {
     at_kind!(kind, x;

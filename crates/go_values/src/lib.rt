@@ -1,16 +1,17 @@
 //! The values of running programs, and what operations do to them and to the world.
 //!
 //! A value and a world of the program stand for those of the meaning (`view`, `world_view`). The contract of an operation is its
-//! row in the meaning's table: what it gives, which panic it is and the world behind it; that of `compute` for operands of its
-//! kind, that of the others for all operands. After want of memory the world stays as it was, but for `append`, which then says
-//! nothing of it.
+//! row in the meaning's table, for all operands: what it gives, which panic it is and the world behind it. After want of memory
+//! the world stays as it was.
 #![tactic(auto)]
 
+mod arithmetic;
 mod comparisons;
 mod integers;
 mod lists;
 mod panic;
 mod parts;
+mod prints;
 mod slices;
 mod texts;
 mod value;

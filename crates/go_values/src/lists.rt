@@ -83,7 +83,8 @@ pub(crate) fn put_or_push(values: &mut Vec<Value>, place: u128, value: Value) ->
 #[tactic(auto, using(crate::proofs::Appending::put_inside, crate::proofs::Appending::put_last, crate::proofs::Appending::put_behind))]
 pub(crate) fn put_all(values: &mut Vec<Value>, place: u128, new: Vec<Value>) -> Result<(), Memory>
     requires { place < 2 ^ 66 }
-    ensures { OnOk result (views values.new.items ≡ put_at place (views new.items) (views values.old.items)) }
+    ensures put { OnOk result (views values.new.items ≡ put_at place (views new.items) (views values.old.items)) }
+    ensures err { OnErr result (values.new.items ≡ values.old.items) }
 {
     let mut new = new;
     if values.len() as u128 <= place {
@@ -95,6 +96,7 @@ pub(crate) fn put_all(values: &mut Vec<Value>, place: u128, new: Vec<Value>) -> 
         overwrite(values, start, new);
         return Ok(());
     }
+    values.reserve(new.len())?;
     values.truncate(start);
     values.append(&mut new)?;
     Ok(())

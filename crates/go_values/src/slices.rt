@@ -1,9 +1,9 @@
 //! Slices and their arrays (Go specification, "Slice types").
 
-ghost use Rattle.std.specs.Prelude.{◌≡◌, ◌&&◌, ◌+◌, ◌*◌, ◌^◌, ◌<◌, ◌≤◌, ◌++◌, max, [], ◌∷◌, IfOk, IfSome, IfNone, OnOk, OnErr, get_or, int_le, is_some, length, pos, slice_set};
+ghost use Rattle.std.specs.Prelude.{◌≡◌, ◌&&◌, ◌+◌, ◌*◌, ◌^◌, ◌<◌, ◌≤◌, ◌++◌, max, [], ◌∷◌, IfOk, IfSome, IfNone, OnOk, OnErr, get_or, int_le, is_some, length, pos, slice_set, take};
 ghost use Rattle.type_tests.specs.Zeros.{Zero};
 ghost use Rattle.go_meaning.specs.Values.{Slice, whole_of, zero_value};
-ghost use Rattle.go_meaning.specs.Operations.{Append, Cell, Gather, Gives, SetCell, array_at, capacity_of, cell, contents, length_of, longer, made, new_slice, perform, put_at, with_cells};
+ghost use Rattle.go_meaning.specs.Operations.{Append, Cell, Copy, Gather, Gives, SetCell, array_at, capacity_of, cell, contents, length_of, longer, made, new_slice, perform, put_at, source, with_cells};
 ghost use Rattle.go_values.specs.Views.{view, views};
 ghost use Rattle.go_values.specs.Worlds.{array_views, world_view};
 ghost use Rattle.go_values.specs.Deeds.{IsDone, IsStored};
@@ -11,6 +11,7 @@ ghost use Rattle.go_values.specs.Deeds.{IsDone, IsStored};
 use crate::lists::{copy_at, filled, joined, put_all, put_or_push, window};
 use crate::panic::{Panic, Stop};
 use crate::parts::place_of;
+use crate::texts::values_of;
 use crate::value::{Segment, Value, copies_of};
 use crate::world::World;
 use go_base::Memory;
@@ -99,7 +100,7 @@ fn put_in(
 }
 
 /// Puts values into one of the arrays, one behind the other from a place on.
-#[tactic(auto, using(crate::proofs::Arrays::arrays_set, crate::proofs::Arrays::array_within, crate::proofs::Arrays::arrays_beyond))]
+#[tactic(auto, using(crate::proofs::Arrays::arrays_set, crate::proofs::Arrays::array_within, crate::proofs::Arrays::arrays_beyond, crate::proofs::Arrays::same_array))]
 fn put_all_in(
     arrays: &mut Vec<Vec<Value>>,
     array: usize,
@@ -107,12 +108,38 @@ fn put_all_in(
     new: Vec<Value>,
 ) -> Result<(), Memory>
     requires { place < 2 ^ 66 }
-    ensures { OnOk result (array_views arrays.new.items ≡ slice_set (array_views arrays.old.items) array (put_at place (views new.items) (get_or (array_views arrays.old.items) array []))) }
+    ensures put { OnOk result (array_views arrays.new.items ≡ slice_set (array_views arrays.old.items) array (put_at place (views new.items) (get_or (array_views arrays.old.items) array []))) }
+    ensures err { OnErr result (array_views arrays.new.items ≡ array_views arrays.old.items) }
 {
     if array < arrays.len() {
         put_all(&mut arrays[array], place, new)?;
     }
     Ok(())
+}
+
+/// The first values of what `copy` reads, so many of them.
+fn copied_values(
+    alloc: Global,
+    world: &World,
+    origin: &Value,
+    count: usize,
+) -> Result<Vec<Value>, Memory>
+    ensures { IfOk result (λ vs. views vs.items ≡ take count (source (view origin.now) (world_view world.now))) }
+{
+    match origin {
+        Value::Text(bytes) => values_of(alloc, first_bytes(bytes.as_slice(), count)),
+        _ => copies_of(alloc, window(world.contents(origin), 0, count)),
+    }
+}
+
+fn first_bytes(bytes: &[u8], count: usize) -> &[u8]
+    ensures { result.now ≡ take count bytes.now }
+{
+    if count < bytes.len() {
+        &bytes[..count]
+    } else {
+        bytes
+    }
 }
 
 impl World {
@@ -266,6 +293,7 @@ impl World {
         requires { segment.length + length values.items ≤ segment.capacity }
         ensures value { IfOk result (λ v. view v ≡ longer (Slice segment.array segment.start segment.length segment.capacity) (length values.items)) }
         ensures world { OnOk result (world_view self.new ≡ with_cells (Slice segment.array segment.start segment.length segment.capacity) segment.length (views values.items) (world_view self.old)) }
+        ensures err { OnErr result (world_view self.new ≡ world_view self.old) }
     {
         let length = segment.length + values.len();
         let place = segment.start as u128 + segment.length as u128;
@@ -281,7 +309,8 @@ impl World {
         slice: &Value,
         values: Vec<Value>,
     ) -> Result<Value, Memory>
-        ensures { IfOk result (λ v. new_slice (contents (view slice.now) (world_view self.old) ++ views values.items) (max (length_of (view slice.now) + length values.items) (2 * capacity_of (view slice.now))) (view zero.now) (world_view self.old) ≡ Gives (view v ∷ []) (world_view self.new)) }
+        ensures value { IfOk result (λ v. new_slice (contents (view slice.now) (world_view self.old) ++ views values.items) (max (length_of (view slice.now) + length values.items) (2 * capacity_of (view slice.now))) (view zero.now) (world_view self.old) ≡ Gives (view v ∷ []) (world_view self.new)) }
+        ensures err { OnErr result (world_view self.new ≡ world_view self.old) }
     {
         let capacity = capacity_for(slice, values.as_slice())?;
         let elements = copies_of(alloc, self.contents(slice))?;
@@ -290,11 +319,12 @@ impl World {
     }
 
     /// `append` (Go specification, "Appending to and copying slices"): in place where the capacity allows, else in a new array
-    /// whose capacity is the greater of what is needed and twice the old one, with copies of the zero value behind the elements.
+    /// whose capacity is the greater of what is needed and twice the old one, with copies of the zero value behind the elements. Where
+    /// memory is wanting the world stays as it was.
     ///
     /// # Errors
     ///
-    /// Want of memory; nothing is said of the world then.
+    /// Want of memory.
     pub fn append(
         &mut self,
         alloc: Global,
@@ -302,7 +332,8 @@ impl World {
         slice: Value,
         values: Vec<Value>,
     ) -> Result<Value, Memory>
-        ensures { (z : Zero) → zero_value z ≡ view zero.now → IfOk result (λ v. perform (Append z) (view slice ∷ views values.items) (world_view self.old) ≡ Gives (view v ∷ []) (world_view self.new)) }
+        ensures value { (z : Zero) → zero_value z ≡ view zero.now → IfOk result (λ v. perform (Append z) (view slice ∷ views values.items) (world_view self.old) ≡ Gives (view v ∷ []) (world_view self.new)) }
+        ensures err { OnErr result (world_view self.new ≡ world_view self.old) }
     {
         if values.as_slice().is_empty() {
             return Ok(slice);
@@ -311,5 +342,38 @@ impl World {
             Some(segment) => self.append_within(segment, values),
             None => self.append_anew(alloc, zero, &slice, values),
         }
+    }
+
+    fn put_cells(&mut self, slice: &Value, values: Vec<Value>) -> Result<(), Memory>
+        ensures value { OnOk result (world_view self.new ≡ with_cells (view slice.now) 0 (views values.items) (world_view self.old)) }
+        ensures err { OnErr result (world_view self.new ≡ world_view self.old) }
+    {
+        match slice {
+            Value::Slice(segment) => {
+                put_all_in(
+                    &mut self.arrays,
+                    segment.array,
+                    segment.start as u128,
+                    values,
+                )
+            }
+            _ => Ok(()),
+        }
+    }
+
+    /// `copy` (Go specification, "Appending to and copying slices"): as many elements as the shorter of the two has, all read
+    /// before one is written. It gives their number. Where memory is wanting the world stays as it was.
+    ///
+    /// # Errors
+    ///
+    /// Want of memory.
+    pub fn copy(&mut self, alloc: Global, target: &Value, source: &Value) -> Result<Value, Memory>
+        ensures value { IfOk result (λ v. perform Copy (view target.now ∷ view source.now ∷ []) (world_view self.old) ≡ Gives (view v ∷ []) (world_view self.new)) }
+        ensures err { OnErr result (world_view self.new ≡ world_view self.old) }
+    {
+        let count = length(target).min(length(source));
+        let values = copied_values(alloc, self, source, count)?;
+        self.put_cells(target, values)?;
+        Ok(Value::Whole(count as i128))
     }
 }

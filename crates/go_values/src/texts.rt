@@ -41,7 +41,7 @@ pub fn byte(text: &Value, index: &Value) -> Result<Value, Panic>
 }
 
 /// The values of bytes.
-fn values_of(alloc: Global, bytes: &[u8]) -> Result<Vec<Value>, Memory>
+pub(crate) fn values_of(alloc: Global, bytes: &[u8]) -> Result<Vec<Value>, Memory>
     ensures { IfOk result (λ vs. views vs.items ≡ bytes_as_values bytes.now) }
 {
     let mut values = Vec::with_capacity(alloc, bytes.len())?;

@@ -19,7 +19,7 @@ pub struct World {
     input: Vec<u8>,
     /// How many bytes of the input are read.
     read: usize,
-    output: Vec<u8>,
+    pub(crate) output: Vec<u8>,
 }
 
 impl World {

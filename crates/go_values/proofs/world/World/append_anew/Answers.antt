@@ -5,8 +5,8 @@ use Rattle.go_values.specs.Worlds.{world_view}
 use Rattle.go_values.proofs.Appending.{if_weaker}
 use Rattle.go_values.proofs.world.World.append_anew.Goals as goal
 
-pub returns : goal.returns
-returns c =
+pub returns-clause-value : goal.returns-clause-value
+returns-clause-value c =
     let s = view c.args.slice.now in
     let vs = c.args.values.items in
     let w = world_view c.args.self.now in
