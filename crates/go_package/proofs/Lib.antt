@@ -4,3 +4,4 @@ pub mod Resolved
 pub mod Single
 pub mod Portions
 pub mod Statements
+pub mod Kept

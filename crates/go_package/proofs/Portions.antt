@@ -1,5 +1,5 @@
 -- The types of a function follow from its own tokens, and from what surrounds it.
-use Rattle.std.proofs.Common.{◌≡◌, ◌∙◌, ap, ℕ}
+use Rattle.std.proofs.Common.{◌∙◌, ap, ℕ}
 use Rattle.go_package.specs.Declarations.{Specification}
 use Rattle.go_package.specs.Sources.{Package}
 use Rattle.go_package.specs.Bodies.{portion_of, types_in, function_of}

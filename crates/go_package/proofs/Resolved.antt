@@ -5,10 +5,8 @@ use Rattle.go_base.specs.declared.fault.FaultCode.{FaultCode}
 use Rattle.go_base.specs.declared.fault.FaultCode.TheVariants as code
 use Rattle.go_tokens.specs.Tokens.{TokenList}
 use Rattle.go_tokens.specs.Spellings.{same_text}
-use Rattle.go_tree.specs.declared.context.Block.{Block}
 use Rattle.go_tree.specs.declared.event.Event.{Event}
 use Rattle.go_tree.specs.declared.event.Event.TheVariants as event
-use Rattle.go_tree.specs.declared.object.Extent.{Extent}
 use Rattle.go_tree.specs.Units as names
 use Rattle.go_tree.specs.Units.{Place, word, is_blank}
 use Rattle.go_tree.specs.Declarations.{Found, found_in, found_from, found, is_new, new_among, declarations}
@@ -16,8 +14,8 @@ use Rattle.go_tree.specs.Extents.{covers}
 use Rattle.go_tree.specs.Failures.{Failure, failing, place_if, is_earlier, least_from, least, or_else}
 use Rattle.go_tree.specs.Faults.{clause_faults, lookup_faults, unused_faults, placed_faults, cycle_faults, name_faults, reported}
 use Rattle.go_tree.specs.Imports.{imports_fmt}
-use Rattle.go_tree.specs.Lookups.{Asked, asked, asked_in, asked_event, asked_from}
-use Rattle.go_tree.specs.Meanings.{Meaning, Numbers, first_numbers, own_number, numbers_behind, declared_meaning, numbered, imported_from, meanings, covering, is_innermost, innermost_of, innermost, meaning_at}
+use Rattle.go_tree.specs.Lookups.{Asked, asked, asked_in, asked_from}
+use Rattle.go_tree.specs.Meanings.{Meaning, Numbers, first_numbers, numbers_behind, numbered, imported_from, meanings, covering, is_innermost, innermost_of, meaning_at}
 use Rattle.go_tree.specs.Needs.{is_same, needs_itself, cycles}
 use Rattle.go_tree.specs.Redeclared.{redeclared}
 use Rattle.go_names.specs.Orders.{AreInOrder}

@@ -1,6 +1,6 @@
 -- A package has one answer, since a file has one lexing or one fault, and at most one tree.
-use Rattle.std.proofs.Common.{◌≡◌, ◌∙◌, refl, sym, ap, subst, ℕ, zero, suc, ◌<◌, ◌⊎◌, inl, inr, List, [], ◌∷◌, map, Option, Some, None, Result, Ok, Err, arith}
-use Rattle.std.specs.Prelude.{◌+◌, length, slice_get}
+use Rattle.std.proofs.Common.{◌≡◌, ◌∙◌, refl, sym, ap, subst, ℕ, zero, suc, ◌<◌, ◌⊎◌, inl, inr, List, [], ◌∷◌, map, Some, Result, Ok, Err, arith}
+use Rattle.std.specs.Prelude.{◌+◌, slice_get}
 use Rattle.std.proofs.lemmas.Bool.{cases_order}
 use Rattle.go_base.specs.declared.Span.{Span}
 use Rattle.go_base.specs.declared.bytes.FileText.{FileText}
@@ -20,7 +20,7 @@ use Rattle.go_tree.specs.Views.{view}
 use Rattle.go_typed.specs.Contents.{Content}
 use Rattle.go_scopes.specs.Views.{failure_of}
 use Rattle.go_package.specs.Sources.{Source, source_of}
-use Rattle.go_package.specs.Checked.{Typing, sources_answer, content_of, files_answer, IsRead, AreRead, names_of, IsChecked, IsGood, FileRule, HaveNone, IsFirst, IsTreeFault, IsEncoded, IsTokens, IsTrees, IsLater, IsReported, encoding, tokens, trees, later}
+use Rattle.go_package.specs.Checked.{Typing, sources_answer, content_of, IsRead, AreRead, names_of, IsChecked, FileRule, HaveNone, IsFirst, IsTreeFault, IsLater, IsReported, encoding, tokens, trees, later}
 use Rattle.go_package.specs.Single.{HasOneAnswer}
 
 -- what is known of single files

@@ -1,15 +1,14 @@
 -- What the objects of a package stand for, or the fault that is reported of its declarations.
-use Rattle.std.specs.Prelude.{ℕ, suc, Bool, true, false, ◌&&◌, not, List, [], ◌∷◌, ◌++◌, map, Option, Some, None, Result, Ok, Err, codes, slice_get}
+use Rattle.std.specs.Prelude.{ℕ, suc, Bool, true, false, ◌&&◌, not, List, [], ◌∷◌, ◌++◌, map, Option, Some, None, Result, Ok, Err, codes}
 use Rattle.go_base.specs.declared.fault.FaultCode.TheVariants as code
 use Rattle.go_tokens.specs.Spellings.{same_text}
-use Rattle.go_tokens.specs.Tokens.{TokenList}
 use Rattle.go_tree.specs.declared.context.Entity.{Entity}
 use Rattle.go_tree.specs.declared.context.Entity.TheVariants as entity
 use Rattle.go_tree.specs.declared.object.Declared.{Declared}
 use Rattle.go_tree.specs.Failures.{Failure, least}
 use Rattle.go_tree.specs.Units.{bytes_of}
 use Rattle.go_tree.specs.Uses.{UsesView}
-use Rattle.go_types.specs.Trees.{TypeTree, TypeRow, function, none}
+use Rattle.go_types.specs.Trees.{function, none}
 use Rattle.go_types.specs.Relations.{Rights}
 use Rattle.go_typed.specs.Trees as sort
 use Rattle.go_rules.specs.declared.fault.TypeFault.{TypeFault}

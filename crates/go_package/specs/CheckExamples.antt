@@ -1,9 +1,8 @@
 -- Worked examples of the whole check, from the Go specification and from what Go's own checker answers.
-use Rattle.std.specs.Prelude.{◌≡◌, [], ◌∷◌, codes, map, true, false, Some, None}
+use Rattle.std.specs.Prelude.{◌≡◌, [], ◌∷◌, codes, map, Some, None}
 use Rattle.go_base.specs.declared.fault.FaultCode.TheVariants as code
-use Rattle.go_ints.specs.declared.kinds.Kind.TheVariants as integer_kind
 use Rattle.go_tokens.specs.declared.token.TokenKind.TheVariants as token
-use Rattle.go_types.specs.Trees.{integer, slice, declared, function, row}
+use Rattle.go_types.specs.Trees.{slice, declared, function, row}
 use Rattle.go_typed.specs.declared.origin.Origin.TheVariants as origin
 use Rattle.go_typed.specs.Trees as sort
 use Rattle.go_rules.specs.Sorts.{int}

@@ -2,7 +2,7 @@
 --
 -- The earliest phase with a fault decides: the encoding of all files, their tokens, their trees, the names of the package, its
 -- declarations, its bodies.
-use Rattle.std.specs.Prelude.{◌≡◌, ℕ, suc, ◌<◌, ◌⊎◌, Bool, if◌then◌else◌, List, [], ◌∷◌, ◌++◌, map, Option, Some, None, Result, Ok, Err, slice_get}
+use Rattle.std.specs.Prelude.{◌≡◌, ℕ, suc, ◌<◌, if◌then◌else◌, List, [], ◌∷◌, ◌++◌, map, Some, Result, Ok, Err, slice_get}
 use Rattle.go_base.specs.declared.bytes.FileText.{FileText}
 use Rattle.go_base.specs.declared.fault.Fault.{Fault}
 use Rattle.go_base.specs.Gives.{◌>>=◌}
@@ -26,7 +26,7 @@ use Rattle.go_typed.specs.Contents.{Content, content, IsPackageOf}
 use Rattle.go_typed.specs.Packages.{PackageView, IsPackage, referents}
 use Rattle.go_scopes.specs.Views.{failure_of}
 use Rattle.go_package.specs.Declarations.{Specification}
-use Rattle.go_package.specs.Sources.{Source, source_of, unit_of, Package, package_of}
+use Rattle.go_package.specs.Sources.{Source, source_of, unit_of, package_of}
 use Rattle.go_package.specs.Knowledge.{is_type}
 use Rattle.go_package.specs.Answer.{Environment, specifications, package_answer, unless}
 use Rattle.go_package.specs.Bodies.{Surroundings, Functions, functions_from, those_of, variables_of}

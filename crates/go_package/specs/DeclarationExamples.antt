@@ -1,5 +1,5 @@
 -- Worked examples of declarations, from the Go specification and from what Go's own checker answers.
-use Rattle.std.specs.Prelude.{◌≡◌, [], ◌∷◌, codes, pos, true, false, Ok}
+use Rattle.std.specs.Prelude.{◌≡◌, [], ◌∷◌, codes, pos, false, Ok}
 use Rattle.go_base.specs.declared.fault.FaultCode.TheVariants as code
 use Rattle.go_constants.specs.declared.values.Const.TheVariants as const
 use Rattle.go_tokens.specs.declared.token.TokenKind.TheVariants as token

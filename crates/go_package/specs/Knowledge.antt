@@ -10,7 +10,7 @@ use Rattle.go_tree.specs.declared.object.Declared.{Declared}
 use Rattle.go_tree.specs.declared.object.Object.{Object}
 use Rattle.go_tree.specs.declared.object.Object.TheVariants as object
 use Rattle.go_tree.specs.Uses.{object_of}
-use Rattle.go_types.specs.Trees.{TypeTree, declared}
+use Rattle.go_types.specs.Trees.{TypeTree}
 use Rattle.go_types.specs.Relations.{Rights}
 use Rattle.go_typed.specs.declared.form.Referent.{Referent}
 use Rattle.go_typed.specs.declared.form.Referent.TheVariants as referent
@@ -18,7 +18,7 @@ use Rattle.go_typed.specs.Packages.{referents}
 use Rattle.go_typed.specs.Trees as sort
 use Rattle.go_rules.specs.declared.fault.TypeFault.{TypeFault}
 use Rattle.go_rules.specs.Scopes.{Needed, in_full, at_once, loosely, Scope}
-use Rattle.go_rules.specs.Sorts.{Stands, is_unknown}
+use Rattle.go_rules.specs.Sorts.{Stands}
 use Rattle.go_rules.specs.Tables.{no_faults}
 use Rattle.go_package.specs.Declarations.{Specification}
 use Rattle.go_package.specs.Sources.{Package, text_at, characters_at, needed_at}

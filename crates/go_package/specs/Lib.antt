@@ -12,3 +12,4 @@ pub mod Resolved
 pub mod Single
 pub mod Portions
 pub mod StatementExamples
+pub mod Kept

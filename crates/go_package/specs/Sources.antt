@@ -1,5 +1,5 @@
 -- A package as its declarations and bodies are judged: its files with their trees, and what its names mean.
-use Rattle.std.specs.Prelude.{ℕ, ◌+◌, Bool, false, ◌&&◌, if◌then◌else◌, nat_eq, List, [], ◌∷◌, length, map, Option, Some, None, slice_get}
+use Rattle.std.specs.Prelude.{ℕ, ◌+◌, Bool, ◌&&◌, if◌then◌else◌, nat_eq, List, [], ◌∷◌, length, map, Option, Some, None, slice_get}
 use Rattle.std.specs.Str.{chars}
 use Rattle.go_grammar.specs.Trees.{Tree, last}
 use Rattle.go_tokens.specs.Tokens.{TokenList}

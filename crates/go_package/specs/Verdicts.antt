@@ -15,7 +15,7 @@ use Rattle.go_rules.specs.declared.fault.TypeFault.{TypeFault}
 use Rattle.go_rules.specs.Faults.{fault_at}
 use Rattle.go_rules.specs.Scopes.{Scope, Hint, value, several, type_place, free}
 use Rattle.go_rules.specs.Settling.{Part}
-use Rattle.go_rules.specs.Sorts.{Stands, is_unknown, named_type, value_type}
+use Rattle.go_rules.specs.Sorts.{Stands, is_unknown, value_type}
 use Rattle.go_rules.specs.Tables.{no_faults, is_lost}
 use Rattle.go_rules.specs.TypeNodes.{part_type}
 use Rattle.go_rules.specs.Typing.{typing, faults}

@@ -4,7 +4,9 @@ ghost use Rattle.go_package.specs.StatementExamples.{StatementExamples};
 ghost use Rattle.go_package.specs.DeclarationExamples.{SingleExamples, NeededExamples, GroupExamples};
 ghost use Rattle.go_base.specs.declared.bytes.FileText.{FileText};
 ghost use Rattle.go_package.specs.Declarations.{Specification};
+ghost use Rattle.go_package.specs.Kept.{StaysChecked};
 ghost use Rattle.go_package.specs.Portions.{PortionSaysAll};
+ghost use Rattle.go_typed.specs.Packages.{PackageView};
 ghost use Rattle.go_package.specs.Single.{HasOneAnswer};
 ghost use Rattle.go_package.specs.Sources.{Package};
 ghost use Rattle.std.specs.Prelude.{◌≡◌, ℕ, List, None};
@@ -16,6 +18,7 @@ ghost use Rattle.go_package.specs.Resolved.{IsOrdered};
 use go_grammar::laws::one_tree_of_a_file;
 use go_order::laws::declarations_bound_rounds;
 use go_tokens::laws::{one_fault, one_lexing};
+use go_typed::laws::packages_under_other_numbers;
 
 /// Single declarations: what a name stands for, or which rule fails where.
 pub fn single_declarations()
@@ -68,3 +71,10 @@ pub fn packages_have_one_answer()
 pub fn functions_follow_from_their_tokens()
     ensures { (p q : Package) (d e : Specification) (number : ℕ) → PortionSaysAll p q d e number }
 {}
+
+/// What the check of its bytes gives of a package stays so under other numbers of declared types.
+pub fn checked_packages_stay_so()
+    ensures { (p q : PackageView) → StaysChecked p q }
+{
+    packages_under_other_numbers();
+}
