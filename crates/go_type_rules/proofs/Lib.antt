@@ -1,0 +1,7 @@
+pub mod LocalNumbers
+pub mod TypeForms
+pub mod Structs
+pub mod Growing
+pub mod EntryTypes
+pub mod FieldRows
+pub mod Lengths
