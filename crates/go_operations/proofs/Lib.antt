@@ -1,0 +1,4 @@
+pub mod ZeroSizes
+pub mod RunePlaces
+pub mod Building
+pub mod Plain

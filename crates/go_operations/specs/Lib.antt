@@ -1,0 +1,5 @@
+pub mod Performing
+pub mod Cuts
+pub mod Settled
+pub mod Places
+pub mod Building
