@@ -3,7 +3,6 @@ use Rattle.std.specs.Prelude.{◌≡◌, false, List, [], ◌∷◌, take}
 use Rattle.go_eval.specs.declared.plan.Plan.{Plan}
 use Rattle.go_eval.specs.declared.plan.Plan.TheVariants as plan
 use Rattle.go_meaning.specs.Values.{Truth, nth}
-
 use Rattle.go_meaning.specs.Computations.{give}
 use Rattle.go_meaning.specs.Doings.{Doing, absent, at, values_of, local_place, name_place, blank_place, variable_place, field_place, element_place, cell_place, chosen_by}
 use Rattle.go_meaning.specs.Doings as doings

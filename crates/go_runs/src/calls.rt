@@ -76,12 +76,7 @@ fn parameter_at(parameters: &[Option<u32>], number: usize) -> Option<u32>
 }
 
 /// Moves the operand of a parameter into a frame, where the parameter is a local.
-fn give(
-    frame: &mut Vec<Value>,
-    parameter: Option<u32>,
-    operands: &mut Vec<Value>,
-    number: usize,
-)
+fn give(frame: &mut Vec<Value>, parameter: Option<u32>, operands: &mut Vec<Value>, number: usize)
     ensures { (ps : List (Option ℕ)) → with_arguments (parameter ∷ ps) (drop number (views operands.old.items)) (views frame.old.items) ≡ with_arguments ps (drop (suc number) (views operands.new.items)) (views frame.new.items) }
 {
     match parameter {

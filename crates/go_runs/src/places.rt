@@ -129,7 +129,11 @@ pub fn load(
         }
         Place::Cell => {
             let slice = operand(operands, 0, &nil);
-            Ok(machine.world.cell(alloc, slice, operand(operands, 1, &nil))?)
+            Ok(
+                machine
+                    .world
+                    .cell(alloc, slice, operand(operands, 1, &nil))?,
+            )
         }
         Place::Case(_) => Err(Exit::Undecided),
         Place::Otherwise => Err(Exit::Undecided),

@@ -123,8 +123,8 @@ returns-in_err-whole-in-Element t c = λ n d.
     let xs = (out-TypedNode c.in-Some.node.now).parts.items in
     let ip = part_place p n c.args.parts.now c.args.number c.in-Some.node.now (place_doing (the_place.Element c.in-Element.length) (doings p n xs)) c.in-Some.ensures (c.in-Element.ensures n) in
     let whole : IsLeft e m (outcome ((at (doings p n xs) 0).load (drop 1 us)) d m) =
-        subst (λ (ws : List meant.Value). IsLeft e m (outcome ((at (doings p n xs) 0).load ws) d m)) (rest_views c.args.operands.now c.rest.result.now c.rest.ensures)
-        (subst (λ (ys : List (Option TypedNode)). IsLeft e m (outcome ((at (doings p n ys) 0).load (values.views c.rest.result.now)) d m)) c.deref-in-Element.ensures.value (c.in_err-whole-in-Element.ensures n d)) in
+    subst (λ (ws : List meant.Value). IsLeft e m (outcome ((at (doings p n xs) 0).load ws) d m)) (rest_views c.args.operands.now c.rest.result.now c.rest.ensures)
+    (subst (λ (ys : List (Option TypedNode)). IsLeft e m (outcome ((at (doings p n ys) 0).load (values.views c.rest.result.now)) d m)) c.deref-in-Element.ensures.value (c.in_err-whole-in-Element.ensures n d)) in
     rw (q.1, q.2) (subst (λ (g : List meant.Value → Comp). IsLeft e m (outcome (g us) d m)) (sym ip.load) (one_left ((at (doings p n xs) 0).load (drop 1 us)) (λ w. operate (Element c.in-Element.length) (w ∷ nth us 0 ∷ [])) d m e whole))
 
 pub returns-in_err-element-in-Element : goal.returns-in_err-element-in-Element
@@ -138,10 +138,10 @@ returns-in_err-element-in-Element t c = λ n d.
     let xs = (out-TypedNode c.in-Some.node.now).parts.items in
     let ip = part_place p n c.args.parts.now c.args.number c.in-Some.node.now (place_doing (the_place.Element c.in-Element.length) (doings p n xs)) c.in-Some.ensures (c.in-Element.ensures n) in
     let whole : Reads ((at (doings p n xs) 0).load (drop 1 us)) d m u =
-        subst (λ (ws : List meant.Value). Reads ((at (doings p n xs) 0).load ws) d m u) (rest_views c.args.operands.now c.rest.result.now c.rest.ensures)
-        (subst (λ (ys : List (Option TypedNode)). Reads ((at (doings p n ys) 0).load (values.views c.rest.result.now)) d m u) c.deref-in-Element.ensures.value (c.in_ok-whole-in-Element.ensures n d)) in
+    subst (λ (ws : List meant.Value). Reads ((at (doings p n xs) 0).load ws) d m u) (rest_views c.args.operands.now c.rest.result.now c.rest.ensures)
+    (subst (λ (ys : List (Option TypedNode)). Reads ((at (doings p n ys) 0).load (values.views c.rest.result.now)) d m u) c.deref-in-Element.ensures.value (c.in_ok-whole-in-Element.ensures n d)) in
     let done : IsDone (Err s) (world_view m.world) (perform (Element c.in-Element.length) (u ∷ nth us 0 ∷ []) (world_view m.world)) =
-        subst (λ (i : meant.Value). IsDone (Err s) (world_view m.world) (perform (Element c.in-Element.length) (u ∷ i ∷ []) (world_view m.world))) c.operand-index.ensures (c.in_err-element-in-Element.ensures (world_view m.world)) in
+    subst (λ (i : meant.Value). IsDone (Err s) (world_view m.world) (perform (Element c.in-Element.length) (u ∷ i ∷ []) (world_view m.world))) c.operand-index.ensures (c.in_err-element-in-Element.ensures (world_view m.world)) in
     rw q.1 (subst (λ (g : List meant.Value → Comp). IsLeft q.0 m (outcome (g us) d m)) (sym ip.load)
     (one_then_left ((at (doings p n xs) 0).load (drop 1 us)) (λ w. operate (Element c.in-Element.length) (w ∷ nth us 0 ∷ [])) d m u q.0 whole (left_done (Element c.in-Element.length) (u ∷ nth us 0 ∷ []) d m s q.0 done q.2)))
 
@@ -155,10 +155,10 @@ returns-in-Element t c = λ n d.
     let xs = (out-TypedNode c.in-Some.node.now).parts.items in
     let ip = part_place p n c.args.parts.now c.args.number c.in-Some.node.now (place_doing (the_place.Element c.in-Element.length) (doings p n xs)) c.in-Some.ensures (c.in-Element.ensures n) in
     let whole : Reads ((at (doings p n xs) 0).load (drop 1 us)) d m u =
-        subst (λ (ws : List meant.Value). Reads ((at (doings p n xs) 0).load ws) d m u) (rest_views c.args.operands.now c.rest.result.now c.rest.ensures)
-        (subst (λ (ys : List (Option TypedNode)). Reads ((at (doings p n ys) 0).load (values.views c.rest.result.now)) d m u) c.deref-in-Element.ensures.value (c.in_ok-whole-in-Element.ensures n d)) in
+    subst (λ (ws : List meant.Value). Reads ((at (doings p n xs) 0).load ws) d m u) (rest_views c.args.operands.now c.rest.result.now c.rest.ensures)
+    (subst (λ (ys : List (Option TypedNode)). Reads ((at (doings p n ys) 0).load (values.views c.rest.result.now)) d m u) c.deref-in-Element.ensures.value (c.in_ok-whole-in-Element.ensures n d)) in
     let done : perform (Element c.in-Element.length) (u ∷ nth us 0 ∷ []) (world_view m.world) ≡ Gives (v ∷ []) (world_view m.world) =
-        subst (λ (i : meant.Value). perform (Element c.in-Element.length) (u ∷ i ∷ []) (world_view m.world) ≡ Gives (v ∷ []) (world_view m.world)) c.operand-index.ensures (c.in_ok-element-in-Element.ensures (world_view m.world)) in
+    subst (λ (i : meant.Value). perform (Element c.in-Element.length) (u ∷ i ∷ []) (world_view m.world) ≡ Gives (v ∷ []) (world_view m.world)) c.operand-index.ensures (c.in_ok-element-in-Element.ensures (world_view m.world)) in
     subst (λ (g : List meant.Value → Comp). Reads (g us) d m v) (sym ip.load)
     (one_reads ((at (doings p n xs) 0).load (drop 1 us)) (λ w. operate (Element c.in-Element.length) (w ∷ nth us 0 ∷ [])) d m u v whole (reads_by (Element c.in-Element.length) (u ∷ nth us 0 ∷ []) d m v done))
 
@@ -171,8 +171,8 @@ returns-in_err-cell-in-Cell t c = λ n d.
     let s = c.in_err-cell-in-Cell.field-0.0 in
     let ip = part_place p n c.args.parts.now c.args.number c.in-Some.node.now (place_doing the_place.Cell (doings p n (out-TypedNode c.in-Some.node.now).parts.items)) c.in-Some.ensures (c.in-Cell.ensures n) in
     let done : IsDone (Err s) (world_view m.world) (perform Cell (nth us 0 ∷ nth us 1 ∷ []) (world_view m.world)) =
-        subst (λ (i : meant.Value). IsDone (Err s) (world_view m.world) (perform Cell (nth us 0 ∷ i ∷ []) (world_view m.world))) c.operand-in-Cell.ensures
-        (subst (λ (i : meant.Value). IsDone (Err s) (world_view m.world) (perform Cell (i ∷ values.view c.operand-in-Cell.result.now ∷ []) (world_view m.world))) c.operand-slice.ensures c.in_err-cell-in-Cell.ensures) in
+    subst (λ (i : meant.Value). IsDone (Err s) (world_view m.world) (perform Cell (nth us 0 ∷ i ∷ []) (world_view m.world))) c.operand-in-Cell.ensures
+    (subst (λ (i : meant.Value). IsDone (Err s) (world_view m.world) (perform Cell (i ∷ values.view c.operand-in-Cell.result.now ∷ []) (world_view m.world))) c.operand-slice.ensures c.in_err-cell-in-Cell.ensures) in
     rw q.1 (subst (λ (g : List meant.Value → Comp). IsLeft q.0 m (outcome (g us) d m)) (sym ip.load) (left_done Cell (nth us 0 ∷ nth us 1 ∷ []) d m s q.0 done q.2))
 
 pub returns-in-Cell : goal.returns-in-Cell
@@ -183,8 +183,8 @@ returns-in-Cell t c = λ n d.
     let v = values.view c.in_ok-cell-in-Cell.field-0 in
     let ip = part_place p n c.args.parts.now c.args.number c.in-Some.node.now (place_doing the_place.Cell (doings p n (out-TypedNode c.in-Some.node.now).parts.items)) c.in-Some.ensures (c.in-Cell.ensures n) in
     let done : perform Cell (nth us 0 ∷ nth us 1 ∷ []) (world_view m.world) ≡ Gives (v ∷ []) (world_view m.world) =
-        subst (λ (i : meant.Value). perform Cell (nth us 0 ∷ i ∷ []) (world_view m.world) ≡ Gives (v ∷ []) (world_view m.world)) c.operand-in-Cell.ensures
-        (subst (λ (i : meant.Value). perform Cell (i ∷ values.view c.operand-in-Cell.result.now ∷ []) (world_view m.world) ≡ Gives (v ∷ []) (world_view m.world)) c.operand-slice.ensures c.in_ok-cell-in-Cell.ensures) in
+    subst (λ (i : meant.Value). perform Cell (nth us 0 ∷ i ∷ []) (world_view m.world) ≡ Gives (v ∷ []) (world_view m.world)) c.operand-in-Cell.ensures
+    (subst (λ (i : meant.Value). perform Cell (i ∷ values.view c.operand-in-Cell.result.now ∷ []) (world_view m.world) ≡ Gives (v ∷ []) (world_view m.world)) c.operand-slice.ensures c.in_ok-cell-in-Cell.ensures) in
     subst (λ (g : List meant.Value → Comp). Reads (g us) d m v) (sym ip.load) (reads_by Cell (nth us 0 ∷ nth us 1 ∷ []) d m v done)
 
 pub returns-in-Case : goal.returns-in-Case

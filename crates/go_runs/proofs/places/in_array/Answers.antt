@@ -16,12 +16,12 @@ returns-in_err-place_of c = λ d m.
     let v = nth (views c.args.operands.now) 0 in
     let panic = c.in_err-place_of.field-0.0 in
     let done : perform (InArray c.args.length) (v ∷ []) (world_view m.world) ≡ Traps (panic_view panic) =
-        subst (λ (i : meant.Value). at_index c.args.length i (λ k. Gives [] (world_view m.world)) ≡ Traps (panic_view panic)) c.operand.ensures (c.in_err-place_of.ensures.place (λ k. Gives [] (world_view m.world))) in
+    subst (λ (i : meant.Value). at_index c.args.length i (λ k. Gives [] (world_view m.world)) ≡ Traps (panic_view panic)) c.operand.ensures (c.in_err-place_of.ensures.place (λ k. Gives [] (world_view m.world))) in
     rw q.1 (record { is = subst (λ (x : Exit). IsLeft x m (outcome (operate (InArray c.args.length) (v ∷ [])) d m)) (sym q.2) (panics_by (InArray c.args.length) (v ∷ []) d m panic done) })
 
 pub returns : goal.returns
 returns c = λ d m.
     let v = nth (views c.args.operands.now) 0 in
     let done : perform (InArray c.args.length) (v ∷ []) (world_view m.world) ≡ Gives [] (world_view m.world) =
-        subst (λ (i : meant.Value). at_index c.args.length i (λ k. Gives [] (world_view m.world)) ≡ Gives [] (world_view m.world)) c.operand.ensures (c.in_ok-place_of.ensures.place (λ k. Gives [] (world_view m.world))) in
+    subst (λ (i : meant.Value). at_index c.args.length i (λ k. Gives [] (world_view m.world)) ≡ Gives [] (world_view m.world)) c.operand.ensures (c.in_ok-place_of.ensures.place (λ k. Gives [] (world_view m.world))) in
     writes_by (InArray c.args.length) (v ∷ []) d m m done refl refl

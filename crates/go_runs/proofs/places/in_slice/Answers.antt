@@ -19,8 +19,8 @@ returns-in_err-place_of c = λ d m.
     let w = world_view m.world in
     let n : c.length.result ≡ length_of s = c.length.ensures ∙ ap length_of c.operand-slice.ensures in
     let done : perform InSlice (s ∷ v ∷ []) w ≡ Traps (panic_view panic) =
-        subst (λ (k : ℕ). at_index k v (λ j. Gives [] w) ≡ Traps (panic_view panic)) n
-        (subst (λ (i : meant.Value). at_index c.length.result i (λ j. Gives [] w) ≡ Traps (panic_view panic)) c.operand.ensures (c.in_err-place_of.ensures.place (λ j. Gives [] w))) in
+    subst (λ (k : ℕ). at_index k v (λ j. Gives [] w) ≡ Traps (panic_view panic)) n
+    (subst (λ (i : meant.Value). at_index c.length.result i (λ j. Gives [] w) ≡ Traps (panic_view panic)) c.operand.ensures (c.in_err-place_of.ensures.place (λ j. Gives [] w))) in
     rw q.1 (record { is = subst (λ (x : Exit). IsLeft x m (outcome (operate InSlice (s ∷ v ∷ [])) d m)) (sym q.2) (panics_by InSlice (s ∷ v ∷ []) d m panic done) })
 
 pub returns : goal.returns
@@ -30,6 +30,6 @@ returns c = λ d m.
     let w = world_view m.world in
     let n : c.length.result ≡ length_of s = c.length.ensures ∙ ap length_of c.operand-slice.ensures in
     let done : perform InSlice (s ∷ v ∷ []) w ≡ Gives [] w =
-        subst (λ (k : ℕ). at_index k v (λ j. Gives [] w) ≡ Gives [] w) n
-        (subst (λ (i : meant.Value). at_index c.length.result i (λ j. Gives [] w) ≡ Gives [] w) c.operand.ensures (c.in_ok-place_of.ensures.place (λ j. Gives [] w))) in
+    subst (λ (k : ℕ). at_index k v (λ j. Gives [] w) ≡ Gives [] w) n
+    (subst (λ (i : meant.Value). at_index c.length.result i (λ j. Gives [] w) ≡ Gives [] w) c.operand.ensures (c.in_ok-place_of.ensures.place (λ j. Gives [] w))) in
     writes_by InSlice (s ∷ v ∷ []) d m m done refl refl
