@@ -1,0 +1,4 @@
+pub mod Called
+pub mod Machines
+pub mod Places
+pub mod Programs
