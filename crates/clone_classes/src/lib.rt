@@ -6,4 +6,5 @@
 
 pub mod choose;
 pub mod laws;
+pub mod pairwise;
 pub mod place;
