@@ -7,7 +7,8 @@ use Rattle.go_typed.specs.declared.form.Referent.TheVariants as referent
 use Rattle.go_typed.specs.Trees.{Sort, Nothing, Value, Results, Typed, typed, Typeds, none, more}
 use Rattle.clone_window.specs.Windows.{run_at}
 use Rattle.clone_classes.specs.Classes.{classes}
-use Rattle.clone_classes.specs.Listing.{Body, listing}
+use Rattle.clone_classes.specs.Listing.{listing}
+use Rattle.clone_same.specs.Bodies.{Body}
 
 -- ---- numbers that are the same where they leave the same remainder
 

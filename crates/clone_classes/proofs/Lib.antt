@@ -1,4 +1,6 @@
 mod Examples
+pub mod Grouping
 pub mod Groups
+pub mod Heads
 pub mod Pairs
 pub mod Sameness

@@ -5,7 +5,7 @@ use Rattle.std.proofs.lemmas.Bool.{eqb-true, eq-eqb}
 use Rattle.go_typed.specs.declared.window.Window.{Window}
 use Rattle.clone_window.proofs.Equivalence.{same-refl, same-sym, same-trans}
 use Rattle.clone_classes.specs.Classes.{IsEquivalent}
-use Rattle.clone_classes.specs.Listing.{Body, locals_in, statements_at, are_same}
+use Rattle.clone_same.specs.Bodies.{Body, locals_in, statements_at, are_same}
 
 pub between-sym : (there back : ℕ → ℕ → Bool) → ((t u : ℕ) → there t u ≡ true → back u t ≡ true) → (here others : List (Body ℕ)) (w v : Window) →
     are_same there here others w v ≡ true → are_same back others here v w ≡ true

@@ -1,2 +1,4 @@
+pub mod Choices
 pub mod Classes
+pub mod Heads
 pub mod Listing

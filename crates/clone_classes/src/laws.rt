@@ -2,10 +2,13 @@
 
 ghost use Rattle.std.specs.Prelude.{◌≡◌, ℕ, Bool, List, true, nat_eq};
 ghost use Rattle.go_typed.specs.declared.window.Window.{Window as Run};
+ghost use Rattle.go_typed.specs.Packages.{PackageView as Package};
 ghost use Rattle.clone_window.specs.declared.bounds.Bounds.{Bounds as Limits};
 ghost use Rattle.clone_window.specs.Sameness.{is_one_to_one};
 ghost use Rattle.clone_classes.specs.Classes.{classes, Among, Agree, AllApart, IsEquivalent, Together};
-ghost use Rattle.clone_classes.specs.Listing.{Body, windows_of_all, are_same, listing};
+ghost use Rattle.clone_classes.specs.Heads.{same_between};
+ghost use Rattle.clone_classes.specs.Listing.{windows_of_all, listing};
+ghost use Rattle.clone_same.specs.Bodies.{Body, are_same};
 
 /// Sameness is an equivalence on the windows of a package, whatever equivalence tells identical types.
 pub fn sameness_is_an_equivalence()
@@ -18,6 +21,14 @@ pub fn sameness_between_packages()
         → are_same there here others w v ≡ true → are_same back others here v w ≡ true }
     ensures transitive { (first second both : ℕ → ℕ → Bool) → ((t u v : ℕ) → first t u ≡ true → second u v ≡ true → both t v ≡ true)
         → (one two three : List (Body ℕ)) (w v x : Run) → are_same first one two w v ≡ true → are_same second two three v x ≡ true → are_same both one three w x ≡ true }
+{}
+
+/// Sameness is an equivalence also of windows of packages with equal heads, where types correspond by the places of their
+/// declarations.
+pub fn sameness_under_equal_heads()
+    ensures reflexive { (p : Package) (w : Run) → same_between p p w w ≡ true }
+    ensures symmetric { (p q : Package) (w v : Run) → same_between p q w v ≡ true → same_between q p v w ≡ true }
+    ensures transitive { (p q r : Package) (w v x : Run) → same_between p q w v ≡ true → same_between q r v x ≡ true → same_between p r w x ≡ true }
 {}
 
 /// Members of a class are windows, and each two of them are the same.

@@ -4,4 +4,7 @@
 //! windows that are the same, two windows that are the same stand in one class, and no window stands in two.
 #![tactic(auto)]
 
+pub mod choose;
 pub mod laws;
+pub mod pairwise;
+pub mod place;
