@@ -1,9 +1,9 @@
 -- Values and parts of strings and slices, by what the operands are.
-use Rattle.std.proofs.Common.{◌≡◌, ℤ, Bool, true, false, List, Result, sym, subst, rules}
+use Rattle.std.proofs.Common.{◌≡◌, ℤ, Bool, Result, subst, rules}
 use Rattle.go_meaning.specs.Values as meant
 use Rattle.go_meaning.specs.Values.{nth, whole_of}
 use Rattle.go_meaning.specs.Computations.{World}
-use Rattle.go_meaning.specs.Operations.{cut, cut_by, length_of}
+use Rattle.go_meaning.specs.Operations.{cut}
 use Rattle.go_values.specs.declared.value.Value.{Value, Truth, NilSlice, the_lemmas}
 use Rattle.go_values.specs.declared.panic.Stop.{Stop}
 use Rattle.go_values.specs.Deeds.{IsDone}

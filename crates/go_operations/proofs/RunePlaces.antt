@@ -5,9 +5,9 @@ use Rattle.std.specs.Str.{IsUtf8, chars, is_utf8, encode_utf8_all, bytes_eq, all
 use Rattle.std.proofs.lemmas.List.{drop-drop}
 use Rattle.std.proofs.lemmas.Bool.Decides.{leb_tells}
 use Rattle.std.proofs.lemmas.Str.{is_utf8-from_IsUtf8, IsUtf8-from_is_utf8}
-use Rattle.go_meaning.specs.Values.{Value, Whole}
+use Rattle.go_meaning.specs.Values.{Whole}
 use Rattle.go_meaning.specs.Operations.{rune_at}
-use Rattle.go_meaning.specs.Texts.{Rune, runes_from, runes_of, first_bytes, begins_rune, rune_code, rune_width}
+use Rattle.go_meaning.specs.Texts.{Rune, runes_from, runes_of, first_bytes, rune_code, rune_width}
 use Rattle.go_operations.specs.Places.{IsRunePlace, rune_told}
 
 skip : (n place : ℕ) (bs : List ℕ) → n ≤ length bs → runes_from place n bs ≡ runes_from (place + n) 0 (drop n bs)

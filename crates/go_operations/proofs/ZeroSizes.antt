@@ -1,11 +1,11 @@
 -- Zero values of types that can be told.
-use Rattle.std.proofs.Common.{◌≡◌, ◌<◌, ℕ, zero, suc, true, false, List, [], ◌∷◌, Option, Some, None, IsSome, is_some, slice_get, replicate, map, refl, sym, ap, subst, ◌∙◌, arith}
+use Rattle.std.proofs.Common.{◌≡◌, ◌<◌, ℕ, zero, suc, true, false, List, [], ◌∷◌, Option, Some, None, IsSome, slice_get, replicate, refl, sym, ap, subst, ◌∙◌, arith}
 use Rattle.std.specs.Option.{option_map, unwrap_or}
 use Rattle.go_types.specs.declared.shape.Field.{Field}
 use Rattle.go_types.specs.declared.shape.Shape.{Shape}
 use Rattle.go_types.specs.Tables.{tree_of}
 use Rattle.go_types.specs.Verdicts.{kept_count}
-use Rattle.go_types.specs.Trees.{TypeTree, TypeRow, boolean, text, integer, array, slice, structure, function, declared, is_declared, none, more}
+use Rattle.go_types.specs.Trees.{TypeTree, boolean, text, integer, array, slice, structure, function, declared, is_declared}
 use Rattle.go_types.specs.Relations.{Rights, Underlying, itself, through, Scalars, of_boolean, of_text, of_integer, of_array, of_slice, of_structure, of_function, of_right}
 use Rattle.type_tests.specs.Tests.{underlying_of}
 use Rattle.type_tests.specs.Sizes.{scalars_of}
@@ -17,7 +17,7 @@ use Rattle.type_tests.proofs.Counting.{told_scalars}
 use Rattle.go_meaning.specs.Planning.{zero_in}
 use Rattle.go_meaning.specs.Values as meant
 use Rattle.go_meaning.specs.Values.{zero_value, zero_values, copies, listed, valued}
-use Rattle.go_operations.specs.Settled.{AreKnown, row_of, zeros_in, zero_size, told_size, told_row_size}
+use Rattle.go_operations.specs.Settled.{AreKnown, row_of, zeros_in, told_size, told_row_size}
 
 pub by_underlying : (rights : Rights) (t u : TypeTree) → Some u ≡ underlying_of rights t → zero_of rights t ≡ zero_of rights u
 by_underlying rights t u e = zero_of_underlying rights t u (told_underlying rights t u (sym e))

@@ -1,9 +1,8 @@
 -- What is said of an operation that is carried out.
-use Rattle.std.specs.Prelude.{◌≡◌, ◌<◌, ℕ, [], ◌∷◌, List, Option, Some, None, Result, Ok, Err, IfSome}
+use Rattle.std.specs.Prelude.{◌≡◌, ◌<◌, ℕ, [], ◌∷◌, Option, Some, None, Result, Ok, Err, IfSome}
 use Rattle.go_meaning.specs.Computations.{World}
 use Rattle.go_meaning.specs.Operations.{Deed, Gives, Traps}
 use Rattle.go_values.specs.declared.value.Value.{Value}
-use Rattle.go_values.specs.declared.panic.Panic.{Panic}
 use Rattle.go_values.specs.declared.panic.Stop.{Stop}
 use Rattle.go_values.specs.declared.panic.Stop.TheVariants as stop
 use Rattle.go_values.specs.Views.{view, panic_view}

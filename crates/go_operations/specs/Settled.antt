@@ -1,5 +1,5 @@
 -- Zero values of types in a table, and their sizes.
-use Rattle.std.specs.Prelude.{ℕ, zero, suc, ◌+◌, ◌<◌, List, Option, Some, None, map}
+use Rattle.std.specs.Prelude.{ℕ, suc, ◌+◌, ◌<◌, List, Option, Some, None, map}
 use Rattle.std.specs.List.{AllByRecursion}
 use Rattle.go_types.specs.declared.shape.Field.{Field}
 use Rattle.go_types.specs.Trees.{TypeTree, TypeRow, row}

@@ -2,7 +2,7 @@ use Rattle.std.proofs.Common.{sym, ap, ◌∙◌, [], ◌∷◌}
 use Rattle.go_meaning.specs.Values as meant
 use Rattle.go_meaning.specs.Values.{parts_of, valued}
 use Rattle.go_meaning.specs.Operations.{Gives, placed}
-use Rattle.go_values.specs.Views.{view, views}
+use Rattle.go_values.specs.Views.{views}
 use Rattle.go_values.proofs.Views.{view_parts}
 use Rattle.go_operations.proofs.builds.build.Goals as goal
 

@@ -1,4 +1,4 @@
-use Rattle.std.proofs.Common.{◌≡◌, ◌++◌, ◌+◌, ℕ, List, Some, None, refl, ap, ◌∙◌, arith, rules, drop, length, slice_get}
+use Rattle.std.proofs.Common.{◌≡◌, ◌++◌, ◌+◌, ℕ, List, Some, refl, ap, ◌∙◌, arith, rules, drop, length, slice_get}
 use Rattle.std.proofs.lemmas.Option.{slice_get_read}
 use Rattle.go_typed.specs.Trees.{all_mapped}
 use Rattle.go_typed.specs.Views.{views}

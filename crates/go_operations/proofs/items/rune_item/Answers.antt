@@ -1,4 +1,4 @@
-use Rattle.std.proofs.Common.{◌≡◌, pos, [], ◌∷◌, sym, ap, ◌∙◌, arith, to_z, of_z}
+use Rattle.std.proofs.Common.{pos, [], ◌∷◌, sym, ap, ◌∙◌, arith, to_z, of_z}
 use Rattle.std.specs.Int.{w128}
 use Rattle.std.proofs.lemmas.Int.{to_z-of_z, to_z_pos}
 use Rattle.go_meaning.specs.Values as meant

@@ -1,5 +1,5 @@
 use Rattle.std.proofs.Common.{◌≡◌, ◌<◌, sym, ap, ◌∙◌, subst, length, List, ℕ}
-use Rattle.go_meaning.specs.Texts.{first_bytes, rune_code, rune_width}
+use Rattle.go_meaning.specs.Texts.{first_bytes}
 use Rattle.go_operations.specs.Places.{rune_told}
 use Rattle.go_operations.proofs.RunePlaces.{rune_is_none}
 use Rattle.go_operations.proofs.runes.first_rune.Goals as goal

@@ -1,4 +1,4 @@
-use Rattle.std.proofs.Common.{sym, ap, ◌∙◌, [], ◌∷◌}
+use Rattle.std.proofs.Common.{sym, ap, ◌∙◌}
 use Rattle.go_types.specs.Tables.{type_of}
 use Rattle.go_meaning.specs.Operations.{Compare, Not, Negate, Complement, Wrap, Join, TextOfCode, Length, Capacity, perform}
 use Rattle.go_values.specs.Views.{views}

@@ -1,4 +1,4 @@
-use Rattle.std.proofs.Common.{◌≡◌, ◌<◌, [], List, Option, Some, IsSome, false, pos, length, replicate, slice_get, refl, sym, ap, ◌∙◌, subst, arith, rules}
+use Rattle.std.proofs.Common.{◌≡◌, [], List, Option, Some, IsSome, false, pos, length, replicate, slice_get, refl, sym, ap, ◌∙◌, subst, arith, rules}
 use Rattle.std.proofs.lemmas.Option.{slice_get_read}
 use Rattle.go_types.specs.declared.shape.Field.{Field}
 use Rattle.go_types.specs.declared.shape.Shape.{Shape}
