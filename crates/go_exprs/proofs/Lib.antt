@@ -1,3 +1,9 @@
 pub mod Nodes
 pub mod Giving
 pub mod Layouts
+pub mod Answers
+pub mod Rows
+pub mod Building
+pub mod Stays
+pub mod Steps
+pub mod Fields

@@ -1,12 +1,17 @@
-//! The steps by which expressions and types are typed, node by node, over the tables of go_rules.
+//! The typing of expressions and types: one engine over the tables of go_rules.
 //!
-//! The parts of a node are told what they stand for (`told`), laid out as they stand in the typed node (`layout`), labelled
-//! (`label`), and take the types that the node gives them (`settle`). The contract of each call is its row of the tables
-//! (specs/Tables.antt and Settling.antt of go_rules), in the table of types that it is given. No call walks over a tree but
-//! `settle`, and that only as far as it is untyped, so each node is settled once at most.
+//! The parts of a node are typed from left to right, each by what it is told (`told`), and laid out as they stand in the typed node
+//! (`layout`); the node is judged from them, labelled (`label`), and gives its parts their types (`settle`). The contract of
+//! `engine::type_node`: the typed tree, or the reported fault, is that of the definition `answer` (specs/Typing.antt of go_rules),
+//! and the table of types only grows, whatever is answered. Each node is settled once at most as a whole.
 #![tactic(auto)]
 
+mod build;
+pub mod engine;
+mod form;
+mod judge;
 pub mod label;
 pub mod layout;
 pub mod settle;
+mod takes;
 pub mod told;
