@@ -1,12 +1,12 @@
 -- Worked examples of the whole check, from the Go specification and from what Go's own checker answers.
-use Rattle.std.specs.Prelude.{◌≡◌, [], ◌∷◌, codes, map, Some, None}
+use Rattle.std.specs.Prelude.{◌≡◌, List, [], ◌∷◌, codes, map, Some, None}
 use Rattle.go_base.specs.declared.fault.FaultCode.TheVariants as code
 use Rattle.go_tokens.specs.declared.token.TokenKind.TheVariants as token
 use Rattle.go_types.specs.Trees.{slice, declared, function, row}
 use Rattle.go_typed.specs.declared.origin.Origin.TheVariants as origin
 use Rattle.go_typed.specs.Trees as sort
 use Rattle.go_rules.specs.Sorts.{int}
-use Rattle.go_package.specs.Sentences.{reported, checked_fault, told_of}
+use Rattle.go_package.specs.Sentences.{Word, reported, checked_fault, told_of}
 use Rattle.go_package.specs.Checked.{origins}
 
 -- Whether a package is good, or what is reported of it.
@@ -144,86 +144,38 @@ pub record CheckExamples : Type 0 where
       (token.Semicolon, codes ";") ∷ []) ∷ [])
       ≡ None
 
+-- package p; type T []int; var v T; func f(a int) { type U T; type V []U; var b V; _ = b[a] }; func g() T { type W U2; var c W; return T(c) }; type U2 T
+abbrev pub some_types : List (List Word)
+some_types =
+    ((token.Package, codes "package") ∷ (token.Identifier, codes "p") ∷ (token.Semicolon, codes ";") ∷ (token.Type, codes "type") ∷
+    (token.Identifier, codes "T") ∷ (token.LeftBracket, codes "[") ∷ (token.RightBracket, codes "]") ∷ (token.Identifier, codes "int") ∷
+    (token.Semicolon, codes ";") ∷ (token.Var, codes "var") ∷ (token.Identifier, codes "v") ∷ (token.Identifier, codes "T") ∷
+    (token.Semicolon, codes ";") ∷ (token.Func, codes "func") ∷ (token.Identifier, codes "f") ∷ (token.LeftParenthesis, codes "(") ∷
+    (token.Identifier, codes "a") ∷ (token.Identifier, codes "int") ∷ (token.RightParenthesis, codes ")") ∷ (token.LeftBrace, codes "{") ∷
+    (token.Type, codes "type") ∷ (token.Identifier, codes "U") ∷ (token.Identifier, codes "T") ∷ (token.Semicolon, codes ";") ∷
+    (token.Type, codes "type") ∷ (token.Identifier, codes "V") ∷ (token.LeftBracket, codes "[") ∷ (token.RightBracket, codes "]") ∷
+    (token.Identifier, codes "U") ∷ (token.Semicolon, codes ";") ∷ (token.Var, codes "var") ∷ (token.Identifier, codes "b") ∷
+    (token.Identifier, codes "V") ∷ (token.Semicolon, codes ";") ∷ (token.Identifier, codes "_") ∷ (token.Assign, codes "=") ∷
+    (token.Identifier, codes "b") ∷ (token.LeftBracket, codes "[") ∷ (token.Identifier, codes "a") ∷ (token.RightBracket, codes "]") ∷
+    (token.RightBrace, codes "}") ∷ (token.Semicolon, codes ";") ∷ (token.Func, codes "func") ∷ (token.Identifier, codes "g") ∷
+    (token.LeftParenthesis, codes "(") ∷ (token.RightParenthesis, codes ")") ∷ (token.Identifier, codes "T") ∷ (token.LeftBrace, codes "{") ∷
+    (token.Type, codes "type") ∷ (token.Identifier, codes "W") ∷ (token.Identifier, codes "U2") ∷ (token.Semicolon, codes ";") ∷
+    (token.Var, codes "var") ∷ (token.Identifier, codes "c") ∷ (token.Identifier, codes "W") ∷ (token.Semicolon, codes ";") ∷
+    (token.Return, codes "return") ∷ (token.Identifier, codes "T") ∷ (token.LeftParenthesis, codes "(") ∷ (token.Identifier, codes "c") ∷
+    (token.RightParenthesis, codes ")") ∷ (token.RightBrace, codes "}") ∷ (token.Semicolon, codes ";") ∷ (token.Type, codes "type") ∷
+    (token.Identifier, codes "U2") ∷ (token.Identifier, codes "T") ∷ (token.Semicolon, codes ";") ∷ []) ∷ []
+
 -- The types of the functions of a package, and where its types stand.
 pub record TypingExamples : Type 0 where
-  -- package p; type T []int; var v T; func f(a int) { type U T; type V []U; var b V; _ = b[a] }; func g() T { type W U2; var c W; return T(c) }; type U2 T
   pub rights :
-      told_of (λ t. t.bodies.rights) (
-      ((token.Package, codes "package") ∷ (token.Identifier, codes "p") ∷ (token.Semicolon, codes ";") ∷ (token.Type, codes "type") ∷
-      (token.Identifier, codes "T") ∷ (token.LeftBracket, codes "[") ∷ (token.RightBracket, codes "]") ∷ (token.Identifier, codes "int") ∷
-      (token.Semicolon, codes ";") ∷ (token.Var, codes "var") ∷ (token.Identifier, codes "v") ∷ (token.Identifier, codes "T") ∷
-      (token.Semicolon, codes ";") ∷ (token.Func, codes "func") ∷ (token.Identifier, codes "f") ∷ (token.LeftParenthesis, codes "(") ∷
-      (token.Identifier, codes "a") ∷ (token.Identifier, codes "int") ∷ (token.RightParenthesis, codes ")") ∷ (token.LeftBrace, codes "{") ∷
-      (token.Type, codes "type") ∷ (token.Identifier, codes "U") ∷ (token.Identifier, codes "T") ∷ (token.Semicolon, codes ";") ∷
-      (token.Type, codes "type") ∷ (token.Identifier, codes "V") ∷ (token.LeftBracket, codes "[") ∷ (token.RightBracket, codes "]") ∷
-      (token.Identifier, codes "U") ∷ (token.Semicolon, codes ";") ∷ (token.Var, codes "var") ∷ (token.Identifier, codes "b") ∷
-      (token.Identifier, codes "V") ∷ (token.Semicolon, codes ";") ∷ (token.Identifier, codes "_") ∷ (token.Assign, codes "=") ∷
-      (token.Identifier, codes "b") ∷ (token.LeftBracket, codes "[") ∷ (token.Identifier, codes "a") ∷ (token.RightBracket, codes "]") ∷
-      (token.RightBrace, codes "}") ∷ (token.Semicolon, codes ";") ∷ (token.Func, codes "func") ∷ (token.Identifier, codes "g") ∷
-      (token.LeftParenthesis, codes "(") ∷ (token.RightParenthesis, codes ")") ∷ (token.Identifier, codes "T") ∷ (token.LeftBrace, codes "{") ∷
-      (token.Type, codes "type") ∷ (token.Identifier, codes "W") ∷ (token.Identifier, codes "U2") ∷ (token.Semicolon, codes ";") ∷
-      (token.Var, codes "var") ∷ (token.Identifier, codes "c") ∷ (token.Identifier, codes "W") ∷ (token.Semicolon, codes ";") ∷
-      (token.Return, codes "return") ∷ (token.Identifier, codes "T") ∷ (token.LeftParenthesis, codes "(") ∷ (token.Identifier, codes "c") ∷
-      (token.RightParenthesis, codes ")") ∷ (token.RightBrace, codes "}") ∷ (token.Semicolon, codes ";") ∷ (token.Type, codes "type") ∷
-      (token.Identifier, codes "U2") ∷ (token.Identifier, codes "T") ∷ (token.Semicolon, codes ";") ∷ []) ∷ [])
+      told_of (λ t. t.bodies.rights) some_types
       ≡ Some (Some (slice int) ∷ Some (declared 0) ∷ Some (declared 0) ∷ Some (slice (declared 2)) ∷ Some (declared 1) ∷ [])
   pub origins_told :
-      told_of (λ t. origins t.uses) (
-      ((token.Package, codes "package") ∷ (token.Identifier, codes "p") ∷ (token.Semicolon, codes ";") ∷ (token.Type, codes "type") ∷
-      (token.Identifier, codes "T") ∷ (token.LeftBracket, codes "[") ∷ (token.RightBracket, codes "]") ∷ (token.Identifier, codes "int") ∷
-      (token.Semicolon, codes ";") ∷ (token.Var, codes "var") ∷ (token.Identifier, codes "v") ∷ (token.Identifier, codes "T") ∷
-      (token.Semicolon, codes ";") ∷ (token.Func, codes "func") ∷ (token.Identifier, codes "f") ∷ (token.LeftParenthesis, codes "(") ∷
-      (token.Identifier, codes "a") ∷ (token.Identifier, codes "int") ∷ (token.RightParenthesis, codes ")") ∷ (token.LeftBrace, codes "{") ∷
-      (token.Type, codes "type") ∷ (token.Identifier, codes "U") ∷ (token.Identifier, codes "T") ∷ (token.Semicolon, codes ";") ∷
-      (token.Type, codes "type") ∷ (token.Identifier, codes "V") ∷ (token.LeftBracket, codes "[") ∷ (token.RightBracket, codes "]") ∷
-      (token.Identifier, codes "U") ∷ (token.Semicolon, codes ";") ∷ (token.Var, codes "var") ∷ (token.Identifier, codes "b") ∷
-      (token.Identifier, codes "V") ∷ (token.Semicolon, codes ";") ∷ (token.Identifier, codes "_") ∷ (token.Assign, codes "=") ∷
-      (token.Identifier, codes "b") ∷ (token.LeftBracket, codes "[") ∷ (token.Identifier, codes "a") ∷ (token.RightBracket, codes "]") ∷
-      (token.RightBrace, codes "}") ∷ (token.Semicolon, codes ";") ∷ (token.Func, codes "func") ∷ (token.Identifier, codes "g") ∷
-      (token.LeftParenthesis, codes "(") ∷ (token.RightParenthesis, codes ")") ∷ (token.Identifier, codes "T") ∷ (token.LeftBrace, codes "{") ∷
-      (token.Type, codes "type") ∷ (token.Identifier, codes "W") ∷ (token.Identifier, codes "U2") ∷ (token.Semicolon, codes ";") ∷
-      (token.Var, codes "var") ∷ (token.Identifier, codes "c") ∷ (token.Identifier, codes "W") ∷ (token.Semicolon, codes ";") ∷
-      (token.Return, codes "return") ∷ (token.Identifier, codes "T") ∷ (token.LeftParenthesis, codes "(") ∷ (token.Identifier, codes "c") ∷
-      (token.RightParenthesis, codes ")") ∷ (token.RightBrace, codes "}") ∷ (token.Semicolon, codes ";") ∷ (token.Type, codes "type") ∷
-      (token.Identifier, codes "U2") ∷ (token.Identifier, codes "T") ∷ (token.Semicolon, codes ";") ∷ []) ∷ [])
+      told_of (λ t. origins t.uses) some_types
       ≡ Some (origin.Package 0 ∷ origin.Package 4 ∷ origin.Local 0 1 ∷ origin.Local 0 2 ∷ origin.Local 1 0 ∷ [])
   pub signatures :
-      told_of (λ t. map (λ f. f.signature) t.bodies.functions) (
-      ((token.Package, codes "package") ∷ (token.Identifier, codes "p") ∷ (token.Semicolon, codes ";") ∷ (token.Type, codes "type") ∷
-      (token.Identifier, codes "T") ∷ (token.LeftBracket, codes "[") ∷ (token.RightBracket, codes "]") ∷ (token.Identifier, codes "int") ∷
-      (token.Semicolon, codes ";") ∷ (token.Var, codes "var") ∷ (token.Identifier, codes "v") ∷ (token.Identifier, codes "T") ∷
-      (token.Semicolon, codes ";") ∷ (token.Func, codes "func") ∷ (token.Identifier, codes "f") ∷ (token.LeftParenthesis, codes "(") ∷
-      (token.Identifier, codes "a") ∷ (token.Identifier, codes "int") ∷ (token.RightParenthesis, codes ")") ∷ (token.LeftBrace, codes "{") ∷
-      (token.Type, codes "type") ∷ (token.Identifier, codes "U") ∷ (token.Identifier, codes "T") ∷ (token.Semicolon, codes ";") ∷
-      (token.Type, codes "type") ∷ (token.Identifier, codes "V") ∷ (token.LeftBracket, codes "[") ∷ (token.RightBracket, codes "]") ∷
-      (token.Identifier, codes "U") ∷ (token.Semicolon, codes ";") ∷ (token.Var, codes "var") ∷ (token.Identifier, codes "b") ∷
-      (token.Identifier, codes "V") ∷ (token.Semicolon, codes ";") ∷ (token.Identifier, codes "_") ∷ (token.Assign, codes "=") ∷
-      (token.Identifier, codes "b") ∷ (token.LeftBracket, codes "[") ∷ (token.Identifier, codes "a") ∷ (token.RightBracket, codes "]") ∷
-      (token.RightBrace, codes "}") ∷ (token.Semicolon, codes ";") ∷ (token.Func, codes "func") ∷ (token.Identifier, codes "g") ∷
-      (token.LeftParenthesis, codes "(") ∷ (token.RightParenthesis, codes ")") ∷ (token.Identifier, codes "T") ∷ (token.LeftBrace, codes "{") ∷
-      (token.Type, codes "type") ∷ (token.Identifier, codes "W") ∷ (token.Identifier, codes "U2") ∷ (token.Semicolon, codes ";") ∷
-      (token.Var, codes "var") ∷ (token.Identifier, codes "c") ∷ (token.Identifier, codes "W") ∷ (token.Semicolon, codes ";") ∷
-      (token.Return, codes "return") ∷ (token.Identifier, codes "T") ∷ (token.LeftParenthesis, codes "(") ∷ (token.Identifier, codes "c") ∷
-      (token.RightParenthesis, codes ")") ∷ (token.RightBrace, codes "}") ∷ (token.Semicolon, codes ";") ∷ (token.Type, codes "type") ∷
-      (token.Identifier, codes "U2") ∷ (token.Identifier, codes "T") ∷ (token.Semicolon, codes ";") ∷ []) ∷ [])
+      told_of (λ t. map (λ f. f.signature) t.bodies.functions) some_types
       ≡ Some (function (row (int ∷ [])) (row []) ∷ function (row []) (row (declared 0 ∷ [])) ∷ [])
   pub locals :
-      told_of (λ t. map (λ f. f.locals) t.bodies.functions) (
-      ((token.Package, codes "package") ∷ (token.Identifier, codes "p") ∷ (token.Semicolon, codes ";") ∷ (token.Type, codes "type") ∷
-      (token.Identifier, codes "T") ∷ (token.LeftBracket, codes "[") ∷ (token.RightBracket, codes "]") ∷ (token.Identifier, codes "int") ∷
-      (token.Semicolon, codes ";") ∷ (token.Var, codes "var") ∷ (token.Identifier, codes "v") ∷ (token.Identifier, codes "T") ∷
-      (token.Semicolon, codes ";") ∷ (token.Func, codes "func") ∷ (token.Identifier, codes "f") ∷ (token.LeftParenthesis, codes "(") ∷
-      (token.Identifier, codes "a") ∷ (token.Identifier, codes "int") ∷ (token.RightParenthesis, codes ")") ∷ (token.LeftBrace, codes "{") ∷
-      (token.Type, codes "type") ∷ (token.Identifier, codes "U") ∷ (token.Identifier, codes "T") ∷ (token.Semicolon, codes ";") ∷
-      (token.Type, codes "type") ∷ (token.Identifier, codes "V") ∷ (token.LeftBracket, codes "[") ∷ (token.RightBracket, codes "]") ∷
-      (token.Identifier, codes "U") ∷ (token.Semicolon, codes ";") ∷ (token.Var, codes "var") ∷ (token.Identifier, codes "b") ∷
-      (token.Identifier, codes "V") ∷ (token.Semicolon, codes ";") ∷ (token.Identifier, codes "_") ∷ (token.Assign, codes "=") ∷
-      (token.Identifier, codes "b") ∷ (token.LeftBracket, codes "[") ∷ (token.Identifier, codes "a") ∷ (token.RightBracket, codes "]") ∷
-      (token.RightBrace, codes "}") ∷ (token.Semicolon, codes ";") ∷ (token.Func, codes "func") ∷ (token.Identifier, codes "g") ∷
-      (token.LeftParenthesis, codes "(") ∷ (token.RightParenthesis, codes ")") ∷ (token.Identifier, codes "T") ∷ (token.LeftBrace, codes "{") ∷
-      (token.Type, codes "type") ∷ (token.Identifier, codes "W") ∷ (token.Identifier, codes "U2") ∷ (token.Semicolon, codes ";") ∷
-      (token.Var, codes "var") ∷ (token.Identifier, codes "c") ∷ (token.Identifier, codes "W") ∷ (token.Semicolon, codes ";") ∷
-      (token.Return, codes "return") ∷ (token.Identifier, codes "T") ∷ (token.LeftParenthesis, codes "(") ∷ (token.Identifier, codes "c") ∷
-      (token.RightParenthesis, codes ")") ∷ (token.RightBrace, codes "}") ∷ (token.Semicolon, codes ";") ∷ (token.Type, codes "type") ∷
-      (token.Identifier, codes "U2") ∷ (token.Identifier, codes "T") ∷ (token.Semicolon, codes ";") ∷ []) ∷ [])
+      told_of (λ t. map (λ f. f.locals) t.bodies.functions) some_types
       ≡ Some ((sort.Value int ∷ sort.IsType (declared 2) ∷ sort.IsType (declared 3) ∷ sort.Value (declared 3) ∷ []) ∷ (sort.IsType (declared 4) ∷ sort.Value (declared 4) ∷ []) ∷ [])

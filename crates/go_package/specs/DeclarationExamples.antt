@@ -177,12 +177,12 @@ pub record NeededExamples : Type 0 where
       (token.Comma, codes ",") ∷ (token.Integer, codes "2") ∷ (token.Comma, codes ",") ∷ (token.Integer, codes "3") ∷ (token.RightBrace, codes "}") ∷
       (token.Semicolon, codes ";") ∷ []) ∷ [])
       ≡ fault code.ConstIndex 0 79 80
-  -- package p; type T []W1; type W1 [1 / 0]int; var v T = nil
+  -- package p; type T []El; type El [1 / 0]int; var v T = nil
   pub faulty_element :
       stated (
       ((token.Package, codes "package") ∷ (token.Identifier, codes "p") ∷ (token.Semicolon, codes ";") ∷ (token.Type, codes "type") ∷
-      (token.Identifier, codes "T") ∷ (token.LeftBracket, codes "[") ∷ (token.RightBracket, codes "]") ∷ (token.Identifier, codes "W1") ∷
-      (token.Semicolon, codes ";") ∷ (token.Type, codes "type") ∷ (token.Identifier, codes "W1") ∷ (token.LeftBracket, codes "[") ∷
+      (token.Identifier, codes "T") ∷ (token.LeftBracket, codes "[") ∷ (token.RightBracket, codes "]") ∷ (token.Identifier, codes "El") ∷
+      (token.Semicolon, codes ";") ∷ (token.Type, codes "type") ∷ (token.Identifier, codes "El") ∷ (token.LeftBracket, codes "[") ∷
       (token.Integer, codes "1") ∷ (token.Slash, codes "/") ∷ (token.Integer, codes "0") ∷ (token.RightBracket, codes "]") ∷
       (token.Identifier, codes "int") ∷ (token.Semicolon, codes ";") ∷ (token.Var, codes "var") ∷ (token.Identifier, codes "v") ∷
       (token.Identifier, codes "T") ∷ (token.Assign, codes "=") ∷ (token.Identifier, codes "nil") ∷ (token.Semicolon, codes ";") ∷ []) ∷ [])
