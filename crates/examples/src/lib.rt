@@ -11,8 +11,6 @@ mod calls;
 #[cfg(test)]
 mod folders;
 #[cfg(test)]
-mod path_files;
-#[cfg(test)]
 mod program;
 #[cfg(test)]
 mod script;
