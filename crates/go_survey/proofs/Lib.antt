@@ -1,0 +1,3 @@
+pub mod OverParts
+pub mod Results
+pub mod Rows
