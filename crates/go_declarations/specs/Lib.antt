@@ -1,0 +1,4 @@
+pub mod Views
+pub mod Assigned
+pub mod Judged
+pub mod States
