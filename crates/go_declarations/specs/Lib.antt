@@ -2,3 +2,4 @@ pub mod Views
 pub mod Assigned
 pub mod Judged
 pub mod States
+pub mod Reads

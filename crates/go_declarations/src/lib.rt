@@ -8,6 +8,7 @@
 
 pub mod assigning;
 pub mod judging;
+pub mod laws;
 pub mod reading;
 pub mod specification;
 
