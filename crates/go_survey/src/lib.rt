@@ -6,6 +6,7 @@
 #![tactic(auto)]
 
 pub mod engine;
+pub mod laws;
 pub mod nodes;
 
 pub use engine::survey;
