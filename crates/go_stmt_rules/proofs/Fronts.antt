@@ -1,14 +1,12 @@
 -- The front of a row, and what is behind it.
 use Rattle.std.proofs.Common.{◌≡◌, ℕ, zero, suc, min, ◌+◌, ◌-◌, ◌<◌, ◌≤◌, List, [], ◌∷◌, ◌++◌, length, drop, take, get_or, map, Option, Some, None, refl, ap, sym, ◌∙◌, subst, length-drop, arith}
 use Rattle.std.proofs.lemmas.List.{take_all}
-use Rattle.std.specs.Option.{option_map}
 use Rattle.std.specs.Borrow.{Bor}
-use Rattle.go_types.specs.Trees.{TypeTree}
 use Rattle.go_types.specs.Tables.{Table}
 use Rattle.go_typed.specs.declared.node.TypedNode.{TypedNode}
 use Rattle.go_typed.specs.Views.{seen, Known, AllKnown}
 use Rattle.go_rules.specs.Settling.{Part}
-use Rattle.go_rules.specs.Tables.{Parts, present}
+use Rattle.go_rules.specs.Tables.{present}
 use Rattle.go_rules.specs.TypeNodes.{part_type}
 use Rattle.go_stmts.specs.Rules.{type_there, values_there, last_part}
 use Rattle.go_call_rules.specs.Shown.{shown, AllShownKnown}

@@ -1,5 +1,5 @@
 -- Loops over rows that stand beside each other.
-use Rattle.std.proofs.Common.{◌≡◌, min, List, [], ◌∷◌, ◌++◌, length, Option, refl, ap, sym, ◌∙◌, arith}
+use Rattle.std.proofs.Common.{◌≡◌, min, List, [], ◌∷◌, ◌++◌, length, Option, ap, sym, ◌∙◌, arith}
 use Rattle.go_rules.specs.declared.fault.TypeFault.{TypeFault}
 use Rattle.go_rules.specs.Faults.{least, earlier}
 use Rattle.go_rules.proofs.Firsts.{least_append, earlier_assoc}

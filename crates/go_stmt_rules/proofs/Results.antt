@@ -1,11 +1,8 @@
 -- Results of calls, and faults of what was made.
-use Rattle.std.proofs.Common.{◌≡◌, List, [], ◌∷◌, Option, Some, None, Result, Ok, Err, refl, ap, sym}
-use Rattle.go_base.specs.Gives.{Gives}
+use Rattle.std.proofs.Common.{◌≡◌, List, [], ◌∷◌, Option, Some, None, Ok, Err, refl, ap, sym}
 use Rattle.go_types.specs.Trees.{TypeTree, row}
 use Rattle.go_rules.specs.declared.fault.TypeFault.{TypeFault}
-use Rattle.go_rules.specs.Faults.{judged, refusal_of}
-use Rattle.go_rules.specs.declared.fault.TypeError.{TypeError}
-use Rattle.go_rules.specs.declared.fault.TypeError.TheVariants as errors
+use Rattle.go_rules.specs.Faults.{judged}
 use Rattle.go_stmts.specs.Assigning.{types_in}
 
 pub types_in_row : (ts : List TypeTree) → types_in (row ts) ≡ ts

@@ -109,7 +109,10 @@ fn all_unassigned(
 {
     let mut first = None;
     for number in 0..wanted.len().min(values.len()) {
-        first = earlier(first, unassigned(types, basics, wanted[number], values[number]));
+        first = earlier(
+            first,
+            unassigned(types, basics, wanted[number], values[number]),
+        );
     }
     first
 }
@@ -148,7 +151,10 @@ fn results_unassigned(
 {
     let mut first = None;
     for number in 0..wanted.len().min(results.len()) {
-        first = earlier(first, result_unassigned(types, call, wanted[number], results[number]));
+        first = earlier(
+            first,
+            result_unassigned(types, call, wanted[number], results[number]),
+        );
     }
     first
 }

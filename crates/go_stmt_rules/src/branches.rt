@@ -63,11 +63,7 @@ fn tag(types: &Types, basics: Basics, node: &TypedNode) -> Option<TypeFault>
 }
 
 /// The fault of the tag of a switch.
-pub fn second_tag(
-    types: &Types,
-    basics: Basics,
-    parts: &[Option<TypedNode>],
-) -> Option<TypeFault>
+pub fn second_tag(types: &Types, basics: Basics, parts: &[Option<TypedNode>]) -> Option<TypeFault>
     requires basics { AreBasics types.now basics }
     requires parts { AllKnown (length types.now.shapes) parts.now }
     ensures { result ≡ least (second_tag (rights_of types.now) (map (option_map (seen types.now)) parts.now)) }
@@ -79,12 +75,7 @@ pub fn second_tag(
 }
 
 /// The tag, at the case that is compared with it.
-fn tag_at(
-    alloc: Global,
-    types: &Types,
-    tag: &Sort,
-    value: &TypedNode,
-) -> Result<TypedNode, Memory>
+fn tag_at(alloc: Global, types: &Types, tag: &Sort, value: &TypedNode) -> Result<TypedNode, Memory>
     requires tag { KnownSort (length types.now.shapes) tag.now }
     ensures node { IfOk result (λ n. seen types.now n ≡ tag_at (sort_seen types.now tag.now) (seen types.now value.now)) }
     ensures known { IfOk result (Known (length types.now.shapes)) }

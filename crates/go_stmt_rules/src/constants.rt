@@ -145,12 +145,7 @@ fn is_count(types: &Types, count: u32, values: &[&TypedNode]) -> bool
 }
 
 /// The fault of a number of values that isn't that of the names.
-fn count_fault(
-    types: &Types,
-    place: Place,
-    count: u32,
-    values: &[&TypedNode],
-) -> Option<TypeFault>
+fn count_fault(types: &Types, place: Place, count: u32, values: &[&TypedNode]) -> Option<TypeFault>
     ensures { result ≡ least (if count == length (shown types.now values.now) then [] else fault_at code.Count place.first place.last) }
 {
     if is_count(types, count, values) {

@@ -129,7 +129,15 @@ fn defined(
     let nodes = present(alloc, types, parts)?;
     let names = front(types, &nodes, count);
     let values = behind(types, &nodes, count);
-    define_fault(alloc, types, around.basics, around.locals, place, names, values)
+    define_fault(
+        alloc,
+        types,
+        around.basics,
+        around.locals,
+        place,
+        names,
+        values,
+    )
 }
 
 /// The fault of a specification of so many variables.

@@ -23,7 +23,9 @@ use crate::names::{push_constants, push_elements, push_names};
 use crate::nodes::{behind, front, present};
 use crate::operations::operands_take;
 use crate::taking::Taking;
-use crate::values::{push, push_each, push_rests, push_returned, push_same, push_values, type_or_default};
+use crate::values::{
+    push, push_each, push_rests, push_returned, push_same, push_values, type_or_default,
+};
 use crate::wanted::{known_types, same_types, target_types};
 use go_base::Memory;
 use go_grammar::kind::{Arithmetic, Kind, Sort as Declared};
@@ -242,7 +244,13 @@ fn ranged(
 {
     let nodes = present(alloc, types, parts)?;
     if let Some(operand) = last_of(types, &nodes) {
-        push_elements(types, basics, parts.len().saturating_sub(1), operand, takings)?;
+        push_elements(
+            types,
+            basics,
+            parts.len().saturating_sub(1),
+            operand,
+            takings,
+        )?;
     }
     Ok(())
 }

@@ -16,12 +16,11 @@ pub mod nodes;
 pub mod operations;
 pub mod ranges;
 pub mod taking;
-
 pub mod targets;
 pub mod values;
 pub mod wanted;
 
 pub use around::Around;
 pub use failing::fault;
-pub use taking::Taking;
 pub use given::takings;
+pub use taking::Taking;

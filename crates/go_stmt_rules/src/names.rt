@@ -19,10 +19,10 @@ use crate::taking::Taking;
 use crate::values::push;
 use crate::wanted::{push_wanted, result_types};
 use go_base::Memory;
+use go_rules::Basics;
 use go_rules::basics::default_type;
 use go_rules::nodes::sort_of;
 use go_rules::sorts::{const_kind, untyped_kind};
-use go_rules::Basics;
 use go_typed::{Sort, TypedNode};
 use go_types::{TypeId, Types};
 use std::alloc::{AllocError, Global};
@@ -57,7 +57,11 @@ fn own_types(
 {
     let mut own = Vec::new(alloc);
     for value in values {
-        push_wanted(types, value_type(types, basics, sort_of(types, value)), &mut own)?;
+        push_wanted(
+            types,
+            value_type(types, basics, sort_of(types, value)),
+            &mut own,
+        )?;
     }
     Ok(own)
 }

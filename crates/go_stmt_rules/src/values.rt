@@ -135,7 +135,11 @@ pub fn push_values(
     ensures known { OnOk result (All (KnownTaking (length types.now.shapes)) takings.new.items) }
 {
     for number in 0..values.len() {
-        push(types, Taking::Takes(value_take(types, wanted, number)), takings)?;
+        push(
+            types,
+            Taking::Takes(value_take(types, wanted, number)),
+            takings,
+        )?;
     }
     Ok(())
 }

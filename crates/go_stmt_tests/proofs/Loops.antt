@@ -8,7 +8,6 @@ use Rattle.go_typed.specs.declared.node.TypedNode.TheFolds.{fold_out-TypedNode}
 use Rattle.go_typed.specs.Funcs.{size, sizes}
 use Rattle.go_typed.specs.Trees.{typed, list_of, parts_of}
 use Rattle.go_typed.specs.Views.{view, views, label_view, seen, all_seen, AllKnown}
-use Rattle.go_rules.specs.Tables.{Parts}
 use Rattle.go_rules.proofs.Parts.{drop_step, seen_out}
 
 opened : (n : TypedNode) → view n ≡ typed (out-TypedNode n).form (out-TypedNode n).first (out-TypedNode n).last (label_view (out-TypedNode n).label) (views (out-TypedNode n).parts.items)

@@ -1,5 +1,5 @@
 -- The tests of statements by the rows of their parts.
-use Rattle.std.proofs.Common.{◌≡◌, List, [], ◌∷◌, ◌++◌, map, Option, Some, None, Bool, true, false, cond, refl, ap, ◌∙◌}
+use Rattle.std.proofs.Common.{◌≡◌, List, [], ◌∷◌, ◌++◌, map, Option, None, Bool, true, false, cond, refl, ap, ◌∙◌}
 use Rattle.std.specs.Prelude.{◌&&◌, ◌||◌, not}
 use Rattle.std.specs.List.{list_any, list_all}
 use Rattle.std.specs.Option.{option_map}
@@ -9,7 +9,7 @@ use Rattle.go_typed.specs.declared.form.Form.TheVariants as form
 use Rattle.go_typed.specs.Trees.{typed, Typeds, none, more, skip, form_of, sort_of, parts_of, list_of}
 use Rattle.go_rules.specs.Settling.{Part}
 use Rattle.go_rules.specs.Sorts.{Stands}
-use Rattle.go_rules.specs.Tables.{Parts, is_call, is_variable_name, on_one, on_first}
+use Rattle.go_rules.specs.Tables.{Parts, is_call, is_variable_name, on_first}
 use Rattle.go_stmts.specs.Targets.{is_variable, bare, is_panic, acts, callee_passes, is_statement_call, is_panic_call}
 use Rattle.go_stmts.specs.Ending.{is_break, lets_break, breaks, any_breaks, part_breaks, last_flag, last_falls, is_default_clause, branches_end, clauses_end, ends, which_terminate, terminates, is_fallthrough_part}
 use Rattle.go_stmt_tests.specs.Rows.{first_there, varies_by_first, inner_or, is_parenthesized, callee_of, passes, part_ends, last_ends, both_branches, all_clauses_end, ends_over}

@@ -167,9 +167,7 @@ fn clauses_end(types: &Types, parts: &[Option<TypedNode>]) -> bool
 {
     match parts {
         [_, _, clauses @ ..] => {
-            has_default(types, clauses)
-                && !any_breaks(types, clauses)
-                && all_end(types, clauses)
+            has_default(types, clauses) && !any_breaks(types, clauses) && all_end(types, clauses)
         }
         _ => false,
     }

@@ -1,4 +1,4 @@
-use Rattle.std.proofs.Common.{length, map, nat_eq, ap, sym, ◌∙◌}
+use Rattle.std.proofs.Common.{length, nat_eq, ap, sym, ◌∙◌}
 use Rattle.std.specs.Option.{option_map}
 use Rattle.go_types.specs.Tables.{type_of}
 use Rattle.go_call_rules.specs.Shown.{shown}

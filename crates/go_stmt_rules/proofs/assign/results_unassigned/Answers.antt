@@ -1,4 +1,4 @@
-use Rattle.std.proofs.Common.{◌≡◌, ◌+◌, ◌<◌, ◌≤◌, min, None, length, drop, get_or, map, refl, ap, sym, subst, ◌∙◌, length-drop, arith}
+use Rattle.std.proofs.Common.{◌+◌, ◌<◌, ◌≤◌, min, None, length, drop, get_or, refl, subst, ◌∙◌, length-drop, arith}
 use Rattle.std.proofs.lemmas.List.{drop_more, length-map}
 use Rattle.std.specs.List.{AllByRecursion}
 use Rattle.std.specs.Option.{option_map}

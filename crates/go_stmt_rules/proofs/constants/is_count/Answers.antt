@@ -1,4 +1,4 @@
-use Rattle.std.proofs.Common.{length, nat_eq, ap, sym}
+use Rattle.std.proofs.Common.{nat_eq, ap, sym}
 use Rattle.go_call_rules.proofs.Lists.{length-shown}
 use Rattle.go_stmt_rules.proofs.constants.is_count.Goals as goal
 

@@ -1,4 +1,4 @@
-use Rattle.std.proofs.Common.{◌≡◌, ◌∷◌, ◌++◌, [], length, ap, sym, subst, ◌∙◌}
+use Rattle.std.proofs.Common.{length, ap, sym, subst, ◌∙◌}
 use Rattle.go_stmts.specs.Rules.{last_part}
 use Rattle.go_call_rules.specs.Shown.{shown, AllShownKnown}
 use Rattle.go_stmt_rules.proofs.Fronts.{last_shown, last_shown_known}

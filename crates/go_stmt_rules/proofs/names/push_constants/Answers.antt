@@ -1,7 +1,6 @@
-use Rattle.std.proofs.Common.{◌<◌, length, map, ap, arith}
+use Rattle.std.proofs.Common.{◌<◌, map, ap, arith}
 use Rattle.std.specs.Option.{option_map}
 use Rattle.go_types.specs.Tables.{type_of}
-use Rattle.go_rules.specs.Sorts.{Stands}
 use Rattle.go_stmts.specs.Assigning.{stands}
 use Rattle.go_stmt_rules.specs.Seen.{taking_seen}
 use Rattle.go_stmt_rules.proofs.Steps.{constants_step}

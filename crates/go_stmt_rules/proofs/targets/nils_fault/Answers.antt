@@ -1,9 +1,6 @@
 use Rattle.std.proofs.Common.{◌<◌, length, refl, arith}
-use Rattle.std.specs.Option.{option_map}
-use Rattle.go_types.specs.Tables.{type_of, rights_of}
-use Rattle.go_typed.specs.Views.{sort_seen}
-use Rattle.go_stmts.specs.Assigning.{at_nil, constant_failing, constants_failing}
-use Rattle.go_stmts.specs.Rules.{each, not_a_target, case_failing}
+use Rattle.go_stmts.specs.Assigning.{at_nil}
+use Rattle.go_stmts.specs.Rules.{each}
 use Rattle.go_call_rules.proofs.Steps.{known_step, fault_step}
 use Rattle.go_stmt_rules.proofs.targets.nils_fault.Goals as goal
 

@@ -1,10 +1,7 @@
 use Rattle.std.proofs.Common.{◌≡◌, length, drop}
-use Rattle.std.specs.Option.{option_map}
-use Rattle.go_types.specs.Tables.{type_of, rights_of}
-use Rattle.go_typed.specs.Views.{sort_seen}
 use Rattle.go_rules.specs.Faults.{least, earlier}
-use Rattle.go_stmts.specs.Assigning.{at_nil, constants_failing}
-use Rattle.go_stmts.specs.Rules.{each, not_a_target, case_failing}
+use Rattle.go_stmts.specs.Assigning.{at_nil}
+use Rattle.go_stmts.specs.Rules.{each}
 use Rattle.go_call_rules.specs.Shown.{shown, AllShownKnown}
 use Rattle.go_stmt_rules.proofs.targets.nils_fault.Given as goal
 

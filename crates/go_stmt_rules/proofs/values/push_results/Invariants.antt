@@ -1,13 +1,8 @@
-use Rattle.std.proofs.Common.{◌≡◌, ◌++◌, ◌<◌, ◌≤◌, ◌-◌, All, length, drop, map, replicate, List, Option}
+use Rattle.std.proofs.Common.{◌≡◌, ◌++◌, ◌<◌, All, length, drop, map}
 use Rattle.std.specs.List.{AllByRecursion}
-use Rattle.std.specs.Option.{option_map}
-use Rattle.go_types.specs.Tables.{type_of}
-use Rattle.go_typed.specs.Trees.{Unknown}
 use Rattle.go_rules.specs.Settling.{as_type}
-use Rattle.go_rules.specs.Takes.{take_seen}
-use Rattle.go_stmts.specs.Assigning.{takes, stands, values_take, names_take, constants_take}
-use Rattle.go_call_rules.specs.Shown.{shown, AllShownKnown}
-use Rattle.go_stmt_rules.specs.Seen.{taking_seen, KnownTaking, wanted_seen, KnownWanted, types_seen}
+use Rattle.go_stmts.specs.Assigning.{takes}
+use Rattle.go_stmt_rules.specs.Seen.{taking_seen, KnownTaking, types_seen}
 use Rattle.go_stmt_rules.proofs.values.push_results.Given as goal
 
 abbrev pub invariant-loop-of : goal.invariant-loop-of

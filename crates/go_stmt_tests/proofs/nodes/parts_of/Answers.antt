@@ -1,8 +1,7 @@
-use Rattle.std.proofs.Common.{map, ap, ◌∙◌, subst, sym, ◌<◌, length}
+use Rattle.std.proofs.Common.{map, ap, ◌∙◌, subst, sym, ◌<◌}
 use Rattle.std.specs.Option.{option_map}
 use Rattle.go_typed.specs.Funcs.{size, sizes}
-use Rattle.go_typed.specs.Views.{seen, view, views, AllKnown}
-use Rattle.go_rules.proofs.Parts.{parts_known}
+use Rattle.go_typed.specs.Views.{seen, view, views}
 use Rattle.go_stmt_tests.proofs.Loops.{listed_parts, parts_smaller}
 use Rattle.go_stmt_tests.proofs.nodes.parts_of.Goals as goal
 
