@@ -5,10 +5,12 @@ use Rattle.std.specs.declared.alloc.Global.{Global}
 use Rattle.go_typed.specs.declared.node.TypedNode.{TypedNode}
 use Rattle.go_typed.specs.Packages.{PackageView}
 use Rattle.go_meaning.specs.Values as meant
-use Rattle.go_meaning.specs.Computations.{Comp, Outcome, World, Undecided}
+use Rattle.go_meaning.specs.Computations.{Comp, Outcome, World, Undecided, Return}
 use Rattle.go_values.specs.declared.value.Value.{Value}
 use Rattle.go_values.specs.Views.{views}
 use Rattle.go_values.specs.Worlds.{world_view}
+use Rattle.go_runs.specs.declared.exit.Values.{Values}
+use Rattle.go_runs.specs.Machines.{values_view}
 use Rattle.go_runs.specs.declared.exit.Exit.{Exit}
 use Rattle.go_runs.specs.declared.exit.Exit.TheVariants as exit
 use Rattle.go_runs.specs.declared.machine.Machine.{Machine}
@@ -102,3 +104,41 @@ module _ {X : Type 0} (p : PackageView) where
 
   pub goes_undecided : (c : Work) (old : Engine) → ((n : ℕ) (s : Rest) → in_state (c n s (views old.values.items)) old ≡ Undecided (world_view old.machine.world).output) → Goes {X = X} p c old (Err exit.Undecided) old
   goes_undecided c old e = record { fits = λ a. a; turns = omega arith; next = λ n le. e n (rest p n old.tasks.items) }
+
+  -- a turn was spent behind a change of the values
+  pub goes_spent : (c c1 : Work) (old m1 m : Engine) (r : Result X Exit) (new : Engine) (vs : List meant.Value) → IsKept old m1 → views m1.values.items ≡ vs → m.tasks ≡ m1.tasks → m.values ≡ m1.values → m.depth ≡ m1.depth →
+      (m.machine.frame ≡ m1.machine.frame) × (m.machine.world ≡ m1.machine.world) × (m1.machine.turns ≡ suc m.machine.turns) → Goes p c1 m r new →
+      ((n : ℕ) (s : Rest) (d : ℕ) (f : List meant.Value) (w : World) (t : ℕ) → c n s (views old.values.items) d f w (suc t) ≡ c1 n s vs d f w t) → Goes p c old r new
+  goes_spent c c1 old m1 m r new vs h v et ev ed sp g e =
+      let tasks : m.tasks ≡ old.tasks = et ∙ h.tasks in
+      let values : views m.values.items ≡ vs = ap (λ (k : Vec Value Global). views k.items) ev ∙ v in
+      let turns : old.machine.turns ≡ suc m.machine.turns = ap (λ (k : Machine). k.turns) (sym h.machine) ∙ sp.2 in
+      goes_on c c1 old m r new g (subst (λ (ts : Vec Task Global). AreFit (length p.types.shapes) old.tasks.items → AreFit (length p.types.shapes) ts.items) (sym tasks) (λ a. a)) (omega (arith, turns))
+      (λ n le. ap (λ (t : ℕ). c n (rest p n old.tasks.items) (views old.values.items) old.depth (views old.machine.frame.items) (world_view old.machine.world) t) turns
+        ∙ (e n (rest p n old.tasks.items) old.depth (views old.machine.frame.items) (world_view old.machine.world) m.machine.turns
+        ∙ (ap (λ (k : Machine). c1 n (rest p n old.tasks.items) vs old.depth (views k.frame.items) (world_view k.world) m.machine.turns) (sym h.machine)
+        ∙ (ap (λ fr. c1 n (rest p n old.tasks.items) vs old.depth (views fr.items) (world_view m1.machine.world) m.machine.turns) (sym sp.0)
+        ∙ (ap (λ w. c1 n (rest p n old.tasks.items) vs old.depth (views m.machine.frame.items) (world_view w) m.machine.turns) (sym sp.1)
+        ∙ (ap (λ (d : ℕ). c1 n (rest p n old.tasks.items) vs d (views m.machine.frame.items) (world_view m.machine.world) m.machine.turns) (sym (ed ∙ h.depth))
+        ∙ (ap (λ (us : List meant.Value). in_state (c1 n (rest p n old.tasks.items) us) m) (sym values)
+        ∙ ap (λ (ts : Vec Task Global). in_state (c1 n (rest p n ts.items) (views m.values.items)) m) (sym tasks))))))))
+
+  pub goes_unspent : (c : Work) (old m1 m : Engine) → IsKept old m1 → m.tasks ≡ m1.tasks → m.depth ≡ m1.depth → m.machine ≡ m1.machine → m1.machine.turns ≡ 0 →
+      ((n : ℕ) (s : Rest) (d : ℕ) (f : List meant.Value) (w : World) → c n s (views old.values.items) d f w 0 ≡ Undecided w.output) → Goes {X = X} p c old (Err exit.Undecided) m
+  goes_unspent c old m1 m h et ed em z e =
+      let turns : old.machine.turns ≡ 0 = ap (λ (k : Machine). k.turns) (sym h.machine) ∙ z in
+      let same : m.machine ≡ old.machine = em ∙ h.machine in
+      record {
+        fits = subst (λ (ts : Vec Task Global). AreFit (length p.types.shapes) old.tasks.items → AreFit (length p.types.shapes) ts.items) (sym (et ∙ h.tasks)) (λ a. a);
+        turns = (let t : m.machine.turns ≡ old.machine.turns = ap (λ (k1 : Machine). k1.turns) same in omega (arith, t));
+        next = λ n le. ap (λ (t : ℕ). c n (rest p n old.tasks.items) (views old.values.items) old.depth (views old.machine.frame.items) (world_view old.machine.world) t) turns
+          ∙ (e n (rest p n old.tasks.items) old.depth (views old.machine.frame.items) (world_view old.machine.world) ∙ ap (λ (k : Machine). Undecided (world_view k.world).output) (sym same));
+      }
+
+  -- a body ends
+  pub goes_returned : (c : Work) (old m : Engine) (us : Values) (vs : List meant.Value) → IsKept old m → views m.values.items ≡ vs → ((n : ℕ) (s : Rest) → Same (c n s (views old.values.items)) (s.out vs (Return (values_view us)))) → Goes {X = X} p c old (Err (exit.Return us)) m
+  goes_returned c old m us vs h v e = record {
+    fits = subst (λ (ts : Vec Task Global). AreFit (length p.types.shapes) old.tasks.items → AreFit (length p.types.shapes) ts.items) (sym h.tasks) (λ a. a);
+    turns = (let t : m.machine.turns ≡ old.machine.turns = ap (λ (k1 : Machine). k1.turns) h.machine in omega (arith, t));
+    next = λ n le. e n (rest p n old.tasks.items) old.depth (views old.machine.frame.items) (world_view old.machine.world) old.machine.turns ∙ sym (kept_state p (λ n1 s ws. s.out ws (Return (values_view us))) n old m vs h v);
+  }

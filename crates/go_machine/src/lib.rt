@@ -9,5 +9,6 @@
 mod asks;
 pub mod engine;
 mod start;
+mod steps;
 mod stores;
 pub mod task;
