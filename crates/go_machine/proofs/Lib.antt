@@ -1,0 +1,9 @@
+pub mod Rests
+pub mod Tasks
+pub mod Values
+pub mod Going
+pub mod Asking
+pub mod Stepping
+pub mod Performing
+pub mod Writing
+pub mod Begins
