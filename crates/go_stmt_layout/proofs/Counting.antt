@@ -1,0 +1,17 @@
+-- How many parts a part stands for.
+use Rattle.std.proofs.Common.{◌≡◌, ◌∙◌, List, [], ◌∷◌, Option, Some, None, length, map, true, false, refl, ap}
+use Rattle.std.proofs.lemmas.List.{length-map}
+use Rattle.std.specs.Option.{option_map}
+use Rattle.go_types.specs.Tables.{Table}
+use Rattle.go_typed.specs.declared.node.TypedNode.{TypedNode}
+use Rattle.go_typed.specs.declared.node.TypedNode.TheViews.{out-TypedNode}
+use Rattle.go_typed.specs.Views.{seen}
+use Rattle.go_rules.specs.Tables.{is_held}
+use Rattle.go_stmts.specs.Laying.{held_count}
+use Rattle.go_exprs.proofs.Nodes.{held_parts, held_itself, parts_seen}
+
+pub held_is : (t : Table) (n : TypedNode) → is_held (out-TypedNode n).form ≡ true → held_count (Some (seen t n)) ≡ length (out-TypedNode n).parts.items
+held_is t n h = ap length (held_parts t n h) ∙ length-map (out-TypedNode n).parts.items (option_map (seen t))
+
+pub alone_is : (t : Table) (n : TypedNode) → is_held (out-TypedNode n).form ≡ false → held_count (Some (seen t n)) ≡ 1
+alone_is t n h = ap length (held_itself t n h)
