@@ -31,7 +31,7 @@ module _ (s : Scope) (k : Kind) (h : Hint) (i j : ℕ) (ys : Parts) where
       ap (λ fs. judged (least fs) (built_by s k h i j ys (is_sound k ys fs))) clear ∙ ap (λ b. let r : Result Part TypeFault = Ok (built_by s k h i j ys b) in r) unsound
 
   -- nodes that only hold parts have no rules
-  no_rules : (k : Kind) → is_placed k ≡ false → failing s k h i j ys ≡ []
+  pub no_rules : (k : Kind) → is_placed k ≡ false → failing s k h i j ys ≡ []
   no_rules kind.Name e = cc
   no_rules kind.Integer e = cc
   no_rules kind.Rune e = cc
@@ -63,15 +63,15 @@ module _ (s : Scope) (k : Kind) (h : Hint) (i j : ℕ) (ys : Parts) where
   no_place : (x : Stands) → is_placed k ≡ false → placing s k h i j x ≡ []
   no_place x e = ap (λ b. cond b (place_failing s.rights h i j x) []) e
 
-  own_are : counts → own_faults s k h i j ys ≡ or_else (failing s k h i j ys) (placing s k h i j (sort_by s k h i j ys))
+  pub own_are : counts → own_faults s k h i j ys ≡ or_else (failing s k h i j ys) (placing s k h i j (sort_by s k h i j ys))
   own_are c = both_parts (is_placed k) (is_judged ys) c (failing s k h i j ys) (placing s k h i j (sort_by s k h i j ys)) (no_rules k) (no_place (sort_by s k h i j ys))
 
-  sound_by : (p q : Bool) → (p && not q) ≡ false → (not p || (q && true)) ≡ true
+  pub sound_by : (p q : Bool) → (p && not q) ≡ false → (not p || (q && true)) ≡ true
   sound_by true true e = refl
   sound_by true false e = cc
   sound_by false q e = refl
 
-  first_fails : (fs gs : List TypeFault) (f : TypeFault) → least fs ≡ Some f → least (or_else fs gs) ≡ Some f
+  pub first_fails : (fs gs : List TypeFault) (f : TypeFault) → least fs ≡ Some f → least (or_else fs gs) ≡ Some f
   first_fails [] gs f e = cc
   first_fails (g ∷ fs) gs f e = e
 

@@ -24,7 +24,8 @@ use Rattle.go_rules.specs.Tables.{Parts}
 use Rattle.go_grammar.specs.declared.kind.Kind.{Kind}
 use Rattle.go_grammar.specs.Trees.{Trees}
 use Rattle.go_type_rules.specs.declared.scope.Scope as program_scope
-use Rattle.go_type_rules.specs.Naming.{names, KnownScope, sort_of_object, objects_seen, locals_seen}
+use Rattle.go_type_rules.specs.Naming.{names, KnownScope, KnownStanding, sort_of_object, by_need, told_in_full, told_at_once, told_loosely, objects_seen, locals_seen}
+use Rattle.go_type_rules.specs.declared.standing.Standing.{Standing}
 use Rattle.go_rules.specs.Settling.{Part}
 use Rattle.go_rules.specs.Sorts.{Stands}
 
@@ -183,17 +184,48 @@ module _ (old new : Table) (ok : IsTable old) (e : Extends old new) where
 -- ---- what names mean
 
 module _ (old new : Table) (ok : IsTable old) (g : Grows old new) where
-  abbrev with_sorts : program_scope.Scope → Rights → List Stands → List (Option Stands) → Scope
-  with_sorts s rights objects locals = record (names old s) { rights = rights; sorts = λ need o. sort_of_object objects locals o }
+  abbrev with_sorts : program_scope.Scope → Rights → List Stands → List Stands → List Stands → List Stands → List (Option Stands) → Scope
+  with_sorts s rights full once loose objects locals = record (names old s) { rights = rights; sorts = λ need o. sort_of_object (by_need full once loose need) objects locals o }
+
+  full_stays : (xs : List Standing) → ((k : ℕ) (x : Standing) → slice_get xs k ≡ Some x → KnownStanding (length old.shapes) x) → told_in_full new xs ≡ told_in_full old xs
+  full_stays [] h = refl
+  full_stays (x ∷ xs) h =
+      ap (λ y. y ∷ told_in_full new xs) (sort_stays old new ok g.extends x.in_full (h 0 x refl).in_full) ∙ ap (λ ys. sort_seen old x.in_full ∷ ys) (full_stays xs (λ k y w. h (suc k) y w))
+
+  once_stays : (xs : List Standing) → ((k : ℕ) (x : Standing) → slice_get xs k ≡ Some x → KnownStanding (length old.shapes) x) → told_at_once new xs ≡ told_at_once old xs
+  once_stays [] h = refl
+  once_stays (x ∷ xs) h =
+      ap (λ y. y ∷ told_at_once new xs) (sort_stays old new ok g.extends x.at_once (h 0 x refl).at_once) ∙ ap (λ ys. sort_seen old x.at_once ∷ ys) (once_stays xs (λ k y w. h (suc k) y w))
+
+  loose_stays : (xs : List Standing) → ((k : ℕ) (x : Standing) → slice_get xs k ≡ Some x → KnownStanding (length old.shapes) x) → told_loosely new xs ≡ told_loosely old xs
+  loose_stays [] h = refl
+  loose_stays (x ∷ xs) h =
+      ap (λ y. y ∷ told_loosely new xs) (sort_stays old new ok g.extends x.loosely (h 0 x refl).loosely) ∙ ap (λ ys. sort_seen old x.loosely ∷ ys) (loose_stays xs (λ k y w. h (suc k) y w))
 
   pub names_stay : (s : program_scope.Scope) → KnownScope (length old.shapes) s → names new s ≡ names old s
   names_stay s h =
-      ap (λ rights. with_sorts s rights (objects_seen new s.env.now.objects) (locals_seen new s.locals.now.sorts)) g.rights
-      ∙ ap (λ objects. with_sorts s (rights_of old) objects (locals_seen new s.locals.now.sorts)) (sorts_stay old new ok g.extends s.env.now.objects h.objects)
-      ∙ ap (with_sorts s (rights_of old) (objects_seen old s.env.now.objects)) (locals_stay old new ok g.extends s.locals.now.sorts h.locals)
+      let full = told_in_full new s.told.now in
+      let once = told_at_once new s.told.now in
+      let loose = told_loosely new s.told.now in
+      let objects = objects_seen new s.env.now.objects in
+      let locals = locals_seen new s.locals.now.sorts in
+      ap (λ rights. with_sorts s rights full once loose objects locals) g.rights
+      ∙ ap (λ xs. with_sorts s (rights_of old) xs once loose objects locals) (full_stays s.told.now h.told)
+      ∙ ap (λ xs. with_sorts s (rights_of old) (told_in_full old s.told.now) xs loose objects locals) (once_stays s.told.now h.told)
+      ∙ ap (λ xs. with_sorts s (rights_of old) (told_in_full old s.told.now) (told_at_once old s.told.now) xs objects locals) (loose_stays s.told.now h.told)
+      ∙ ap (λ xs. with_sorts s (rights_of old) (told_in_full old s.told.now) (told_at_once old s.told.now) (told_loosely old s.told.now) xs locals) (sorts_stay old new ok g.extends s.env.now.objects h.objects)
+      ∙ ap (with_sorts s (rights_of old) (told_in_full old s.told.now) (told_at_once old s.told.now) (told_loosely old s.told.now) (objects_seen old s.env.now.objects)) (locals_stay old new ok g.extends s.locals.now.sorts h.locals)
+
+  standing_known : (x : Standing) → KnownStanding (length old.shapes) x → KnownStanding (length new.shapes) x
+  standing_known x h = record {
+    in_full = sort_known old new ok g.extends x.in_full h.in_full;
+    at_once = sort_known old new ok g.extends x.at_once h.at_once;
+    loosely = sort_known old new ok g.extends x.loosely h.loosely;
+  }
 
   pub scope_known : (s : program_scope.Scope) → KnownScope (length old.shapes) s → KnownScope (length new.shapes) s
   scope_known s h = record {
+    told = λ k x e. standing_known x (h.told k x e);
     objects = λ k x e. sort_more (below old new ok g.extends) x (h.objects k x e);
     locals = λ k x e. sort_more (below old new ok g.extends) x (h.locals k x e);
   }

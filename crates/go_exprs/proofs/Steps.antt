@@ -3,7 +3,6 @@ use Rattle.std.proofs.Common.{◌≡◌, ℕ, zero, suc, slice_get, ◌+◌, ◌
 use Rattle.std.specs.Option.{option_map}
 use Rattle.go_base.specs.Gives.{Gives}
 use Rattle.go_grammar.specs.declared.kind.Kind.{Kind}
-use Rattle.go_grammar.specs.declared.kind.Kind.TheVariants as kind
 use Rattle.go_grammar.specs.Trees.{Tree, node, Trees, none, more, skip, kind_of, first, last, parts}
 use Rattle.go_tree.specs.declared.node.Node.{Node}
 use Rattle.go_tree.specs.Views.{view, views}
@@ -12,18 +11,12 @@ use Rattle.go_rules.specs.declared.fault.TypeError.{TypeError}
 use Rattle.go_rules.specs.declared.fault.TypeError.TheVariants as errors
 use Rattle.go_rules.specs.Faults.{least, judged, refusal_of}
 use Rattle.go_rules.specs.Settling.{Part}
-use Rattle.go_rules.specs.Scopes.{Scope, Hint, in_full}
+use Rattle.go_rules.specs.Scopes.{Scope, Hint}
 use Rattle.go_rules.specs.Tables.{Parts, hint, part_scope, built, found}
 use Rattle.go_rules.specs.Typing.{answer}
 use Rattle.go_exprs.specs.Literals.{Reads, AllRead, PartsRead}
 use Rattle.go_exprs.proofs.Nodes.{drop_step}
 use Rattle.go_exprs.proofs.Rows.{left, next, left_fails, left_more, left_skip, answer_fails, answer_over}
-
--- an array's length is typed in the scope around it, where types are needed in full
-pub scope_is : (s : Scope) (k : Kind) (xs : Parts) → s.needed ≡ in_full → part_scope s k xs ≡ s
-scope_is s kind.SequenceType [] e = ap (λ n. let r : Scope = record s { needed = n } in r) (sym e)
-scope_is s kind.SequenceType (x ∷ xs) e = refl
-scope_is s k xs e = refl
 
 -- ---- a node
 
@@ -71,9 +64,9 @@ module _ (s : Scope) (k : Kind) (h : Hint) (all : Trees) (written : List (Option
       subst (λ z. Gives shown refusal_of z due) (sym re)
       (sym before ∙ ap (λ ns. left s k h all xs (views ns)) (drop_step written i (Some n) d lt (sym is)) ∙ left_fails s k h all xs (view n) (views (drop (i + 1) written)) f g)
 
--- what the next part is told, in the program's words
-pub next_is : (s : Scope) (k : Kind) (h : Hint) (all : Trees) (xs : Parts) (p : Tree) (told : Hint) → s.needed ≡ in_full → told ≡ hint s k h all xs (kind_of p) → next s k h all xs p ≡ answer s told p
-next_is s k h all xs p told full e = ap (λ z. answer z (hint s k h all xs (kind_of p)) p) (scope_is s k xs full) ∙ ap (λ z. answer s z p) (sym e)
+-- what the next part is told, and where, in the program's words
+pub next_is : (s : Scope) (k : Kind) (h : Hint) (all : Trees) (xs : Parts) (p : Tree) (inner : Scope) (told : Hint) → inner ≡ part_scope s k xs → told ≡ hint s k h all xs (kind_of p) → next s k h all xs p ≡ answer inner told p
+next_is s k h all xs p inner told i e = ap (λ z. answer z (hint s k h all xs (kind_of p)) p) (sym i) ∙ ap (λ z. answer inner z p) (sym e)
 
 -- the literals of a part read
 pub read_at : (texts : ℕ → List ℕ) (ns : List (Option Node)) (i : ℕ) (n : Node) → slice_get ns i ≡ Some (Some n) → PartsRead texts (views ns) → AllRead texts (view n)

@@ -2,7 +2,6 @@
 ghost use Rattle.std.specs.Prelude.{◌≡◌, ◌<◌, IfOk, length, map};
 ghost use Rattle.std.specs.Option.{option_map};
 ghost use Rattle.go_base.specs.Gives.{Gives};
-ghost use Rattle.go_tree.specs.Units.{word};
 ghost use Rattle.type_tests.specs.Extends.{Grows};
 ghost use Rattle.go_typed.specs.Trees.{Unknown};
 ghost use Rattle.go_typed.specs.Views.{seen, sort_seen, Known, AllKnown, KnownSort};
@@ -10,7 +9,7 @@ ghost use Rattle.go_rules.specs.Faults.{least, judged, refusal_of};
 ghost use Rattle.go_rules.specs.Seen.{AreBasics};
 ghost use Rattle.go_rules.specs.Hints.{hint_seen, KnownHint};
 ghost use Rattle.go_rules.specs.Tables.{is_placed, placing, own_faults, form_by, takes, all_given, made, built_on, built, found};
-ghost use Rattle.go_type_rules.specs.Naming.{names, KnownScope};
+ghost use Rattle.go_type_rules.specs.Naming.{names, text_in, KnownScope};
 ghost use Rattle.go_exprs.specs.Literals.{Reads};
 
 use crate::form::form;
@@ -29,7 +28,7 @@ use go_types::Types;
 use std::alloc::Global;
 
 /// Whether nodes of the kind are expressions or types, which have a place; other nodes only hold parts.
-fn is_placed(kind: Kind) -> bool
+pub fn is_placed(kind: Kind) -> bool
     ensures { result ≡ is_placed kind }
 {
     match kind {
@@ -54,7 +53,7 @@ fn is_placed(kind: Kind) -> bool
 }
 
 /// The fault of an expression or a type in its place.
-fn misplaced(
+pub fn misplaced(
     types: &Types,
     scope: &Scope<'_>,
     kind: Kind,
@@ -78,7 +77,7 @@ fn misplaced(
 /// # Errors
 ///
 /// Want of memory.
-fn lost(
+pub fn lost(
     types: &Types,
     scope: &Scope<'_>,
     kind: Kind,
@@ -103,7 +102,7 @@ fn lost(
 /// # Errors
 ///
 /// Want of memory.
-fn fitted(
+pub fn fitted(
     alloc: Global,
     types: &Types,
     scope: &Scope<'_>,
@@ -169,7 +168,7 @@ fn build_on(
     requires basics { AreBasics types.old scope.now.basics }
     requires hint { KnownHint (length types.old.shapes) hint }
     requires parts { AllKnown (length types.old.shapes) parts.items }
-    requires literal { Reads (word scope.now.tokens.now) kind place.first }
+    requires literal { Reads (text_in scope.now) kind place.first }
     ensures grows { Grows types.old types.new }
     ensures exact { let s = names types.old scope.now in let h = hint_seen types.old hint in let i = place.first in let j = place.last in let ys = map (option_map (seen types.old)) parts.items in
         Gives (seen types.new) refusal_of result (judged (least (own_faults s kind h i j ys)) (built_on s kind h i j ys)) }
@@ -201,7 +200,7 @@ pub fn build(
     requires basics { AreBasics types.old scope.now.basics }
     requires hint { KnownHint (length types.old.shapes) hint }
     requires parts { AllKnown (length types.old.shapes) parts.items }
-    requires literal { Reads (word scope.now.tokens.now) kind place.first }
+    requires literal { Reads (text_in scope.now) kind place.first }
     ensures grows { Grows types.old types.new }
     ensures exact { let s = names types.old scope.now in let h = hint_seen types.old hint in let i = place.first in let j = place.last in let xs = map (option_map (seen types.old)) parts.items in
         Gives (seen types.new) refusal_of result (judged (least (found s kind h i j xs)) (built s kind h i j xs)) }

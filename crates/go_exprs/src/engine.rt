@@ -2,7 +2,6 @@
 ghost use Rattle.std.specs.Prelude.{◌≡◌, ◌<◌, [], IfOk, length, map};
 ghost use Rattle.std.specs.Option.{option_map};
 ghost use Rattle.go_base.specs.Gives.{Gives};
-ghost use Rattle.go_tree.specs.Units.{word};
 ghost use Rattle.go_tree.specs.Views.{view, views};
 ghost use Rattle.type_tests.specs.Extends.{Grows};
 ghost use Rattle.go_typed.specs.Views.{seen, Known, AllKnown};
@@ -10,7 +9,7 @@ ghost use Rattle.go_rules.specs.Faults.{judged, reported, refusal_of};
 ghost use Rattle.go_rules.specs.Seen.{AreBasics};
 ghost use Rattle.go_rules.specs.Hints.{hint_seen, KnownHint};
 ghost use Rattle.go_rules.specs.Typing.{typings, faults_of_parts, answer};
-ghost use Rattle.go_type_rules.specs.Naming.{names, KnownScope};
+ghost use Rattle.go_type_rules.specs.Naming.{names, text_in, KnownScope};
 ghost use Rattle.go_exprs.specs.Literals.{AllRead, PartsRead};
 
 use crate::build::build;
@@ -40,7 +39,7 @@ pub fn type_node(
     requires scope { KnownScope (length types.old.shapes) scope.now }
     requires basics { AreBasics types.old scope.now.basics }
     requires hint { KnownHint (length types.old.shapes) hint }
-    requires literals { AllRead (word scope.now.tokens.now) (view node.now) }
+    requires literals { AllRead (text_in scope.now) (view node.now) }
     ensures grows { Grows types.old types.new }
     ensures exact { Gives (seen types.new) refusal_of result (answer (names types.old scope.now) (hint_seen types.old hint) (view node.now)) }
     ensures known { IfOk result (Known (length types.new.shapes)) }
@@ -67,7 +66,7 @@ fn type_parts(
     requires scope { KnownScope (length types.old.shapes) scope.now }
     requires basics { AreBasics types.old scope.now.basics }
     requires hint { KnownHint (length types.old.shapes) hint }
-    requires literals { PartsRead (word scope.now.tokens.now) (views written.now) }
+    requires literals { PartsRead (text_in scope.now) (views written.now) }
     ensures grows { Grows types.old types.new }
     ensures exact { let s = names types.old scope.now in let h = hint_seen types.old hint in let ps = views written.now in
         Gives (λ v. map (option_map (seen types.new)) v.items) refusal_of result (judged (reported (faults_of_parts s kind h ps [] ps)) (typings s kind h ps [] ps)) }
@@ -80,8 +79,9 @@ fn type_parts(
             parts.push(None)?;
             continue;
         };
+        let inner = told::part_scope(types, scope, kind, &parts);
         let told = told::hint(types, kind, hint, written, &parts, node.kind());
-        let part = type_node(alloc, types, scope, told, node)?;
+        let part = type_node(alloc, types, &inner, told, node)?;
         parts.push(Some(part))?;
     }
     Ok(parts)

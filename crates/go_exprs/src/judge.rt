@@ -2,7 +2,6 @@
 ghost use Rattle.std.specs.Prelude.{◌≡◌, ◌<◌, [], IfOk, length, map};
 ghost use Rattle.std.specs.Option.{option_map};
 ghost use Rattle.go_base.specs.Gives.{Gives};
-ghost use Rattle.go_tree.specs.Units.{word};
 ghost use Rattle.go_types.specs.Tables.{type_of, rights_of};
 ghost use Rattle.type_tests.specs.Extends.{Grows};
 ghost use Rattle.go_typed.specs.Trees.{sort_of, Unknown};
@@ -13,7 +12,7 @@ ghost use Rattle.go_rules.specs.Hints.{hint_seen, KnownHint};
 ghost use Rattle.go_rules.specs.Operators.{unary_failing, unary_sort, operation_failing, operation_sort};
 ghost use Rattle.go_rules.specs.Indexes.{index_failing, index_sort, slice_failing, slice_sort};
 ghost use Rattle.go_rules.specs.Tables.{on_one, on_two, on_bracketed, failing, sort_by};
-ghost use Rattle.go_type_rules.specs.Naming.{names, KnownScope};
+ghost use Rattle.go_type_rules.specs.Naming.{names, text_in, KnownScope};
 ghost use Rattle.go_exprs.specs.Literals.{Reads};
 
 use go_call_rules::{call, literal};
@@ -163,7 +162,7 @@ pub fn judge(
     requires basics { AreBasics types.old scope.now.basics }
     requires hint { KnownHint (length types.old.shapes) hint }
     requires parts { AllKnown (length types.old.shapes) parts.now }
-    requires literal { Reads (word scope.now.tokens.now) kind place.first }
+    requires literal { Reads (text_in scope.now) kind place.first }
     ensures grows { Grows types.old types.new }
     ensures exact { let s = names types.old scope.now in let h = hint_seen types.old hint in let ys = map (option_map (seen types.old)) parts.now in
         Gives (sort_seen types.new) refusal_of result (judged (least (failing s kind h place.first place.last ys)) (sort_by s kind h place.first place.last ys)) }
@@ -189,7 +188,7 @@ pub fn judge(
         Kind::Call => call(alloc, types, scope.basics, place, parts),
         Kind::Composite => literal(alloc, types, place, hint, parts),
         Kind::LiteralValue => literal(alloc, types, place, hint, parts),
-        Kind::SequenceType => sequence(types, scope.basics, place, true, parts),
+        Kind::SequenceType => sequence(types, scope.basics, place, scope.limits, parts),
         Kind::Signature => Ok(signature(alloc, types, parts)?),
         Kind::StructType => Ok(structure(alloc, types, scope, parts)?),
         _ => Ok(Sort::Nothing),

@@ -23,7 +23,7 @@ fn is_held(form: Form) -> bool
 }
 
 /// Puts the parts of a holder, or else the part itself, behind the others.
-fn push_held(types: &Types, part: Option<TypedNode>, out: &mut Parts) -> Result<(), Memory>
+pub fn push_held(types: &Types, part: Option<TypedNode>, out: &mut Parts) -> Result<(), Memory>
     requires part { AllKnown (length types.now.shapes) (part ∷ []) }
     requires out { AllKnown (length types.now.shapes) out.old.items }
     ensures parts { OnOk result (map (option_map (seen types.now)) out.new.items ≡ map (option_map (seen types.now)) out.old.items ++ held (option_map (seen types.now) part)) }
@@ -41,7 +41,7 @@ fn push_held(types: &Types, part: Option<TypedNode>, out: &mut Parts) -> Result<
 }
 
 /// The parts, with those of each holder in its place.
-fn all_held(alloc: Global, types: &Types, parts: Parts) -> Result<Parts, Memory>
+pub fn all_held(alloc: Global, types: &Types, parts: Parts) -> Result<Parts, Memory>
     requires { AllKnown (length types.now.shapes) parts.items }
     ensures parts { IfOk result (λ ps. map (option_map (seen types.now)) ps.items ≡ all_held (map (option_map (seen types.now)) parts.items)) }
     ensures known { IfOk result (λ ps. AllKnown (length types.now.shapes) ps.items) }
@@ -80,7 +80,7 @@ fn is_package(types: &Types, sort: &Sort) -> bool
 }
 
 /// Takes out what is inside the first part, if that is a type.
-fn first_cut(alloc: Global, types: &Types, parts: &mut [Option<TypedNode>])
+pub fn first_cut(alloc: Global, types: &Types, parts: &mut [Option<TypedNode>])
     requires { AllKnown (length types.now.shapes) parts.old }
     ensures parts { map (option_map (seen types.now)) parts.new ≡ first_cut (map (option_map (seen types.now)) parts.old) }
     ensures known { AllKnown (length types.now.shapes) parts.new }
@@ -179,7 +179,7 @@ fn bracketed_parts(types: &Types, mut parts: Parts) -> Result<Parts, Memory>
 }
 
 /// The parts behind the first.
-fn behind_first(types: &Types, mut parts: Parts) -> Parts
+pub fn behind_first(types: &Types, mut parts: Parts) -> Parts
     requires { AllKnown (length types.now.shapes) parts.items }
     ensures parts { map (option_map (seen types.now)) result.items ≡ behind_first (map (option_map (seen types.now)) parts.items) }
     ensures known { AllKnown (length types.now.shapes) result.items }
@@ -192,7 +192,7 @@ fn behind_first(types: &Types, mut parts: Parts) -> Parts
 }
 
 /// The parts behind the place of a type that isn't written.
-fn behind_gap(types: &Types, mut parts: Parts) -> Result<Parts, Memory>
+pub fn behind_gap(types: &Types, mut parts: Parts) -> Result<Parts, Memory>
     requires { AllKnown (length types.now.shapes) parts.items }
     ensures parts { IfOk result (λ ps. map (option_map (seen types.now)) ps.items ≡ None ∷ map (option_map (seen types.now)) parts.items) }
     ensures known { IfOk result (λ ps. AllKnown (length types.now.shapes) ps.items) }

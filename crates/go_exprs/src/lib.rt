@@ -6,10 +6,10 @@
 //! and the table of types only grows, whatever is answered. Each node is settled once at most as a whole.
 #![tactic(auto)]
 
-mod build;
+pub mod build;
 pub mod engine;
 mod form;
-mod judge;
+pub mod judge;
 pub mod label;
 pub mod layout;
 pub mod settle;

@@ -8,17 +8,17 @@ ghost use Rattle.go_typed.specs.Views.{seen, sort_seen, AllKnown, KnownSort};
 ghost use Rattle.go_rules.specs.Seen.{AreBasics};
 ghost use Rattle.go_rules.specs.Takes.{take_seen, KnownTake};
 ghost use Rattle.go_rules.specs.Hints.{hint_seen, KnownHint};
-ghost use Rattle.go_rules.specs.Operators.{operation_takes};
+ghost use Rattle.go_rules.specs.Operators.{unary_take, operation_takes};
 ghost use Rattle.go_rules.specs.Settling.{default, as_type};
 ghost use Rattle.go_rules.specs.Sorts.{int};
-ghost use Rattle.go_rules.specs.Tables.{on_two, takes};
+ghost use Rattle.go_rules.specs.Tables.{on_one, on_two, takes};
 ghost use Rattle.go_type_rules.specs.Naming.{names};
 
 use go_base::Memory;
 use go_call_rules::{call_takes, literal_takes};
 use go_grammar::kind::{Arithmetic, Kind, Operator};
 use go_rules::nodes::sort_of;
-use go_rules::take::{binary_take, compared_take, shifted_take};
+use go_rules::take::{binary_take, compared_take, shifted_take, unary_take};
 use go_rules::{Basics, Hint, Take};
 use go_type_rules::Scope;
 use go_typed::{Sort, TypedNode};
@@ -70,6 +70,21 @@ fn operation_takes(
                 right: both,
             }
         }
+    }
+}
+
+fn unary_takes(
+    alloc: Global,
+    types: &Types,
+    parts: &[Option<TypedNode>],
+) -> Result<Vec<Take>, Memory>
+    requires parts { AllKnown (length types.now.shapes) parts.now }
+    ensures tree { IfOk result (λ ks. map (take_seen types.now) ks.items ≡ on_one [] (λ x. unary_take (sort_of x) ∷ []) (map (option_map (seen types.now)) parts.now)) }
+    ensures known { IfOk result (λ ks. All (KnownTake (length types.now.shapes)) ks.items) }
+{
+    match parts {
+        [Some(operand)] => Ok(vec![in alloc; unary_take(types, sort_of(types, operand))]?),
+        _ => Ok(Vec::new(alloc)),
     }
 }
 
@@ -130,6 +145,7 @@ pub fn takes(
     ensures known { IfOk result (λ ks. All (KnownTake (length types.now.shapes)) ks.items) }
 {
     match kind {
+        Kind::Unary(_) => unary_takes(alloc, types, parts),
         Kind::Binary(operator) => binary_takes(alloc, types, scope.basics, operator, parts),
         Kind::Bracketed => bracketed_takes(alloc, types, scope.basics),
         Kind::Call => call_takes(alloc, types, scope.basics, parts),

@@ -1,5 +1,5 @@
 //! What the parts of a node are told.
-ghost use Rattle.std.specs.Prelude.{◌≡◌, ◌<◌, ◌∷◌, [], IfSome, length, map};
+ghost use Rattle.std.specs.Prelude.{◌≡◌, ℕ, ◌<◌, ◌∷◌, [], IfSome, length, map};
 ghost use Rattle.std.specs.Option.{option_map};
 ghost use Rattle.go_grammar.specs.Grammar.{ends_named, is_name};
 ghost use Rattle.go_tree.specs.Views.{views, parameter_at};
@@ -7,14 +7,16 @@ ghost use Rattle.go_types.specs.Tables.{type_of, rights_of};
 ghost use Rattle.go_typed.specs.Views.{seen, sort_seen, AllKnown, KnownSort};
 ghost use Rattle.go_rules.specs.Hints.{hint_seen, KnownHint};
 ghost use Rattle.go_rules.specs.TypeNodes.{part_type};
-ghost use Rattle.go_rules.specs.Tables.{in_parentheses, as_type_place, element_told, told_type, is_make, call_told, composite_told, keyed_told, skips_first, sequence_told, names_told, parameter_told, hint};
-ghost use Rattle.go_rules.specs.Scopes.{Scope};
+ghost use Rattle.go_rules.specs.Tables.{in_parentheses, as_type_place, element_told, told_type, is_make, call_told, composite_told, keyed_told, skips_first, sequence_told, names_told, parameter_told, hint, part_scope};
+ghost use Rattle.go_rules.specs.Scopes as rules;
+ghost use Rattle.go_type_rules.specs.Naming.{names, text_in, KnownScope};
 
 use go_grammar::kind::Kind;
 use go_rules::Hint;
 use go_rules::nodes::sort_of;
 use go_tree::node::Node;
 use go_tree::object::Predeclared;
+use go_type_rules::{Needed, Scope};
 use go_typed::{Sort, TypedNode};
 use go_types::{Shape, TypeId, Types};
 use type_tests::underlying;
@@ -217,7 +219,7 @@ pub fn hint(
     requires outer { KnownHint (length types.now.shapes) outer }
     requires elders { AllKnown (length types.now.shapes) elders.now }
     ensures known { KnownHint (length types.now.shapes) result }
-    ensures tree { (s : Scope) → s.rights ≡ rights_of types.now → hint_seen types.now result ≡ hint s kind (hint_seen types.now outer) (views written.now) (map (option_map (seen types.now)) elders.now) next }
+    ensures tree { (s : rules.Scope) → s.rights ≡ rights_of types.now → hint_seen types.now result ≡ hint s kind (hint_seen types.now outer) (views written.now) (map (option_map (seen types.now)) elders.now) next }
 {
     match kind {
         Kind::Parenthesized => in_parentheses(types, outer),
@@ -236,5 +238,27 @@ pub fn hint(
         Kind::Parameter => names_told(types, outer, elders),
         Kind::Fields => names_told(types, outer, elders),
         _ => Hint::Value,
+    }
+}
+
+/// The scope of the next part of a node behind its elder ones: what the length of an array type names is needed in full (Go
+/// specification, "Type declarations").
+pub fn part_scope<'a>(
+    types: &Types,
+    scope: &Scope<'a>,
+    kind: Kind,
+    elders: &[Option<TypedNode>],
+) -> Scope<'a>
+    ensures names { names types.now result ≡ part_scope (names types.now scope.now) kind (map (option_map (seen types.now)) elders.now) }
+    ensures known { (n : ℕ) → KnownScope n scope.now → KnownScope n result }
+    ensures texts { text_in result ≡ text_in scope.now }
+    ensures basics { result.basics ≡ scope.now.basics }
+{
+    match (kind, elders) {
+        (Kind::SequenceType, []) => Scope {
+            needed: Needed::InFull,
+            ..*scope
+        },
+        _ => *scope,
     }
 }

@@ -206,6 +206,10 @@ unary_sort_in rights o a (Some c) = result_in c (unary_value rights o a)
 abbrev pub unary_sort : Rights → Sign → Stands → Stands
 unary_sort rights o a = unary_sort_in rights o a (own a)
 
+-- the operand of a constant operation takes its default type; else it waits for its context
+abbrev pub unary_take : Stands → Take
+unary_take a = if is_constant a then default else stay
+
 -- ---- binary operators that neither compare nor shift
 
 -- which families an operator has: `+` also joins texts, `&&` and `||` are on booleans

@@ -21,7 +21,7 @@ use Rattle.go_rules.specs.Faults.{or_else}
 use Rattle.go_rules.specs.Sorts.{Stands, named_type, is_unknown, is_constant, underlying_in, form_of_value, int}
 use Rattle.go_rules.specs.Settling.{Part, Take, stay, default, as_type, given}
 use Rattle.go_rules.specs.Scopes.{in_full, Scope, Hint, value, type_place, loose, inside, loose_inside, callee, declares, free, element, member, elided}
-use Rattle.go_rules.specs.Operators.{unary_failing, unary_sort, operation_failing, operation_sort, operation_takes}
+use Rattle.go_rules.specs.Operators.{unary_failing, unary_sort, unary_take, operation_failing, operation_sort, operation_takes}
 use Rattle.go_rules.specs.Indexes.{field_number, selector_failing, selector_sort, index_failing, index_sort, slice_failing, slice_sort}
 use Rattle.go_rules.specs.Calls.{row_length, call_failing, call_sort, call_takes}
 use Rattle.go_rules.specs.Literals.{literal_failing, literal_takes, literal_sort}
@@ -332,6 +332,7 @@ sort_by s k h i j ys = sort.Nothing
 -- ---- what the parts take
 
 abbrev pub takes : Scope → Kind → Hint → Parts → List Take
+takes s (kind.Unary o) h ys = on_one [] (λ x. unary_take (sort_of x) ∷ []) ys
 takes s (kind.Binary o) h ys = on_two [] (λ x y. operation_takes s.rights o (sort_of x) (sort_of y)) ys
 takes s kind.Bracketed h ys = default ∷ as_type int ∷ as_type int ∷ []
 takes s kind.Call h ys = on_first [] (λ f xs. stay ∷ call_takes s.rights (sort_of f) xs) ys

@@ -45,7 +45,7 @@ pub fn is_whole(types: &Types, sort: &Sort) -> bool
 }
 
 /// Whether it may be the count of a shift: an integer, or an untyped constant; a constant of an integer type isn't negative.
-fn is_count(types: &Types, sort: &Sort) -> bool
+pub fn is_count(types: &Types, sort: &Sort) -> bool
     requires { KnownSort (length types.now.shapes) sort.now }
     ensures { result ≡ is_count (rights_of types.now) (sort_seen types.now sort.now) }
 {

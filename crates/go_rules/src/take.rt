@@ -4,7 +4,7 @@ ghost use Rattle.go_types.specs.Tables.{type_of, rights_of};
 ghost use Rattle.go_typed.specs.Views.{sort_seen, KnownSort};
 ghost use Rattle.go_rules.specs.Seen.{AreBasics};
 ghost use Rattle.go_rules.specs.Takes.{take_seen, KnownTake};
-ghost use Rattle.go_rules.specs.Operators.{binary_take, shifted_take, compared_take};
+ghost use Rattle.go_rules.specs.Operators.{unary_take, binary_take, shifted_take, compared_take};
 ghost use Rattle.go_rules.specs.Calls.{is_integer_type, conversion_take};
 
 use crate::basics::{Basics, default_type};
@@ -38,6 +38,18 @@ pub fn binary_take(types: &Types, left: &Sort, right: &Sort) -> Take
         None => Take::Stay,
         Some(Joint::Type(of)) => Take::As(of),
         Some(Joint::Kind(_)) => shifted_take(types, left, right),
+    }
+}
+
+/// What the operand of a unary operator takes: its default type in a constant operation; else it waits for its context.
+pub fn unary_take(types: &Types, operand: &Sort) -> Take
+    ensures known { KnownTake (length types.now.shapes) result }
+    ensures tree { take_seen types.now result ≡ unary_take (sort_seen types.now operand.now) }
+{
+    if is_constant(types, operand) {
+        Take::Default
+    } else {
+        Take::Stay
     }
 }
 

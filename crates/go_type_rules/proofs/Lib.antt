@@ -5,3 +5,4 @@ pub mod Growing
 pub mod EntryTypes
 pub mod FieldRows
 pub mod Lengths
+pub mod Standings

@@ -2,16 +2,16 @@
 ghost use Rattle.std.specs.Prelude.{◌≡◌, ℕ, Some, length};
 ghost use Rattle.std.specs.Option.{option_map};
 ghost use Rattle.go_tree.specs.declared.object.Object.TheVariants as object;
-ghost use Rattle.go_tree.specs.Uses.{object_of};
 ghost use Rattle.go_types.specs.Tables.{Table};
 ghost use Rattle.go_typed.specs.Views.{sort_seen};
 ghost use Rattle.go_rules.specs.Hints.{hint_seen};
 ghost use Rattle.go_rules.specs.Names.{predeclared_sort, object_form, declared_form, form_or_type, object_sort, name_form};
-ghost use Rattle.go_rules.specs.Scopes.{in_full};
 ghost use Rattle.go_rules.specs.Tables.{is_type};
-ghost use Rattle.go_type_rules.specs.Naming.{names, known, KnownScope};
+ghost use Rattle.go_type_rules.specs.Naming.{names, known, need_seen, object_in, KnownScope};
 
+use crate::names::need_of;
 use crate::scope::{Scope, local_sort, package_sort};
+use crate::standing::Needed;
 use go_rules::Hint;
 use go_tree::object::{Object, Predeclared};
 use go_typed::{Form, Referent, Sort};
@@ -19,13 +19,13 @@ use go_types::Types;
 
 /// The number of a local that a token means, as forms hold it.
 fn local_number(scope: &Scope<'_>, token: u32, function: usize, number: usize) -> u32
-    requires { object_of scope.now.uses.now scope.now.tokens.now.file token ≡ Some (object.Local function number) }
+    requires { object_in scope.now token ≡ Some (object.Local function number) }
     ensures { result ≡ number }
 {
     scope.object(token);
     scope
         .uses
-        .object(scope.tokens.file() as usize, token as usize);
+        .object(scope.tokens.file() as usize, scope.place(token));
     match scope.uses.local(function, number) {
         Some(local) => number.min(local.name as usize) as u32,
         None => unreachable!(),
@@ -53,7 +53,7 @@ fn names_type(name: Predeclared) -> bool
 
 /// The form of a token's name that is used.
 fn object_form(scope: &Scope<'_>, token: u32) -> Form
-    ensures { (t : Table) → result ≡ object_form (names t scope.now) (object_of scope.now.uses.now scope.now.tokens.now.file token) }
+    ensures { (t : Table) → result ≡ object_form (names t scope.now) (object_in scope.now token) }
 {
     match scope.object(token) {
         None => Form::Blank,
@@ -68,7 +68,7 @@ fn object_form(scope: &Scope<'_>, token: u32) -> Form
 
 /// The form of a token's name that is declared.
 fn declared_form(scope: &Scope<'_>, token: u32) -> Form
-    ensures { (t : Table) → result ≡ declared_form (names t scope.now) (object_of scope.now.uses.now scope.now.tokens.now.file token) }
+    ensures { (t : Table) → result ≡ declared_form (names t scope.now) (object_in scope.now token) }
 {
     match scope.object(token) {
         None => Form::Blank,
@@ -81,15 +81,17 @@ fn declared_form(scope: &Scope<'_>, token: u32) -> Form
     }
 }
 
-/// Whether an object is a type.
-fn is_type(types: &Types, scope: &Scope<'_>, object: Option<Object>) -> bool
+/// Whether an object is a type where it is needed so.
+fn is_type(types: &Types, scope: &Scope<'_>, need: Needed, object: Option<Object>) -> bool
     requires { KnownScope (length types.now.shapes) scope.now }
-    ensures { result ≡ is_type (object_sort (names types.now scope.now) in_full object) }
+    ensures { result ≡ is_type (object_sort (names types.now scope.now) (need_seen need) object) }
 {
     match object {
         None | Some(Object::Import) => false,
         Some(Object::Predeclared(name)) => names_type(name),
-        Some(Object::Package(number)) => is_type_sort(types, package_sort(types, scope, number)),
+        Some(Object::Package(number)) => {
+            is_type_sort(types, package_sort(types, scope, need, number))
+        }
         Some(Object::Local { function, number }) => {
             is_type_sort(types, local_sort(types, scope, function, number))
         }
@@ -110,18 +112,18 @@ pub fn name_form(types: &Types, scope: &Scope<'_>, hint: Hint, token: u32) -> Fo
 {
     match hint {
         Hint::Declares | Hint::Free => declared_form(scope, token),
-        _ => used_form(types, scope, token),
+        _ => used_form(types, scope, need_of(types, scope, hint), token),
     }
 }
 
-/// The form of a name that is used: that of a type, or of its object.
+/// The form of a name that is used, where it is needed so: that of a type, or of its object.
 #[tactic(auto, using(crate::proofs::TypeForms::form_of_type, crate::proofs::TypeForms::form_of_others))]
-fn used_form(types: &Types, scope: &Scope<'_>, token: u32) -> Form
+fn used_form(types: &Types, scope: &Scope<'_>, need: Needed, token: u32) -> Form
     requires { KnownScope (length types.now.shapes) scope.now }
-    ensures { let s = names types.now scope.now in let o = object_of scope.now.uses.now scope.now.tokens.now.file token in
-        result ≡ form_or_type (object_sort s in_full o) (object_form s o) }
+    ensures { let s = names types.now scope.now in let o = object_in scope.now token in
+        result ≡ form_or_type (object_sort s (need_seen need) o) (object_form s o) }
 {
-    if is_type(types, scope, scope.object(token)) {
+    if is_type(types, scope, need, scope.object(token)) {
         Form::Type
     } else {
         object_form(scope, token)

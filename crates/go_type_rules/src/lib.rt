@@ -13,6 +13,8 @@ pub mod scope;
 pub mod sequence;
 pub mod signature;
 pub mod slices;
+pub mod standing;
 pub mod structure;
 
 pub use scope::Scope;
+pub use standing::{Needed, Standing};

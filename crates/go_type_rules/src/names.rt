@@ -7,11 +7,11 @@ ghost use Rattle.type_tests.specs.Extends.{Grows};
 ghost use Rattle.go_typed.specs.Trees.{IsType};
 ghost use Rattle.go_typed.specs.Views.{sort_seen, KnownSort};
 ghost use Rattle.go_rules.specs.Hints.{hint_seen};
-ghost use Rattle.go_rules.specs.Names.{predeclared_sort, object_sort, name_sort};
-ghost use Rattle.go_rules.specs.Scopes.{in_full};
-ghost use Rattle.go_type_rules.specs.Naming.{names, known, sort_of_object, objects_seen, locals_seen, KnownScope};
+ghost use Rattle.go_rules.specs.Names.{predeclared_sort, object_sort, need_of, name_sort};
+ghost use Rattle.go_type_rules.specs.Naming.{names, known, need_seen, stands_for, KnownScope};
 
 use crate::scope::{Scope, local_sort, package_sort};
+use crate::standing::Needed;
 use go_base::Memory;
 use go_constants::Const;
 use go_ints::Kind;
@@ -74,14 +74,19 @@ pub fn predeclared_sort(types: &mut Types, iota: u32, name: Predeclared) -> Resu
     }
 }
 
-/// What a name stands for that is declared in a file.
-fn declared_sort(types: &Types, scope: &Scope<'_>, object: Object) -> Result<Sort, Memory>
+/// What a name stands for that is declared in a file, where it is needed so.
+fn declared_sort(
+    types: &Types,
+    scope: &Scope<'_>,
+    need: Needed,
+    object: Object,
+) -> Result<Sort, Memory>
     requires { KnownScope (length types.now.shapes) scope.now }
-    ensures sort { IfOk result (λ s. sort_seen types.now s ≡ sort_of_object (objects_seen types.now scope.now.env.now.objects) (locals_seen types.now scope.now.locals.now.sorts) object) }
+    ensures sort { IfOk result (λ s. sort_seen types.now s ≡ stands_for types.now scope.now (need_seen need) object) }
     ensures known { IfOk result (KnownSort (length types.now.shapes)) }
 {
     match object {
-        Object::Package(number) => shared(types, package_sort(types, scope, number)),
+        Object::Package(number) => shared(types, package_sort(types, scope, need, number)),
         Object::Local { function, number } => shared(
             types,
             local_sort(types, scope, function, number),
@@ -102,7 +107,7 @@ fn shared(types: &Types, sort: Option<&Sort>) -> Result<Sort, Memory>
     }
 }
 
-/// What an object stands for, or the blank identifier where there is none.
+/// What an object stands for where it is needed so, or the blank identifier where there is none.
 ///
 /// # Errors
 ///
@@ -110,11 +115,12 @@ fn shared(types: &Types, sort: Option<&Sort>) -> Result<Sort, Memory>
 pub fn object_sort(
     types: &mut Types,
     scope: &Scope<'_>,
+    need: Needed,
     object: Option<Object>,
 ) -> Result<Sort, Memory>
     requires { KnownScope (length types.old.shapes) scope.now }
     ensures grows { Grows types.old types.new }
-    ensures sort { IfOk result (λ s. sort_seen types.new s ≡ object_sort (names types.old scope.now) in_full object) }
+    ensures sort { IfOk result (λ s. sort_seen types.new s ≡ object_sort (names types.old scope.now) (need_seen need) object) }
     ensures known { IfOk result (KnownSort (length types.new.shapes)) }
 {
     types.count();
@@ -122,7 +128,18 @@ pub fn object_sort(
         None => Ok(Sort::Blank),
         Some(Object::Import) => Ok(Sort::Package),
         Some(Object::Predeclared(name)) => predeclared_sort(types, scope.locals.iota(), name),
-        Some(object) => declared_sort(types, scope, object),
+        Some(object) => declared_sort(types, scope, need, object),
+    }
+}
+
+/// How a name is needed that is told this: in a slice's element and in a function type of a type declaration it needs nothing.
+pub fn need_of(types: &Types, scope: &Scope<'_>, hint: Hint) -> Needed
+    ensures { need_seen result ≡ need_of (need_seen scope.now.needed) (hint_seen types.now hint) }
+{
+    match (scope.needed, hint) {
+        (Needed::AtOnce, Hint::Loose) => Needed::Loosely,
+        (Needed::AtOnce, Hint::LooseInside) => Needed::Loosely,
+        (needed, _) => needed,
     }
 }
 
@@ -146,6 +163,6 @@ pub fn name_sort(
     types.count();
     match hint {
         Hint::Declares | Hint::Free => Ok(Sort::Nothing),
-        _ => object_sort(types, scope, scope.object(token)),
+        _ => object_sort(types, scope, need_of(types, scope, hint), scope.object(token)),
     }
 }

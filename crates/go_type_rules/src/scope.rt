@@ -1,13 +1,13 @@
 //! What names mean in an expression.
-ghost use Rattle.std.specs.Prelude.{◌≡◌, ◌<◌, IfSome, length, slice_get};
+ghost use Rattle.std.specs.Prelude.{◌≡◌, ◌+◌, ◌<◌, IfSome, [], length, slice_get, true};
 ghost use Rattle.std.specs.Option.{option_map, unwrap_or};
-ghost use Rattle.go_tree.specs.Units.{word};
-ghost use Rattle.go_tree.specs.Uses.{object_of};
 ghost use Rattle.go_tree.specs.declared.object.Object.TheVariants as object;
 ghost use Rattle.go_typed.specs.Scopes.{local_sort};
 ghost use Rattle.go_typed.specs.Views.{sort_view, sort_seen, KnownSort};
-ghost use Rattle.go_type_rules.specs.Naming.{known, sort_of_object, objects_seen, locals_seen, referent_in, KnownScope};
+ghost use Rattle.go_type_rules.specs.Naming.{known, known_local, locals_seen, need_seen, stands_for, text_in, object_in, referent_in, KnownScope};
+ghost use Rattle.go_type_rules.specs.declared.standing.Needed.TheVariants as need;
 
+use crate::standing::{Needed, Standing};
 use go_rules::Basics;
 use go_tokens::tokens::Tokens;
 use go_tree::object::Object;
@@ -17,6 +17,10 @@ use go_types::Types;
 
 /// What is known of names where an expression stands: the tokens of its file, what each of them means, what the objects of the
 /// package and the locals of the function stand for, and the numbers of the predeclared types that rules give.
+///
+/// Of the objects from 0 on `told` says what they stand for by the way in which they are needed; of those behind its end `env`
+/// says it, which makes no difference between these ways. `needed` is the way in which names are needed here, and `limits` says
+/// whether the limit on the scalars of an array type is judged. Tokens are counted from the number `base` in their file.
 #[derive(Clone, Copy)]
 pub struct Scope<'a> {
     pub tokens: &'a Tokens,
@@ -24,15 +28,53 @@ pub struct Scope<'a> {
     pub env: &'a Env,
     pub locals: &'a Locals,
     pub basics: Basics,
+    pub told: &'a [Standing],
+    pub needed: Needed,
+    pub limits: bool,
+    pub base: u32,
 }
 
 impl<'a> Scope<'a> {
+    /// The scope in the body of a function, whose tokens are counted from `base`: all objects are needed in full and stand for
+    /// what `env` says.
+    pub fn of_body(
+        tokens: &'a Tokens,
+        uses: &'a Uses,
+        env: &'a Env,
+        locals: &'a Locals,
+        basics: Basics,
+        base: u32,
+    ) -> Scope<'a>
+        ensures tokens { result.tokens.now ≡ tokens.now }
+        ensures uses { result.uses.now ≡ uses.now }
+        ensures env { result.env.now ≡ env.now }
+        ensures locals { result.locals.now ≡ locals.now }
+        ensures basics { result.basics ≡ basics }
+        ensures told { result.told.now ≡ [] }
+        ensures needed { result.needed ≡ need.InFull }
+        ensures limits { result.limits ≡ true }
+        ensures base { result.base ≡ base }
+    {
+        Scope {
+            tokens,
+            uses,
+            env,
+            locals,
+            basics,
+            told: &[],
+            needed: Needed::InFull,
+            limits: true,
+            base,
+        }
+    }
+
     /// The bytes of the token of this number; none where there are not so many.
     pub fn text(&self, token: u32) -> &'a [u8]
-        ensures { result.now ≡ word self.now.tokens.now token }
+        ensures { result.now ≡ text_in self.now token }
     {
-        if token < self.tokens.count() {
-            self.tokens.text(token)
+        let place = self.place(token);
+        if place < self.tokens.count() as usize {
+            self.tokens.text(place as u32)
         } else {
             &[]
         }
@@ -40,10 +82,17 @@ impl<'a> Scope<'a> {
 
     /// What the token of this number means (Go specification, "Declarations and scope").
     pub fn object(&self, token: u32) -> Option<Object>
-        ensures { result ≡ object_of self.now.uses.now self.now.tokens.now.file token }
+        ensures { result ≡ object_in self.now token }
     {
         self.uses
-            .object(self.tokens.file() as usize, token as usize)
+            .object(self.tokens.file() as usize, self.place(token))
+    }
+
+    /// The number of a token in its file.
+    pub fn place(&self, token: u32) -> usize
+        ensures { result ≡ self.now.base + token }
+    {
+        self.base as usize + token as usize
     }
 
     /// The number of an object of the package among those of its sort.
@@ -54,13 +103,22 @@ impl<'a> Scope<'a> {
     }
 }
 
-/// What an object of the package stands for, if there are so many.
-pub fn package_sort<'a>(types: &Types, scope: &Scope<'a>, number: usize) -> Option<&'a Sort>
+/// What an object of the package stands for where it is needed so, if there are so many.
+pub fn package_sort<'a>(
+    types: &Types,
+    scope: &Scope<'a>,
+    need: Needed,
+    number: usize,
+) -> Option<&'a Sort>
     requires { KnownScope (length types.now.shapes) scope.now }
-    ensures tree { known (option_map (λ s. sort_seen types.now s.now) result) ≡ sort_of_object (objects_seen types.now scope.now.env.now.objects) (locals_seen types.now scope.now.locals.now.sorts) (object.Package number) }
+    ensures tree { known (option_map (λ s. sort_seen types.now s.now) result) ≡ stands_for types.now scope.now (need_seen need) (object.Package number) }
     ensures known { IfSome result (λ s. KnownSort (length types.now.shapes) s.now) }
 {
-    scope.env.sort(number)
+    if number < scope.told.len() {
+        Some(scope.told[number].sort(need))
+    } else {
+        scope.env.sort(number)
+    }
 }
 
 /// What a local of the function stands for, if it is typed so far.
@@ -71,7 +129,7 @@ pub fn local_sort<'a>(
     number: usize,
 ) -> Option<&'a Sort>
     requires { KnownScope (length types.now.shapes) scope.now }
-    ensures tree { known (option_map (λ s. sort_seen types.now s.now) result) ≡ sort_of_object (objects_seen types.now scope.now.env.now.objects) (locals_seen types.now scope.now.locals.now.sorts) (object.Local function number) }
+    ensures tree { known (option_map (λ s. sort_seen types.now s.now) result) ≡ known_local (slice_get (locals_seen types.now scope.now.locals.now.sorts) number) }
     ensures known { IfSome result (λ s. KnownSort (length types.now.shapes) s.now) }
 {
     let _function = function;

@@ -2,7 +2,6 @@
 ghost use Rattle.std.specs.Prelude.{◌≡◌, ◌<◌, ◌++◌, ◌∷◌, List, Option, Some, IfOk, OnOk, [], length, map};
 ghost use Rattle.std.specs.List.{AllByRecursion};
 ghost use Rattle.std.specs.Option.{option_map};
-ghost use Rattle.go_tree.specs.Units.{word};
 ghost use Rattle.go_types.specs.Tables.{type_of};
 ghost use Rattle.type_tests.specs.Extends.{Grows};
 ghost use Rattle.go_typed.specs.Trees.{IsType, form_of, first_of, sort_of};
@@ -10,6 +9,7 @@ ghost use Rattle.go_typed.specs.Views.{seen, sort_seen, AllKnown, Known, KnownSo
 ghost use Rattle.go_rules.specs.Settling.{Part};
 ghost use Rattle.go_rules.specs.Sorts.{named_type};
 ghost use Rattle.go_rules.specs.TypeNodes.{Fields as FieldRow, is_field_name, fields_of, fields_from, structure_of};
+ghost use Rattle.go_type_rules.specs.Naming.{text_in};
 ghost use Rattle.go_type_rules.specs.Structs.{fields_seen};
 
 use crate::names::shape_sort;
@@ -46,7 +46,7 @@ fn push_fields(
     requires of { of < length types.now.shapes }
     requires known { AllByRecursion (λ p. p < length types.now.shapes) (map (λ f. f.ty) fields.old.items) }
     ensures fields { OnOk result ((rest : FieldRow) → fields_seen types.now fields.new.items ++ rest
-        ≡ fields_seen types.now fields.old.items ++ fields_of (map (word scope.now.tokens.now) names.now) (Some (type_of types.now.shapes of)) rest) }
+        ≡ fields_seen types.now fields.old.items ++ fields_of (map (text_in scope.now) names.now) (Some (type_of types.now.shapes of)) rest) }
     ensures known { OnOk result (AllByRecursion (λ p. p < length types.now.shapes) (map (λ f. f.ty) fields.new.items)) }
 {
     for name in names {
@@ -71,7 +71,7 @@ fn push_line(
     requires part { Known (length types.now.shapes) part.now }
     requires known { AllByRecursion (λ p. p < length types.now.shapes) (map (λ f. f.ty) fields.old.items) }
     ensures fields { OnOk result ((rest : FieldRow) → fields_seen types.now fields.new.items ++ rest
-        ≡ fields_seen types.now fields.old.items ++ fields_of (map (word scope.now.tokens.now) names.now) (named_type (sort_of (seen types.now part.now))) rest) }
+        ≡ fields_seen types.now fields.old.items ++ fields_of (map (text_in scope.now) names.now) (named_type (sort_of (seen types.now part.now))) rest) }
     ensures known { OnOk result (AllByRecursion (λ p. p < length types.now.shapes) (map (λ f. f.ty) fields.new.items)) }
 {
     match named_type(types, sort_of(types, part)) {
@@ -91,8 +91,8 @@ fn read_part(
 ) -> Result<(), Memory>
     requires part { Known (length types.now.shapes) part.now }
     requires known { AllByRecursion (λ p. p < length types.now.shapes) (map (λ f. f.ty) fields.old.items) }
-    ensures fields { OnOk result ((rest : List (Option Part)) → fields_seen types.now fields.new.items ++ fields_from (word scope.now.tokens.now) (map (word scope.now.tokens.now) names.new.items) rest
-        ≡ fields_seen types.now fields.old.items ++ fields_from (word scope.now.tokens.now) (map (word scope.now.tokens.now) names.old.items) (Some (seen types.now part.now) ∷ rest)) }
+    ensures fields { OnOk result ((rest : List (Option Part)) → fields_seen types.now fields.new.items ++ fields_from (text_in scope.now) (map (text_in scope.now) names.new.items) rest
+        ≡ fields_seen types.now fields.old.items ++ fields_from (text_in scope.now) (map (text_in scope.now) names.old.items) (Some (seen types.now part.now) ∷ rest)) }
     ensures known { OnOk result (AllByRecursion (λ p. p < length types.now.shapes) (map (λ f. f.ty) fields.new.items)) }
 {
     if is_field_name(types, part) {
@@ -112,7 +112,7 @@ fn fields(
     parts: &[Option<TypedNode>],
 ) -> Result<Vec<Field>, Memory>
     requires { AllKnown (length types.now.shapes) parts.now }
-    ensures fields { IfOk result (λ v. fields_seen types.now v.items ≡ fields_from (word scope.now.tokens.now) [] (map (option_map (seen types.now)) parts.now)) }
+    ensures fields { IfOk result (λ v. fields_seen types.now v.items ≡ fields_from (text_in scope.now) [] (map (option_map (seen types.now)) parts.now)) }
     ensures known { IfOk result (λ v. AllByRecursion (λ p. p < length types.now.shapes) (map (λ f. f.ty) v.items)) }
 {
     let mut fields = Vec::new(alloc);
@@ -137,7 +137,7 @@ pub fn structure(
 ) -> Result<Sort, Memory>
     requires { AllKnown (length types.old.shapes) parts.now }
     ensures grows { Grows types.old types.new }
-    ensures sort { IfOk result (λ s. sort_seen types.new s ≡ IsType (structure_of (fields_from (word scope.now.tokens.now) [] (map (option_map (seen types.old)) parts.now)))) }
+    ensures sort { IfOk result (λ s. sort_seen types.new s ≡ IsType (structure_of (fields_from (text_in scope.now) [] (map (option_map (seen types.old)) parts.now)))) }
     ensures known { IfOk result (KnownSort (length types.new.shapes)) }
 {
     types.count();

@@ -4,7 +4,6 @@ use Rattle.std.proofs.lemmas.Option.{slice_get_read}
 use Rattle.std.specs.Option.{option_map}
 use Rattle.go_base.specs.Gives.{Gives}
 use Rattle.go_grammar.specs.Trees.{kind_of}
-use Rattle.go_tree.specs.Units.{word}
 use Rattle.go_tree.specs.Views.{view, views}
 use Rattle.go_tree.proofs.Heights.{height, heights, height-part}
 use Rattle.type_tests.proofs.Extending.{grows_both}
@@ -12,10 +11,12 @@ use Rattle.go_typed.specs.declared.node.TypedNode.{TypedNode}
 use Rattle.go_typed.specs.Views.{seen, AllKnown}
 use Rattle.go_rules.specs.Faults.{judged, least, refusal_of}
 use Rattle.go_rules.specs.Hints.{hint_seen}
-use Rattle.go_rules.specs.Tables.{Parts, found, built}
+use Rattle.go_rules.specs.Seen.{AreBasics}
+use Rattle.go_rules.specs.Tables.{Parts, found, built, part_scope}
 use Rattle.go_rules.specs.Tables as tables
 use Rattle.go_rules.specs.Typing.{answer}
-use Rattle.go_type_rules.specs.Naming.{names}
+use Rattle.go_type_rules.specs.Naming.{names, text_in}
+use Rattle.go_exprs.specs.Literals.{AllRead}
 use Rattle.go_exprs.proofs.Rows.{left, next, left_none}
 use Rattle.go_exprs.proofs.Steps.{node_fails, node_done, skipped, typed_more, part_fails, next_is, read_at}
 use Rattle.go_exprs.proofs.Stays.{told_is, names_stay, hint_stays, hint_known, parts_stay, parts_known, scope_known, basics_stay}
@@ -62,7 +63,10 @@ type_parts-type_node-requires t c =
     let there : slice_get row i ≡ Some (Some c.in-Some.node) = slice_get_read row (length row) i c.place-item.result refl c.loop-place-test.true c.place-item.is ∙ ap Some c.in-Some.is in
     let low : height (view c.in-Some.node) < heights (views row) = height-part row i c.in-Some.node there in
     let grown = c.loop-place.invariant.0 in
-    (omega (arith, low, c.decreases), (scope_known a b c.count.ensures.table grown c.args.scope.now c.requires.scope, (basics_stay a b c.count.ensures.table grown.extends c.args.scope.now.basics c.requires.basics, (c.hint-told.ensures.known, read_at (word c.args.scope.now.tokens.now) row i c.in-Some.node there c.requires.literals))))
+    let known = c.part_scope-inner.ensures.known (length b.shapes) (scope_known a b c.count.ensures.table grown c.args.scope.now c.requires.scope) in
+    let basics = subst (AreBasics b) (sym c.part_scope-inner.ensures.basics) (basics_stay a b c.count.ensures.table grown.extends c.args.scope.now.basics c.requires.basics) in
+    let literals = subst (λ ts. AllRead ts (view c.in-Some.node)) (sym c.part_scope-inner.ensures.texts) (read_at (text_in c.args.scope.now) row i c.in-Some.node there c.requires.literals) in
+    (omega (arith, low, c.decreases), (known, (basics, (c.hint-told.ensures.known, literals))))
 
 pub type_parts-returns-in_err-part-clause-exact : goal.type_parts-returns-in_err-part-clause-exact
 type_parts-returns-in_err-part-clause-exact t c =
@@ -75,9 +79,12 @@ type_parts-returns-in_err-part-clause-exact t c =
     let xs = map (option_map (seen b)) c.loop-place.parts.items in
     let grown = c.loop-place.invariant.0 in
     let told = told_is a b c.count.ensures.table grown c.args.scope.now c.requires.scope c.args.kind c.args.hint c.requires.hint all xs (kind_of (view c.in-Some.node)) c.kind.result (hint_seen b c.hint-told.result) c.kind.ensures
-    (c.hint-told.ensures.tree (names b c.args.scope.now) refl ∙ ap (λ ns. tables.hint (names b c.args.scope.now) c.args.kind (hint_seen b c.args.hint) all (map (option_map (seen b)) ns) c.kind.result) c.deref.ensures.value) in
-    let own = next_is s c.args.kind h all xs (view c.in-Some.node) (hint_seen b c.hint-told.result) refl told in
-    let mine = subst (λ z. Gives (seen d) refusal_of (Err c.in_err-part.field-0.0) (answer z (hint_seen b c.hint-told.result) (view c.in-Some.node))) (names_stay a b c.count.ensures.table grown c.args.scope.now c.requires.scope) c.in_err-part.ensures.exact in
+    (c.hint-told.ensures.tree (names b c.args.scope.now) refl ∙ ap (λ ns. tables.hint (names b c.args.scope.now) c.args.kind (hint_seen b c.args.hint) all (map (option_map (seen b)) ns) c.kind.result) c.deref-in-loop-place.ensures.value) in
+    let inner = names b c.part_scope-inner.result in
+    let there : inner ≡ part_scope s c.args.kind xs = c.part_scope-inner.ensures.names ∙ ap (λ ns. part_scope (names b c.args.scope.now) c.args.kind (map (option_map (seen b)) ns)) c.deref.ensures.value
+    ∙ ap (λ z. part_scope z c.args.kind xs) (names_stay a b c.count.ensures.table grown c.args.scope.now c.requires.scope) in
+    let own = next_is s c.args.kind h all xs (view c.in-Some.node) inner (hint_seen b c.hint-told.result) there told in
+    let mine = c.in_err-part.ensures.exact in
     part_fails s c.args.kind h all c.args.written.now c.loop-place.place-index (λ v. map (option_map (seen d)) v.items) (seen d) xs c.in-Some.node c.in_err-part.field-0.0 c.from_residual-in_err-part.result c.place-item.result _ c.loop-place-test.true
     (sym c.place-item.is ∙ c.in-Some.is) (subst (Gives (seen d) refusal_of (Err c.in_err-part.field-0.0)) (sym own) mine) (search rules) c.loop-place.invariant.2
 
@@ -96,9 +103,12 @@ type_parts-loop-place-preserved t c =
     let grown = c.loop-place.invariant.0 in
     let later = c.type_node.ensures.grows in
     let told = told_is a b c.count.ensures.table grown c.args.scope.now c.requires.scope c.args.kind c.args.hint c.requires.hint all xs (kind_of (view c.in-Some.node)) c.kind.result (hint_seen b c.hint-told.result) c.kind.ensures
-    (c.hint-told.ensures.tree (names b c.args.scope.now) refl ∙ ap (λ ns. tables.hint (names b c.args.scope.now) c.args.kind (hint_seen b c.args.hint) all (map (option_map (seen b)) ns) c.kind.result) c.deref.ensures.value) in
-    let own = next_is s c.args.kind h all xs (view c.in-Some.node) (hint_seen b c.hint-told.result) refl told in
-    let mine = ap (λ z. answer z (hint_seen b c.hint-told.result) (view c.in-Some.node)) (sym (names_stay a b c.count.ensures.table grown c.args.scope.now c.requires.scope)) ∙ c.in_ok-part.ensures.exact in (
+    (c.hint-told.ensures.tree (names b c.args.scope.now) refl ∙ ap (λ ns. tables.hint (names b c.args.scope.now) c.args.kind (hint_seen b c.args.hint) all (map (option_map (seen b)) ns) c.kind.result) c.deref-in-loop-place.ensures.value) in
+    let inner = names b c.part_scope-inner.result in
+    let there : inner ≡ part_scope s c.args.kind xs = c.part_scope-inner.ensures.names ∙ ap (λ ns. part_scope (names b c.args.scope.now) c.args.kind (map (option_map (seen b)) ns)) c.deref.ensures.value
+    ∙ ap (λ z. part_scope z c.args.kind xs) (names_stay a b c.count.ensures.table grown c.args.scope.now c.requires.scope) in
+    let own = next_is s c.args.kind h all xs (view c.in-Some.node) inner (hint_seen b c.hint-told.result) there told in
+    let mine = c.in_ok-part.ensures.exact in (
       grows_both a b d grown later,
       subst (AllKnown (length d.shapes)) (sym c.in_ok-push-2.ensures.items) (known_append (length d.shapes) ns (Some x ∷ []) (parts_known b d grown.table later.extends ns c.loop-place.invariant.1) (c.in_ok-part.ensures.known, tt)),
       typed_more s c.args.kind h all c.args.written.now c.loop-place.place-index xs (map f c.push-in-loop-place.new.self.items) c.in-Some.node (seen d x) c.place-item.result _ c.loop-place-test.true

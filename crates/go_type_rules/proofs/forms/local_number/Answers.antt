@@ -9,7 +9,7 @@ use Rattle.go_type_rules.proofs.forms.local_number.Goals as goal
 pub unreachable-requires : goal.unreachable-requires
 unreachable-requires c =
     let uses = c.args.scope.now.uses.now in
-    let told : c.object-2.result ≡ Some (object.Local c.args.function c.args.number) = c.object-2.ensures.object ∙ ap (λ f. object_of uses f c.args.token) c.file.ensures ∙ c.requires in
+    let told : c.object-2.result ≡ Some (object.Local c.args.function c.args.number) = c.object-2.ensures.object ∙ ap (λ f. object_of uses f c.place.result) c.file.ensures ∙ ap (object_of uses c.args.scope.now.tokens.now.file) c.place.ensures ∙ c.requires in
     let there : is_some (local_of uses c.args.function c.args.number) ≡ true = c.object-2.ensures.declared (object.Local c.args.function c.args.number) told in
     let none : local_of uses c.args.function c.args.number ≡ None = sym c.local.ensures ∙ c.in-None.is in
     let wrong : false ≡ true = sym (ap is_some none) ∙ there in

@@ -1,6 +1,6 @@
 use Rattle.std.proofs.Common.{◌≡◌, ◌<◌, ◌++◌, [], length, drop, map}
 use Rattle.std.specs.List.{AllByRecursion}
-use Rattle.go_tree.specs.Units.{word}
+use Rattle.go_type_rules.specs.Naming.{text_in}
 use Rattle.go_typed.specs.Views.{AllKnown}
 use Rattle.go_rules.specs.TypeNodes.{fields_from}
 use Rattle.go_type_rules.specs.Structs.{fields_seen}
@@ -9,8 +9,8 @@ use Rattle.go_type_rules.proofs.structure.fields.Given as goal
 
 abbrev pub invariant-loop-part : goal.invariant-loop-part
 invariant-loop-part l = record {
-  fields : fields_seen l.types l.fields.items ++ fields_from (word l.scope.tokens.now) (map (word l.scope.tokens.now) l.names.items) (parts_seen l.types (drop l.part-index l.parts))
-      ≡ fields_from (word l.scope.tokens.now) [] (parts_seen l.types l.parts);
+  fields : fields_seen l.types l.fields.items ++ fields_from (text_in l.scope) (map (text_in l.scope) l.names.items) (parts_seen l.types (drop l.part-index l.parts))
+      ≡ fields_from (text_in l.scope) [] (parts_seen l.types l.parts);
   below : AllByRecursion (λ p. p < length l.types.shapes) (map (λ f. f.ty) l.fields.items);
   known : AllKnown (length l.types.shapes) (drop l.part-index l.parts);
 }

@@ -1,6 +1,6 @@
 use Rattle.std.proofs.Common.{◌≡◌, ◌<◌, ◌++◌, Some, length, drop, map}
 use Rattle.std.specs.List.{AllByRecursion}
-use Rattle.go_tree.specs.Units.{word}
+use Rattle.go_type_rules.specs.Naming.{text_in}
 use Rattle.go_types.specs.Tables.{type_of}
 use Rattle.go_rules.specs.TypeNodes.{Fields, fields_of}
 use Rattle.go_type_rules.specs.Structs.{fields_seen}
@@ -8,7 +8,7 @@ use Rattle.go_type_rules.proofs.structure.push_fields.Given as goal
 
 abbrev pub invariant-loop-name : goal.invariant-loop-name
 invariant-loop-name l = record {
-  fields : (rest : Fields) → fields_seen l.types l.fields.items ++ fields_of (map (word l.scope.tokens.now) (drop l.name-index l.names)) (Some (type_of l.types.shapes l.of)) rest
-      ≡ fields_seen l.types l.initial.fields.items ++ fields_of (map (word l.scope.tokens.now) l.names) (Some (type_of l.types.shapes l.of)) rest;
+  fields : (rest : Fields) → fields_seen l.types l.fields.items ++ fields_of (map (text_in l.scope) (drop l.name-index l.names)) (Some (type_of l.types.shapes l.of)) rest
+      ≡ fields_seen l.types l.initial.fields.items ++ fields_of (map (text_in l.scope) l.names) (Some (type_of l.types.shapes l.of)) rest;
   known : AllByRecursion (λ p. p < length l.types.shapes) (map (λ f. f.ty) l.fields.items);
 }
