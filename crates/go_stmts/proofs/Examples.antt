@@ -42,6 +42,7 @@ declarations_hold = record {
   repeated_too_wide = refl;
   not_constant = refl;
   recursive_type = refl;
+  blank_type = refl;
   late_limit = refl;
 }
 

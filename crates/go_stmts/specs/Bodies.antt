@@ -14,6 +14,7 @@ use Rattle.go_rules.specs.Scopes.{Scope, free}
 use Rattle.go_rules.specs.TypeNodes.{part_type}
 use Rattle.go_rules.specs.Typing.{typing}
 use Rattle.go_stmts.specs.Frames.{Frame, Locals, local_stands}
+use Rattle.go_stmts.specs.Laying.{local_named}
 use Rattle.go_stmts.specs.Reading.{Reading, read, reading, first_parts, entry_names}
 use Rattle.go_typed.specs.Trees as sort
 
@@ -43,10 +44,6 @@ no_locals (suc n) = None ∷ no_locals n
 -- Where a function begins: what is known around it, how many locals it has, and the numbers of its types
 abbrev pub start : Scope → ℕ → (ℕ → ℕ) → Frame
 start s n types = record { around = s; locals = no_locals n; types = types; source = None; tag = sort.Unknown; results = [] }
-
-abbrev pub local_named : Option Object → Option ℕ
-local_named (Some (object.Local f n)) = Some n
-local_named o = None
 
 -- for each of the first n tokens the local that it names
 abbrev pub token_locals : Scope → ℕ → List (Option ℕ)

@@ -144,6 +144,14 @@ pub record DeclarationExamples : Type 0 where
       stated (mark ∷ p_word ∷ mark ∷ mark ∷ p_word ∷ [])
       (node (kind.Declaration declaring.Type) 0 5 (one (node (kind.Specification declaring.Type) 1 5 (one (node kind.SequenceType 2 5 (skip (one (name 4))))))))
       ≡ one_declared (sort.IsType (declared 5))
+  -- { type p int; type _ string; var q p = 1 }
+  pub blank_type :
+      stated (mark ∷ mark ∷ p_word ∷ predeclared_word predeclared.Int ∷ mark ∷ mark ∷ mark ∷ predeclared_word predeclared.String ∷ mark ∷ mark ∷ q_word ∷ p_word ∷ mark ∷ word (codes "1") ∷ mark ∷ [])
+      (block 0 15 (more (node (kind.Declaration declaring.Type) 1 4 (one (node (kind.Specification declaring.Type) 2 4 (one (name 3)))))
+      (more (node (kind.Declaration declaring.Type) 5 8 (one (node (kind.Specification declaring.Type) 6 8 (one (name 7)))))
+      (one (node (kind.Declaration declaring.Variable) 9 14 (one (node (kind.Specification declaring.Variable) 10 14
+      (two (node kind.NameList 10 11 (one (declared_name 10))) (node kind.TypedValues 11 14 (two (name 11) (node kind.ExpressionList 13 14 (one (number 13)))))))))))))
+      ≡ two_declared (sort.IsType (declared 5)) (sort.Value (declared 5))
   -- type p [][1<<20 + 1]p
   pub late_limit :
       stated (mark ∷ p_word ∷ mark ∷ mark ∷ mark ∷ word (codes "1") ∷ mark ∷ word (codes "20") ∷ mark ∷ word (codes "1") ∷ mark ∷ p_word ∷ [])

@@ -59,6 +59,11 @@ with_local n x s = record s { locals = placed n (Some x) s.locals }
 abbrev pub with_right : ℕ → Option TypeTree → Frame → Frame
 with_right n t s = record s { around = record (s.around) { rights = placed n t s.around.rights } }
 
+-- the same of a name that has a number
+abbrev pub with_own_right : Option ℕ → Option TypeTree → Frame → Frame
+with_own_right (Some n) t s = with_right n t s
+with_own_right None t s = s
+
 abbrev pub with_iota : ℕ → Frame → Frame
 with_iota n s = record s { around = record (s.around) { iota = n } }
 

@@ -14,6 +14,7 @@ use Rattle.go_typed.specs.declared.form.Form.TheVariants as form
 use Rattle.go_typed.specs.Trees.{Typed, typed, Typeds, list_of, form_of, parts_of}
 use Rattle.go_typed.specs.Trees as sort
 use Rattle.go_rules.specs.Settling.{Part}
+use Rattle.go_rules.specs.Sorts.{Stands}
 use Rattle.go_rules.specs.Scopes.{Hint, value, several, type_place, statement, target, declares, free}
 use Rattle.go_rules.specs.Names.{declared_form}
 use Rattle.go_rules.specs.Tables.{Parts, held, all_held, first_cut, made, behind_first}
@@ -75,17 +76,22 @@ with_form g (typed f i j l ps) = typed (g f) i j l ps
 abbrev pub new_name : Locals → Option Part → Option Part
 new_name ls x = option_map (with_form (new_form ls)) x
 
-abbrev pub object_number : Option Object → ℕ
-object_number (Some (object.Local f n)) = n
-object_number o = 0
+-- the local that an object is
+abbrev pub local_named : Option Object → Option ℕ
+local_named (Some (object.Local f n)) = Some n
+local_named o = None
 
--- the number of the declared type that the name at this token is
-abbrev pub type_number : Frame → ℕ → ℕ
-type_number s i = s.types (object_number (s.around.objects i))
+-- the number of the declared type that the name at this token is; the blank identifier names none
+abbrev pub type_number : Frame → ℕ → Option ℕ
+type_number s i = option_map s.types (local_named (s.around.objects i))
+
+abbrev pub type_sort : Option ℕ → Stands
+type_sort (Some m) = sort.IsType (declared m)
+type_sort None = sort.Nothing
 
 -- the name of a type that is declared at this token
 abbrev pub type_name : Frame → ℕ → Part
-type_name s i = made (declared_form s.around (s.around.objects i)) i (suc i) (sort.IsType (declared (type_number s i))) [] []
+type_name s i = made (declared_form s.around (s.around.objects i)) i (suc i) (type_sort (type_number s i)) [] []
 
 -- ---- how many parts of a node are names, targets or cases
 

@@ -23,9 +23,9 @@ use Rattle.go_rules.specs.Calls.{results_of}
 use Rattle.go_rules.specs.TypeNodes.{part_type, parts_in, entry_types, is_parameter}
 use Rattle.go_rules.specs.Tables.{Parts, made}
 use Rattle.go_rules.specs.Typing.{typing, faults}
-use Rattle.go_stmts.specs.Frames.{Frame, rights_of, scope_of, with_local, with_right, with_iota}
+use Rattle.go_stmts.specs.Frames.{Frame, rights_of, scope_of, with_local, with_own_right, with_iota}
 use Rattle.go_stmts.specs.Assigning.{types_in}
-use Rattle.go_stmts.specs.Laying.{told, layout, form_by, type_number}
+use Rattle.go_stmts.specs.Laying.{told, layout, form_by, local_named, type_number}
 use Rattle.go_stmts.specs.Rules.{own_faults, built_by}
 
 -- for each node, in post-order, its rules that fail
@@ -170,13 +170,13 @@ entering kind.Switch xs s = in_switch xs s
 entering kind.FunctionDeclaration xs s = in_function xs s
 entering k xs s = s
 
-abbrev pub with_type : Option ℕ → ℕ → Frame → Frame
-with_type (Some n) m s = with_local n (sort.IsType (declared m)) s
-with_type None m s = s
+abbrev pub with_type : Option ℕ → Frame → Frame
+with_type (Some n) s = with_local n (sort.IsType (declared (s.types n))) s
+with_type None s = s
 
 -- a local type is declared from its name on
 abbrev pub beginning : Kind → ℕ → Frame → Frame
-beginning (kind.Specification declaring.Type) i s = with_type (local_of (declared_form s.around (s.around.objects i))) (type_number s i) s
+beginning (kind.Specification declaring.Type) i s = with_type (local_named (s.around.objects i)) s
 beginning k i s = s
 
 -- ---- what is known behind a node
@@ -212,7 +212,7 @@ abbrev pub back : Frame → Frame → Frame
 back before s = with_iota before.around.iota (record s { tag = before.tag; results = before.results })
 
 abbrev pub leaving : Kind → ℕ → Trees → Part → Frame → Frame
-leaving (kind.Specification declaring.Type) i ps x s = with_right (type_number s i) (right_side (list_of (parts_of x))) s
+leaving (kind.Specification declaring.Type) i ps x s = with_own_right (type_number s i) (right_side (list_of (parts_of x))) s
 leaving (kind.Specification declaring.Variable) i ps x s = declares_all (list_of (parts_of x)) s
 leaving (kind.Specification declaring.Constant) i ps x s = declares_all (list_of (parts_of x)) (record s { source = part_source ps s.source })
 leaving kind.Define i ps x s = declares_all (list_of (parts_of x)) s

@@ -21,7 +21,7 @@ use Rattle.go_rules.specs.Settling.{Part, default, as_type, given, at_part, unde
 use Rattle.go_rules.specs.Operators.{operation_failing, operation_takes, compared_failing}
 use Rattle.go_rules.specs.TypeNodes.{part_type, exceeds}
 use Rattle.go_rules.specs.Tables.{Parts, present, on_one, on_two, is_judged, made}
-use Rattle.go_stmts.specs.Frames.{Frame, Locals, rights_of, declared_type, with_right}
+use Rattle.go_stmts.specs.Frames.{Frame, Locals, rights_of, declared_type, with_own_right}
 use Rattle.go_stmts.specs.Targets.{is_variable, is_target, is_statement_call}
 use Rattle.go_stmts.specs.Ending.{terminates}
 use Rattle.go_stmts.specs.Assigning.{Wanted, Taking, takes, stands, rests, type_or_default, at_nil, assignment_failing, constants_failing, declared_names, values_take, constants_take}
@@ -99,7 +99,7 @@ first_fault (f ∷ fs) = f ∷ []
 
 -- the name, and the type that is its right side
 abbrev pub type_failing : Frame → ℕ → Part → List TypeFault
-type_failing s i x = first_fault (late_limits (rights_of s) (rights_of (with_right (type_number s i) (part_type (Some x)) s)) x)
+type_failing s i x = first_fault (late_limits (rights_of s) (rights_of (with_own_right (type_number s i) (part_type (Some x)) s)) x)
 
 -- ---- conditions, tags, cases and range clauses (If statements, For statements, Expression switches)
 
