@@ -1,12 +1,8 @@
-//! What a function is made of: its tree with its tokens counted from its first one, and its typed tree with its locals.
+//! The tree of a function with its tokens counted from the function's first one.
 //!
-//! The contract: `based` is the tree of the definition (specs/Bodies.antt of go_stmts); `typed_func` answers the typed function of
-//! what it is given, or else that memory ran out, also where what it is given is no typed function.
+//! The contract: `based` is the tree of the definition (specs/Bodies.antt of go_stmts).
 #![tactic(auto)]
 
-mod based;
-mod func;
-mod tests;
+mod counted;
 
-pub use based::based;
-pub use func::typed_func;
+pub use counted::based;

@@ -48,10 +48,10 @@ are_read k (x ∷ xs) (f ∷ fs) e h =
 pub all_read : (xs : List FileText) (ts : List TokenList) (fs : List FileTree) → AreLexed xs ts → AreParsed ts fs → AreRead 0 xs fs
 all_read xs ts fs l p =
     are_read 0 xs fs (p.0 ∙ l.0) (λ n x h.
-        let t = l.1 n x (slice_get_within xs n x h) h in
-        let f = p.1 n t.0 (slice_get_within ts n t.0 t.1) t.1 in
-        let at : n ≡ n + 0 = omega arith in
-        (f.0, f.1, subst (λ m. IsRead m x f.0) at (is_read n x t.0 f.0 t.2 f.2)))
+    let t = l.1 n x (slice_get_within xs n x h) h in
+    let f = p.1 n t.0 (slice_get_within ts n t.0 t.1) t.1 in
+    let at : n ≡ n + 0 = omega arith in
+    (f.0, f.1, subst (λ m. IsRead m x f.0) at (is_read n x t.0 f.0 t.2 f.2)))
 
 -- ---- faults of single files
 
@@ -82,13 +82,17 @@ first_later law xs i ts x f up there fails = record {
 }
 
 pub first_encoding : (xs : List FileText) (i : ℕ) (x : FileText) (f : Fault) → NoneBefore xs i → slice_get xs i ≡ Some x → IsEncodingFault i x.bytes f → IsUnlexed xs (failure_of f)
-first_encoding xs i x f none there fails = inl (f, refl, record {
-  number = i;
-  file = x;
-  there = there;
-  fails = fails;
-  before = λ n y g lt h e. none n y g lt h e;
-})
+first_encoding xs i x f none there fails = inl (
+  f,
+  refl,
+  record {
+    number = i;
+    file = x;
+    there = there;
+    fails = fails;
+    before = λ n y g lt h e. none n y g lt h e;
+  },
+)
 
 pub ended_later : (xs : List FileText) (f : Fault) → NoneBefore xs (length xs) → IsFirst IsLaterFault xs f → IsUnlexed xs (failure_of f)
 ended_later xs f none first = inr ((λ n x g h e. none n x g (slice_get_within xs n x h) h e), (f, refl, first))
@@ -120,17 +124,25 @@ first_unparsed law one xs ts f l u =
     let t = l.1 u.number at.0 lt at.1 in
     let same : t.0 ≡ u.file = same_some t.0 u.file (sym t.1 ∙ u.there) in
     let lexed : IsLexed u.number at.0 u.file = subst (IsLexed u.number at.0) same t.2 in
-    trees (no_encoding law xs ts l, no_later law xs ts l, (f, refl, record {
-      number = u.number;
-      file = at.0;
-      there = at.1;
-      fails = record { tokens = u.file; number = lexed.number; text = lexed.bytes; lexing = lexed.lexing; none = u.none; place = u.place };
-      before = λ n y g lt2 h bad.
-          let s = l.1 n y (slice_get_within xs n y h) h in
-          let e = one n y.bytes s.0.tokens bad.tokens.tokens s.0.comments bad.tokens.comments s.2.lexing bad.lexing in
-          let p = u.before n s.0 lt2 s.1 in
-          bad.none p.0 (subst (λ us. IsFile (kinds us) p.0) e.0 p.1);
-    }))
+    trees (
+      no_encoding law xs ts l,
+      no_later law xs ts l,
+      (
+        f,
+        refl,
+        record {
+          number = u.number;
+          file = at.0;
+          there = at.1;
+          fails = record { tokens = u.file; number = lexed.number; text = lexed.bytes; lexing = lexed.lexing; none = u.none; place = u.place };
+          before = λ n y g lt2 h bad.
+              let s = l.1 n y (slice_get_within xs n y h) h in
+              let e = one n y.bytes s.0.tokens bad.tokens.tokens s.0.comments bad.tokens.comments s.2.lexing bad.lexing in
+              let p = u.before n s.0 lt2 s.1 in
+              bad.none p.0 (subst (λ us. IsFile (kinds us) p.0) e.0 p.1);
+        },
+      ),
+    )
 
 pub unlexed_reported : (xs : List FileText) (f : Fault) → IsUnlexed xs (failure_of f) → IsReported xs (failure_of f)
 unlexed_reported xs f (inl e) = encoding e

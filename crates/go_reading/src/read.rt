@@ -5,7 +5,6 @@ ghost use Rattle.go_base.specs.Gives.{Meets};
 ghost use Rattle.go_base.specs.Package.{IsPackage};
 ghost use Rattle.go_base.specs.declared.bytes.FileText.{FileText as Text};
 ghost use Rattle.go_tokens.specs.Encoding.{IsEncodingFault};
-
 ghost use Rattle.go_reading.specs.Model.{AreRead, IsReported, failure_of};
 ghost use Rattle.go_reading.specs.Reading.{check_refusal, is_encoding, IsLexedOr, AreLexed, AreParsed, IsUnlexed, IsUnparsed};
 
@@ -42,9 +41,7 @@ fn tokens_of(
     match lex(alloc, number, text.bytes.as_slice()) {
         Ok(tokens) => Ok(Ok(tokens)),
         Err(LexError::Memory) => Err(CheckError::Memory),
-        Err(LexError::Fault(fault)) if is_encoding(fault.code) => {
-            Err(CheckError::Fault(fault))
-        }
+        Err(LexError::Fault(fault)) if is_encoding(fault.code) => { Err(CheckError::Fault(fault)) }
         Err(LexError::Fault(fault)) => Ok(Err(fault)),
     }
 }

@@ -1,3 +1,4 @@
-pub mod Told
+pub mod Written
 pub mod Counting
-pub mod Specifications
+pub mod Behind
+pub mod Appending

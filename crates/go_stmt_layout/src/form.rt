@@ -1,8 +1,9 @@
 //! The forms of statements and declarations.
 ghost use Rattle.std.specs.Prelude.{◌≡◌, IfOk, length, map};
 ghost use Rattle.std.specs.Option.{option_map};
+ghost use Rattle.go_typed.specs.Trees.{parts_of};
 ghost use Rattle.go_typed.specs.Views.{seen};
-ghost use Rattle.go_stmts.specs.Laying.{held_count, first_count, loop_form, first_loop_form, form_by};
+ghost use Rattle.go_stmts.specs.Laying.{held_count, first_count, target_count, loop_form, first_loop_form, form_by};
 
 use go_base::Memory;
 use go_grammar::kind::{Kind, Sort};
@@ -50,6 +51,15 @@ fn first_count(types: &Types, parts: &[Option<TypedNode>]) -> Result<u32, Memory
     }
 }
 
+/// How many targets a range clause has in front of its operand.
+#[tactic(auto, using(crate::proofs::Counting::targets_are))]
+fn target_count(types: &Types, clause: &TypedNode) -> usize
+    ensures { result ≡ target_count (parts_of (seen types.now clause.now)) }
+{
+    let _types = types;
+    clause.parts.len().saturating_sub(1)
+}
+
 /// The form of a loop by its header.
 ///
 /// # Errors
@@ -58,11 +68,10 @@ fn first_count(types: &Types, parts: &[Option<TypedNode>]) -> Result<u32, Memory
 fn loop_form(types: &Types, header: &Option<TypedNode>) -> Result<Form, Memory>
     ensures { IfOk result (λ f. f ≡ loop_form (option_map (seen types.now) header.now)) }
 {
-    let _types = types;
     let Some(node) = header else {
         return Ok(Form::For);
     };
-    let targets = node.parts.len().saturating_sub(1);
+    let targets = target_count(types, node);
     match node.form {
         Form::Held(Kind::Range) => Ok(Form::Range {
             defines: false,

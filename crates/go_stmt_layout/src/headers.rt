@@ -57,6 +57,7 @@ fn header_parts(alloc: Global, types: &Types, header: Option<TypedNode>) -> Resu
 }
 
 /// first? condition? post?, or of a range clause targets.. operand
+#[tactic(auto, using(crate::proofs::Appending::appended, crate::proofs::Appending::known_appended))]
 fn loop_header(alloc: Global, types: &Types, header: Option<TypedNode>) -> Result<Parts, Memory>
     requires { AllKnown (length types.now.shapes) (header ∷ []) }
     ensures parts { IfOk result (λ ps. map (option_map (seen types.now)) ps.items ≡ loop_header (option_map (seen types.now) header)) }
@@ -94,6 +95,7 @@ pub(crate) fn if_parts(alloc: Global, types: &Types, mut parts: Parts) -> Result
 }
 
 /// The parts of a `switch`.
+#[tactic(auto, using(crate::proofs::Appending::appended, crate::proofs::Appending::known_appended))]
 pub(crate) fn switch_parts(alloc: Global, types: &Types, mut parts: Parts) -> Result<Parts, Memory>
     requires { AllKnown (length types.now.shapes) parts.items }
     ensures parts { IfOk result (λ ps. map (option_map (seen types.now)) ps.items ≡ switch_parts (map (option_map (seen types.now)) parts.items)) }
@@ -109,6 +111,7 @@ pub(crate) fn switch_parts(alloc: Global, types: &Types, mut parts: Parts) -> Re
 }
 
 /// The parts of a loop.
+#[tactic(auto, using(crate::proofs::Appending::appended, crate::proofs::Appending::known_appended))]
 pub(crate) fn for_parts(alloc: Global, types: &Types, mut parts: Parts) -> Result<Parts, Memory>
     requires { AllKnown (length types.now.shapes) parts.items }
     ensures parts { IfOk result (λ ps. map (option_map (seen types.now)) ps.items ≡ for_parts (map (option_map (seen types.now)) parts.items)) }

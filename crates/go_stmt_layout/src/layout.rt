@@ -62,8 +62,8 @@ fn new_names(types: &Types, locals: &Locals, parts: &mut [Option<TypedNode>])
     ensures parts { map (option_map (seen types.now)) parts.new ≡ map (new_name (locals_seen types.now locals.now.sorts)) (map (option_map (seen types.now)) parts.old) }
     ensures known { AllKnown (length types.now.shapes) parts.new }
 {
-    for part in parts.iter_mut() {
-        new_name(types, locals, part);
+    for number in 0..parts.len() {
+        new_name(types, locals, &mut parts[number]);
     }
 }
 
@@ -129,9 +129,7 @@ pub fn layout(
         Kind::For => for_parts(alloc, types, parts),
         Kind::AssigningRange => all_held(alloc, types, parts),
         Kind::DefiningRange => all_held(alloc, types, parts),
-        Kind::FunctionDeclaration => {
-            without_absent(alloc, types, behind_first(types, parts))
-        }
+        Kind::FunctionDeclaration => { without_absent(alloc, types, behind_first(types, parts)) }
         _ => Ok(parts),
     }
 }

@@ -1,7 +1,9 @@
 //! Specifications and the names that they declare in place.
-ghost use Rattle.std.specs.Prelude.{◌≡◌, ◌++◌, ◌∷◌, [], IfOk, OnOk, length, map};
+ghost use Rattle.std.specs.Prelude.{◌≡◌, ◌++◌, ◌∷◌, [], IfOk, OnOk, length, map, take};
 ghost use Rattle.std.specs.Option.{option_map};
-ghost use Rattle.go_typed.specs.Views.{seen, AllKnown};
+ghost use Rattle.go_typed.specs.Trees.{form_of, list_of, parts_of};
+ghost use Rattle.go_typed.specs.Views.{seen, Known, AllKnown};
+ghost use Rattle.go_rules.specs.Tables as tables;
 ghost use Rattle.go_stmts.specs.Laying.{is_values, typed_or_not, specification_parts, names_count, specified_names, all_names, is_group, specifications};
 
 use crate::headers::opened;
@@ -26,7 +28,7 @@ fn is_values(types: &Types, part: &Option<TypedNode>) -> bool
 }
 
 /// What stands behind the names: a type, values without a type, or both.
-#[tactic(auto, using(crate::proofs::Specifications::typed_or_not_is))]
+#[tactic(auto, using(crate::proofs::Behind::typed_or_not_is))]
 fn typed_or_not(alloc: Global, types: &Types, part: Option<TypedNode>) -> Result<Parts, Memory>
     requires { AllKnown (length types.now.shapes) (part ∷ []) }
     ensures parts { IfOk result (λ ps. map (option_map (seen types.now)) ps.items ≡ typed_or_not (option_map (seen types.now) part)) }
@@ -40,7 +42,19 @@ fn typed_or_not(alloc: Global, types: &Types, part: Option<TypedNode>) -> Result
     Ok(parts)
 }
 
+/// The same, without what is inside the type.
+fn behind_names(alloc: Global, types: &Types, part: Option<TypedNode>) -> Result<Parts, Memory>
+    requires { AllKnown (length types.now.shapes) (part ∷ []) }
+    ensures parts { IfOk result (λ ps. map (option_map (seen types.now)) ps.items ≡ tables.first_cut (typed_or_not (option_map (seen types.now) part))) }
+    ensures known { IfOk result (λ ps. AllKnown (length types.now.shapes) ps.items) }
+{
+    let mut parts = typed_or_not(alloc, types, part)?;
+    first_cut(alloc, types, &mut parts);
+    Ok(parts)
+}
+
 /// names.. type? values..
+#[tactic(auto, using(crate::proofs::Appending::appended, crate::proofs::Appending::known_appended))]
 pub(crate) fn specification_parts(
     alloc: Global,
     types: &Types,
@@ -58,8 +72,7 @@ pub(crate) fn specification_parts(
     };
     let mut out = Vec::new(alloc);
     push_held(types, names, &mut out)?;
-    let mut behind = typed_or_not(alloc, types, values)?;
-    first_cut(alloc, types, &mut behind);
+    let mut behind = behind_names(alloc, types, values)?;
     out.append(&mut behind)?;
     Ok(out)
 }
@@ -75,7 +88,21 @@ fn names_count(form: Form) -> usize
     }
 }
 
+/// The names that a specification declares.
+#[tactic(auto, using(crate::proofs::Appending::known_taken))]
+fn names_of(types: &Types, node: TypedNode) -> Parts
+    requires { Known (length types.now.shapes) node }
+    ensures parts { map (option_map (seen types.now)) result.items ≡ take (names_count (form_of (seen types.now node))) (list_of (parts_of (seen types.now node))) }
+    ensures known { AllKnown (length types.now.shapes) result.items }
+{
+    let count = names_count(node.form);
+    let mut names = opened(types, node);
+    names.truncate(count);
+    names
+}
+
 /// Puts the names that a specification declares behind the others.
+#[tactic(auto, using(crate::proofs::Appending::appended, crate::proofs::Appending::known_appended))]
 fn push_names(types: &Types, part: Option<TypedNode>, out: &mut Parts) -> Result<(), Memory>
     requires part { AllKnown (length types.now.shapes) (part ∷ []) }
     requires out { AllKnown (length types.now.shapes) out.old.items }
@@ -83,9 +110,7 @@ fn push_names(types: &Types, part: Option<TypedNode>, out: &mut Parts) -> Result
     ensures known { OnOk result (AllKnown (length types.now.shapes) out.new.items) }
 {
     if let Some(node) = part {
-        let count = names_count(node.form);
-        let mut names = opened(types, node);
-        names.truncate(count);
+        let mut names = names_of(types, node);
         out.append(&mut names)?;
     }
     Ok(())

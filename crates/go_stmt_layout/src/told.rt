@@ -13,7 +13,7 @@ use go_typed::TypedNode;
 use go_types::Types;
 
 /// A call of several results stands alone.
-#[tactic(auto, using(crate::proofs::Told::count_views))]
+#[tactic(auto, using(crate::proofs::Written::count_views))]
 fn alone_or_value(types: &Types, written: &[Option<Node>], outer: Hint) -> Hint
     requires { KnownHint (length types.now.shapes) outer }
     ensures known { KnownHint (length types.now.shapes) result }
@@ -40,12 +40,7 @@ fn behind_names(types: &Types, kind: Kind, values: Hint) -> Hint
 }
 
 /// Of a specification the names, and then a type or values.
-fn specification_told(
-    types: &Types,
-    values: Hint,
-    elders: &[Option<TypedNode>],
-    next: Kind,
-) -> Hint
+fn specification_told(types: &Types, values: Hint, elders: &[Option<TypedNode>], next: Kind) -> Hint
     requires { KnownHint (length types.now.shapes) values }
     ensures known { KnownHint (length types.now.shapes) result }
     ensures tree { hint_seen types.now result ≡ specification_told (hint_seen types.now values) (map (option_map (seen types.now)) elders.now) next }

@@ -1,8 +1,6 @@
 -- Functions with their types, and what is reported of a body.
 use Rattle.std.specs.Prelude.{ℕ, zero, suc, ◌-◌, List, [], ◌∷◌, length, map, Option, Some, None, Result}
 use Rattle.go_grammar.specs.Trees.{Tree, node, Trees, none, more, skip, last}
-use Rattle.go_tree.specs.declared.object.Object.{Object}
-use Rattle.go_tree.specs.declared.object.Object.TheVariants as object
 use Rattle.go_types.specs.Trees.{TypeTree, function}
 use Rattle.go_types.specs.Trees as types
 use Rattle.std.specs.Option.{unwrap_or}

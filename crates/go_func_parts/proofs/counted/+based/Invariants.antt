@@ -3,7 +3,7 @@ use Rattle.std.specs.Option.{option_map}
 use Rattle.go_tree.specs.Views.{view, views}
 use Rattle.go_tree.proofs.Heights.{height, heights}
 use Rattle.go_stmts.specs.Bodies.{based}
-use Rattle.go_func_parts.proofs.based.+based.Given as goal
+use Rattle.go_func_parts.proofs.counted.+based.Given as goal
 
 -- a node's measure is twice its height and one, and that of parts twice the height of a node that has them
 abbrev pub decreases-based : goal.decreases-based

@@ -13,7 +13,7 @@ use std::alloc::Global;
 ///
 /// Want of memory.
 #[cycle(based)]
-#[tactic(auto, using(crate::proofs::Based::node_based))]
+#[tactic(auto, using(crate::proofs::Bases::node_based))]
 pub fn based(alloc: Global, base: u32, node: &Node) -> Result<Node, Memory>
     ensures { IfOk result (λ n. view n ≡ based base (view node.now)) }
 {
@@ -25,12 +25,8 @@ pub fn based(alloc: Global, base: u32, node: &Node) -> Result<Node, Memory>
 }
 
 #[cycle(based)]
-#[tactic(auto, using(crate::proofs::Based::all_is))]
-fn all_based(
-    alloc: Global,
-    base: u32,
-    parts: &[Option<Node>],
-) -> Result<Vec<Option<Node>>, Memory>
+#[tactic(auto, using(crate::proofs::Bases::all_is))]
+fn all_based(alloc: Global, base: u32, parts: &[Option<Node>]) -> Result<Vec<Option<Node>>, Memory>
     ensures { IfOk result (λ ns. views ns.items ≡ all_based base (views parts.now)) }
 {
     let mut out = Vec::new(alloc);
