@@ -1,0 +1,4 @@
+pub mod Written
+pub mod Counting
+pub mod Behind
+pub mod Appending
