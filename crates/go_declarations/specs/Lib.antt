@@ -3,3 +3,4 @@ pub mod Assigned
 pub mod Judged
 pub mod States
 pub mod Reads
+pub mod Procedures

@@ -9,6 +9,7 @@
 pub mod assigning;
 pub mod judging;
 pub mod laws;
+pub mod procedure;
 pub mod reading;
 pub mod specification;
 
