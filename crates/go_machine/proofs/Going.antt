@@ -5,9 +5,10 @@ use Rattle.std.specs.declared.alloc.Global.{Global}
 use Rattle.go_typed.specs.declared.node.TypedNode.{TypedNode}
 use Rattle.go_typed.specs.Packages.{PackageView}
 use Rattle.go_meaning.specs.Values as meant
-use Rattle.go_meaning.specs.Computations.{Comp, Outcome, World, Undecided, Return}
+use Rattle.go_meaning.specs.Computations.{Comp, Outcome, World, Undecided, Return, Panics}
 use Rattle.go_values.specs.declared.value.Value.{Value}
-use Rattle.go_values.specs.Views.{views}
+use Rattle.go_values.specs.declared.panic.Panic.{Panic}
+use Rattle.go_values.specs.Views.{views, panic_view}
 use Rattle.go_values.specs.Worlds.{world_view}
 use Rattle.go_runs.specs.declared.exit.Values.{Values}
 use Rattle.go_runs.specs.Machines.{values_view}
@@ -40,6 +41,15 @@ module _ (p : PackageView) where
       ∙ (ap (λ (d : ℕ). c n (rest p n old.tasks.items) vs d (views m.machine.frame.items) (world_view m.machine.world) m.machine.turns) h.depth
       ∙ ap (λ (k : Machine). c n (rest p n old.tasks.items) vs old.depth (views k.frame.items) (world_view k.world) k.turns) h.machine))
 
+
+  -- another world too
+  pub worlded_state : (c : Work) (n : ℕ) (old m : Engine) (vs : List meant.Value) → IsKept old m → views m.values.items ≡ vs → (w : World) →
+      c n (rest p n m.tasks.items) (views m.values.items) m.depth (views m.machine.frame.items) w m.machine.turns ≡ c n (rest p n old.tasks.items) vs old.depth (views old.machine.frame.items) w old.machine.turns
+  worlded_state c n old m vs h e w =
+      ap (λ (ts : Vec Task Global). c n (rest p n ts.items) (views m.values.items) m.depth (views m.machine.frame.items) w m.machine.turns) h.tasks
+      ∙ (ap (λ (us : List meant.Value). c n (rest p n old.tasks.items) us m.depth (views m.machine.frame.items) w m.machine.turns) e
+      ∙ (ap (λ (d : ℕ). c n (rest p n old.tasks.items) vs d (views m.machine.frame.items) w m.machine.turns) h.depth
+      ∙ ap (λ (k : Machine). c n (rest p n old.tasks.items) vs old.depth (views k.frame.items) w k.turns) h.machine))
 
 module _ {X : Type 0} (p : PackageView) where
   -- from a later state on
@@ -142,3 +152,28 @@ module _ {X : Type 0} (p : PackageView) where
     turns = (let t : m.machine.turns ≡ old.machine.turns = ap (λ (k1 : Machine). k1.turns) h.machine in omega (arith, t));
     next = λ n le. e n (rest p n old.tasks.items) old.depth (views old.machine.frame.items) (world_view old.machine.world) old.machine.turns ∙ sym (kept_state p (λ n1 s ws. s.out ws (Return (values_view us))) n old m vs h v);
   }
+
+  -- an operation was performed on operands that were taken
+  pub goes_worlded : (c c1 : Work) (old m1 m : Engine) (r : Result X Exit) (new : Engine) (vs : List meant.Value) → IsKept old m1 → views m1.values.items ≡ vs →
+      m.tasks ≡ m1.tasks → m.values ≡ m1.values → m.depth ≡ m1.depth → m.machine.frame ≡ m1.machine.frame → m.machine.turns ≡ m1.machine.turns → Goes p c1 m r new →
+      ((n : ℕ) (s : Rest) (d : ℕ) (f : List meant.Value) (t : ℕ) → c n s (views old.values.items) d f (world_view old.machine.world) t ≡ c1 n s vs d f (world_view m.machine.world) t) → Goes p c old r new
+  goes_worlded c c1 old m1 m r new vs h v et ev ed ef en g e =
+      goes_on c c1 old m r new g (subst (λ (ts : Vec Task Global). AreFit (length p.types.shapes) old.tasks.items → AreFit (length p.types.shapes) ts.items) (sym (et ∙ h.tasks)) (λ a. a))
+      (let t : m.machine.turns ≡ old.machine.turns = en ∙ ap (λ (k1 : Machine). k1.turns) h.machine in omega (arith, t))
+      (λ n le. e n (rest p n old.tasks.items) old.depth (views old.machine.frame.items) old.machine.turns
+        ∙ (sym (worlded_state p c1 n old m1 vs h v (world_view m.machine.world))
+        ∙ (ap (λ (ts : Vec Task Global). c1 n (rest p n ts.items) (views m1.values.items) m1.depth (views m1.machine.frame.items) (world_view m.machine.world) m1.machine.turns) (sym et)
+        ∙ (ap (λ (k : Vec Value Global). c1 n (rest p n m.tasks.items) (views k.items) m1.depth (views m1.machine.frame.items) (world_view m.machine.world) m1.machine.turns) (sym ev)
+        ∙ (ap (λ (d : ℕ). c1 n (rest p n m.tasks.items) (views m.values.items) d (views m1.machine.frame.items) (world_view m.machine.world) m1.machine.turns) (sym ed)
+        ∙ (ap (λ fr. c1 n (rest p n m.tasks.items) (views m.values.items) m.depth (views fr.items) (world_view m.machine.world) m1.machine.turns) (sym ef)
+        ∙ ap (λ (t : ℕ). c1 n (rest p n m.tasks.items) (views m.values.items) m.depth (views m.machine.frame.items) (world_view m.machine.world) t) (sym en)))))))
+
+  pub goes_panicked : (m : Engine) (k : Panic) → Goes {X = X} p (λ n s us. s.out us (Panics (panic_view k))) m (Err (exit.Panic k)) m
+  goes_panicked m k = record { fits = λ a. a; turns = omega arith; next = λ n le. refl }
+
+  -- only the values are others, at this state
+  pub goes_kept_at : (c c1 : Work) (old m : Engine) (r : Result X Exit) (new : Engine) (vs : List meant.Value) → IsKept old m → views m.values.items ≡ vs → Goes p c1 m r new →
+      ((n : ℕ) (s : Rest) → old.machine.turns < n → in_state (c n s (views old.values.items)) old ≡ in_state (c1 n s vs) old) → Goes p c old r new
+  goes_kept_at c c1 old m r new vs h v g e = goes_on c c1 old m r new g (subst (λ (ts : Vec Task Global). AreFit (length p.types.shapes) old.tasks.items → AreFit (length p.types.shapes) ts.items) (sym h.tasks) (λ a. a))
+      (let t : m.machine.turns ≡ old.machine.turns = ap (λ (k1 : Machine). k1.turns) h.machine in omega (arith, t))
+      (λ n le. e n (rest p n old.tasks.items) le ∙ sym (kept_state p c1 n old m vs h v))

@@ -62,7 +62,7 @@ each_both (c ∷ cs) k k' l m h o = then_both c _ _ l m (λ us. each_both cs _ _
 
 -- ---- the values below
 
-front : (vs us : List Value) → take (length vs) (vs ++ us) ≡ vs
+pub front : (vs us : List Value) → take (length vs) (vs ++ us) ≡ vs
 front [] us = refl
 front (v ∷ vs) us = ap (λ ws. v ∷ ws) (front vs us)
 

@@ -8,6 +8,8 @@
 
 mod asks;
 pub mod engine;
+mod loops;
+mod parts;
 mod start;
 mod steps;
 mod stores;
