@@ -4,3 +4,4 @@ pub mod Groups
 pub mod Heads
 pub mod Pairs
 pub mod Sameness
+pub mod Orders

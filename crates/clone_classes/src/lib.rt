@@ -7,5 +7,6 @@
 
 pub mod choose;
 pub mod laws;
+pub mod listed;
 pub mod pairwise;
 pub mod place;

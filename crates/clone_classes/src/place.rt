@@ -13,8 +13,8 @@ use go_typed::node::TypedNode;
 use go_typed::window::Window;
 use std::alloc::Global;
 
-/// Tokens of a function.
-#[derive(Clone, Copy, Debug, PartialEq, Eq)]
+/// Tokens of a function, in order by function, first and last token.
+#[derive(Clone, Copy, Debug, PartialEq, Eq, PartialOrd, Ord)]
 pub struct Place {
     /// The number of the function in its package.
     pub func: u32,

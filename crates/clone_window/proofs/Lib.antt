@@ -6,3 +6,5 @@ pub mod RunParts
 pub mod Runs
 pub mod Sizes
 pub mod Walks
+pub mod Weights
+pub mod Places

@@ -1,16 +1,16 @@
 //! Holes, and the mass of trees.
 
-ghost use Rattle.std.specs.Prelude.{◌≡◌, map, IfOk};
+ghost use Rattle.std.specs.Prelude.{◌≡◌, ℕ};
 ghost use Rattle.go_typed.specs.Views.{view, views, label_view, sort_view};
 ghost use Rattle.clone_window.specs.Masses as specs;
-ghost use Rattle.clone_window.specs.Masses.{mass, masses, each_mass};
+ghost use Rattle.clone_window.specs.Masses.{mass, masses};
 ghost use Rattle.clone_window.specs.Caps.{capped};
+ghost use Rattle.clone_window.specs.Weights.{mass_at};
 
 use crate::outline::{is_expression, outline_of};
 use go_typed::form::Form;
 use go_typed::node::TypedNode;
 use go_typed::sort::{Label, Sort};
-use std::alloc::{AllocError, Global};
 
 fn is_constant(sort: &Sort) -> bool
     ensures { result ≡ specs.is_constant (sort_view sort.now) }
@@ -47,16 +47,24 @@ fn weight(form: Form) -> u32
     if outline_of(form).kind < 50 { 1 } else { 0 }
 }
 
+/// The mass of a node whose parts have this mass; it ends at the last number.
+pub fn mass_over(inside: bool, form: Form, label: &Label, parts: u32) -> u32
+    ensures { (m : ℕ) → parts ≡ capped m → result ≡ capped (mass_at inside form (label_view label.now) m) }
+{
+    if is_hole(inside, form, label) {
+        return 1;
+    }
+    weight(form).saturating_add(parts)
+}
+
 /// The mass of a tree, which may stand inside a constant expression. It has no bound, so it ends at the last number.
 #[cycle(mass)]
 pub fn mass_of(inside: bool, node: &TypedNode) -> u32
     ensures { result ≡ capped (mass inside (view node.now)) }
 {
-    if is_hole(inside, node.form, &node.label) {
-        return 1;
-    }
     let within = is_inside(inside, node.form, &node.label);
-    weight(node.form).saturating_add(masses_of(within, &node.parts))
+    let parts = masses_of(within, &node.parts);
+    mass_over(inside, node.form, &node.label, parts)
 }
 
 /// The mass of a row of parts; it ends at the last number.
@@ -71,21 +79,4 @@ pub fn masses_of(inside: bool, parts: &[Option<TypedNode>]) -> u32
         }
     }
     sum
-}
-
-/// The masses of the parts that are there, which are statements, one by one.
-///
-/// # Errors
-///
-/// Want of memory.
-pub fn each_mass_of(alloc: Global, statements: &[Option<TypedNode>]) -> Result<Vec<u32>, AllocError>
-    ensures { IfOk result (λ v. v.items ≡ map capped (each_mass (views statements.now))) }
-{
-    let mut out = Vec::with_capacity(alloc, statements.len())?;
-    for statement in statements {
-        if let Some(node) = statement {
-            out.push(mass_of(false, node))?;
-        }
-    }
-    Ok(out)
 }

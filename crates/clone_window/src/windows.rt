@@ -1,16 +1,16 @@
 //! The windows of a function.
 
-ghost use Rattle.std.specs.Prelude.{◌≡◌, ◌+◌, ◌<◌, ◌≤◌, ◌^◌, ◌++◌, ◌∷◌, [], ◌&&◌, nat_le, List, ℕ, map, length, IfOk, OnOk, if◌then◌else◌};
+ghost use Rattle.std.specs.Prelude.{◌≡◌, ◌+◌, ◌<◌, ◌≤◌, ◌^◌, ◌++◌, ◌∷◌, [], ◌&&◌, nat_le, List, ℕ, map, length, take, drop, slice_get, Some, IfOk, OnOk, if◌then◌else◌};
 ghost use Rattle.go_typed.specs.Funcs.{size, sizes, tree_of};
 ghost use Rattle.go_typed.specs.Forms.{values_count};
 ghost use Rattle.go_typed.specs.Lists.{lists_among};
 ghost use Rattle.go_typed.specs.Views.{view, views};
 ghost use Rattle.clone_window.specs.Caps.{capped};
-ghost use Rattle.clone_window.specs.Masses.{each_mass};
+ghost use Rattle.clone_window.specs.Weights.{row_masses, rows, weights, weights_among};
 ghost use Rattle.clone_window.specs.Windows.{list_count, windows, windows_at, windows_from, windows_in, windows_among, windows_along};
 
 use crate::bounds::Bounds;
-use crate::mass::each_mass_of;
+use crate::weighing::{row_at, weights_of};
 use go_base::Memory;
 use go_typed::form::Form;
 use go_typed::func::TypedFunc;
@@ -22,7 +22,7 @@ use std::alloc::{AllocError, Global};
 const MOST: usize = 32;
 
 /// The windows of a function: each run of `min` to 32 adjoining statements of one statement list whose mass is at least `mass`,
-/// by their first statements and then by their last ones.
+/// by their first statements and then by their last ones. Each node is looked at twice, and each statement 32 times.
 ///
 /// # Errors
 ///
@@ -38,58 +38,60 @@ pub fn windows_of(alloc: Global, f: &TypedFunc, min: u32, mass: u32) -> Result<V
         fewest: min,
         least: mass,
     };
+    let weights = weights_of(alloc, f.root())?;
     let mut out = Vec::new(alloc);
-    push_windows_in(alloc, bounds, f.number(), 0, f.root(), &mut out)?;
+    push_windows_in(bounds, f.number(), 0, f.root(), &weights, &mut out)?;
     Ok(out)
 }
 
 /// Puts the windows in a tree, whose first statement list has the number `next`, behind the others, and tells the number of the
-/// statement list behind the tree.
+/// statement list behind the tree. The table has the masses of the statements of each list.
 #[cycle(windows)]
 fn push_windows_in(
-    alloc: Global,
     bounds: Bounds,
     func: u32,
     next: u32,
     node: &TypedNode,
+    table: &[Vec<u32>],
     out: &mut Vec<Window>,
 ) -> Result<u32, AllocError>
     requires some { 1 ≤ bounds.fewest }
     requires room { next + size (view node.now) < 2 ^ 32 }
+    requires table { take (length (weights (view node.now))) (drop next (rows table.now)) ≡ weights (view node.now) }
     ensures number { IfOk result (λ n. n ≡ next + list_count (view node.now)) }
     ensures windows { OnOk result (out.new.items ≡ out.old.items ++ windows_in bounds func next (view node.now)) }
 {
     if node.form.is_statement_list() {
-        let masses = each_mass_of(alloc, &node.parts)?;
         let list = ListPlace {
             number: next,
             ahead: ahead_of_statements(node.form),
         };
-        push_windows_along(alloc, bounds, func, list, &masses, &node.parts, out)
+        push_windows_along(bounds, func, list, &node.parts, table, out)
     } else {
-        push_windows_among(alloc, bounds, func, next, &node.parts, out)
+        push_windows_among(bounds, func, next, &node.parts, table, out)
     }
 }
 
 /// The same for the parts of a node that is no statement list.
 #[cycle(windows)]
 fn push_windows_among(
-    alloc: Global,
     bounds: Bounds,
     func: u32,
     next: u32,
     parts: &[Option<TypedNode>],
+    table: &[Vec<u32>],
     out: &mut Vec<Window>,
 ) -> Result<u32, AllocError>
     requires some { 1 ≤ bounds.fewest }
     requires room { next + sizes (views parts.now) < 2 ^ 32 }
+    requires table { take (length (weights_among (views parts.now))) (drop next (rows table.now)) ≡ weights_among (views parts.now) }
     ensures number { IfOk result (λ n. n ≡ next + length (lists_among (views parts.now))) }
     ensures windows { OnOk result (out.new.items ≡ out.old.items ++ windows_among bounds func next (views parts.now)) }
 {
     let mut next = next;
     for part in parts {
         if let Some(node) = part {
-            next = push_windows_in(alloc, bounds, func, next, node, out)?;
+            next = push_windows_in(bounds, func, next, node, table, out)?;
         }
     }
     Ok(next)
@@ -102,30 +104,31 @@ struct ListPlace {
     ahead: u32,
 }
 
-/// The same for the parts of a statement list, from their masses.
+/// The same for the parts of a statement list, whose masses are in the row of its number.
 #[cycle(windows)]
 fn push_windows_along(
-    alloc: Global,
     bounds: Bounds,
     func: u32,
     list: ListPlace,
-    masses: &[u32],
     parts: &[Option<TypedNode>],
+    table: &[Vec<u32>],
     out: &mut Vec<Window>,
 ) -> Result<u32, AllocError>
     requires some { 1 ≤ bounds.fewest }
     requires room { list.number + 1 + sizes (views parts.now) < 2 ^ 32 }
-    requires masses { masses.now ≡ map capped (each_mass (views parts.now)) }
+    requires row { slice_get (rows table.now) list.number ≡ Some (row_masses (views parts.now)) }
+    requires table { take (length (weights_among (views parts.now))) (drop (list.number + 1) (rows table.now)) ≡ weights_among (views parts.now) }
     ensures number { IfOk result (λ n. n ≡ list.number + 1 + length (lists_among (views parts.now))) }
     ensures windows { OnOk result (out.new.items
         ≡ out.old.items ++ windows_along bounds func list.number list.ahead (list.number + 1) 0 (views parts.now)) }
 {
+    let masses = row_at(table, list.number);
     let mut next = list.number + 1;
     let mut index: u32 = 0;
     for part in parts {
         if let Some(node) = part {
             push_windows_from(bounds, func, list, index, &masses[index as usize..], out)?;
-            next = push_windows_in(alloc, bounds, func, next, node, out)?;
+            next = push_windows_in(bounds, func, next, node, table, out)?;
             index += 1;
         }
     }

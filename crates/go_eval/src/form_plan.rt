@@ -12,6 +12,7 @@ ghost use Rattle.go_types.specs.Relations.{Rights};
 ghost use Rattle.go_typed.specs.Trees.{sort_mapped};
 ghost use Rattle.go_typed.specs.Views.{sort_view};
 ghost use Rattle.go_eval.specs.Views.{type_in, plan_view, is_for as for_loop};
+ghost use Rattle.go_eval.specs.Known.{KnownPlan};
 
 use crate::groups::{Group, group_of};
 use crate::parts::{calls_at, default_at, group_at, is_there, part, sort_type, type_at};
@@ -26,22 +27,25 @@ use go_types::{TypeId, Types};
 
 fn step(types: &Types, step: Step, parts: &[Option<TypedNode>]) -> Plan
     requires { AllKnown (length types.now.shapes) parts.now }
-    ensures { (s : sort_of TypeTree) → plan_view (rights_of types.now) (type_of types.now.shapes) s (all_seen types.now parts.now) result
+    ensures plan { (s : sort_of TypeTree) → plan_view (rights_of types.now) (type_of types.now.shapes) s (all_seen types.now parts.now) result
         ≡ plans.Once (plans.StepBy (planning.step_operation step (planning.shape_at (rights_of types.now) (all_seen types.now parts.now) 0))) }
+    ensures known { KnownPlan (length types.now.shapes) result }
 {
     Plan::StepBy(tables::step_operation(step, group_at(types, parts, 0)))
 }
 
 fn operate(types: &Types, operator: Arithmetic, parts: &[Option<TypedNode>]) -> Plan
     requires { AllKnown (length types.now.shapes) parts.now }
-    ensures { (s : sort_of TypeTree) → plan_view (rights_of types.now) (type_of types.now.shapes) s (all_seen types.now parts.now) result
+    ensures plan { (s : sort_of TypeTree) → plan_view (rights_of types.now) (type_of types.now.shapes) s (all_seen types.now parts.now) result
         ≡ plans.Once (plans.OperateBy (planning.operation operator (planning.shape_at (rights_of types.now) (all_seen types.now parts.now) 0))) }
+    ensures known { KnownPlan (length types.now.shapes) result }
 {
     Plan::OperateBy(tables::operation(operator, group_at(types, parts, 0)))
 }
 
 fn specified(names: u32, parts: &[Option<TypedNode>]) -> Plan
-    ensures { (t : Table) (s : sort_of TypeTree) → plan_view (rights_of t) (type_of t.shapes) s (all_seen t parts.now) result ≡ plans.Once (planning.specified_plan (rights_of t) names (all_seen t parts.now)) }
+    ensures plan { (t : Table) (s : sort_of TypeTree) → plan_view (rights_of t) (type_of t.shapes) s (all_seen t parts.now) result ≡ plans.Once (planning.specified_plan (rights_of t) names (all_seen t parts.now)) }
+    ensures known { (n : ℕ) → AllKnown n parts.now → KnownPlan n result }
 {
     if is_there(parts, names as usize + 1) {
         Plan::AssignTo(names)
@@ -52,8 +56,9 @@ fn specified(names: u32, parts: &[Option<TypedNode>]) -> Plan
 
 fn range(types: &Types, targets: u32, parts: &[Option<TypedNode>]) -> Plan
     requires { AllKnown (length types.now.shapes) parts.now }
-    ensures { (s : sort_of TypeTree) → plan_view (rights_of types.now) (type_of types.now.shapes) s (all_seen types.now parts.now) result
+    ensures plan { (s : sort_of TypeTree) → plan_view (rights_of types.now) (type_of types.now.shapes) s (all_seen types.now parts.now) result
         ≡ plans.Once (planning.form_plan (rights_of types.now) (form.Range false targets) boolean (all_seen types.now parts.now)) }
+    ensures known { KnownPlan (length types.now.shapes) result }
 {
     let operand = targets as usize;
     let items = tables::items(
@@ -66,24 +71,27 @@ fn range(types: &Types, targets: u32, parts: &[Option<TypedNode>]) -> Plan
 
 fn index(types: &Types, parts: &[Option<TypedNode>]) -> Plan
     requires { AllKnown (length types.now.shapes) parts.now }
-    ensures { (s : sort_of TypeTree) → plan_view (rights_of types.now) (type_of types.now.shapes) s (all_seen types.now parts.now) result
+    ensures plan { (s : sort_of TypeTree) → plan_view (rights_of types.now) (type_of types.now.shapes) s (all_seen types.now parts.now) result
         ≡ plans.Once (planning.index_plan (planning.shape_at (rights_of types.now) (all_seen types.now parts.now) 0)) }
+    ensures known { KnownPlan (length types.now.shapes) result }
 {
     tables::index(group_at(types, parts, 0))
 }
 
 fn unary(types: &Types, sign: Sign, parts: &[Option<TypedNode>]) -> Plan
     requires { AllKnown (length types.now.shapes) parts.now }
-    ensures { (s : sort_of TypeTree) → plan_view (rights_of types.now) (type_of types.now.shapes) s (all_seen types.now parts.now) result
+    ensures plan { (s : sort_of TypeTree) → plan_view (rights_of types.now) (type_of types.now.shapes) s (all_seen types.now parts.now) result
         ≡ plans.Once (plans.Perform (planning.unary_operation sign (planning.shape_at (rights_of types.now) (all_seen types.now parts.now) 0))) }
+    ensures known { KnownPlan (length types.now.shapes) result }
 {
     Plan::Perform(tables::unary(sign, group_at(types, parts, 0)))
 }
 
 fn binary(types: &Types, operator: Operator, parts: &[Option<TypedNode>]) -> Plan
     requires { AllKnown (length types.now.shapes) parts.now }
-    ensures { (s : sort_of TypeTree) → plan_view (rights_of types.now) (type_of types.now.shapes) s (all_seen types.now parts.now) result
+    ensures plan { (s : sort_of TypeTree) → plan_view (rights_of types.now) (type_of types.now.shapes) s (all_seen types.now parts.now) result
         ≡ plans.Once (planning.binary_plan operator (planning.shape_at (rights_of types.now) (all_seen types.now parts.now) 0)) }
+    ensures known { KnownPlan (length types.now.shapes) result }
 {
     tables::binary(operator, group_at(types, parts, 0))
 }
@@ -91,16 +99,18 @@ fn binary(types: &Types, operator: Operator, parts: &[Option<TypedNode>]) -> Pla
 fn conversion(types: &Types, ty: Option<TypeId>, parts: &[Option<TypedNode>]) -> Plan
     requires ty { IfSome ty (λ a. a < length types.now.shapes) }
     requires parts { AllKnown (length types.now.shapes) parts.now }
-    ensures { (s : sort_of TypeTree) → plan_view (rights_of types.now) (type_of types.now.shapes) s (all_seen types.now parts.now) result
+    ensures plan { (s : sort_of TypeTree) → plan_view (rights_of types.now) (type_of types.now.shapes) s (all_seen types.now parts.now) result
         ≡ plans.Once (plans.Perform (planning.conversion (planning.shape_of (rights_of types.now) (type_in (type_of types.now.shapes) ty)) (planning.shape_at (rights_of types.now) (all_seen types.now parts.now) 1))) }
+    ensures known { KnownPlan (length types.now.shapes) result }
 {
     Plan::Perform(tables::conversion(group_of(types, ty), group_at(types, parts, 1)))
 }
 
 fn composite(types: &Types, ty: Option<TypeId>) -> Plan
     requires { IfSome ty (λ a. a < length types.now.shapes) }
-    ensures { (s : sort_of TypeTree) (ps : Typeds TypeTree) → plan_view (rights_of types.now) (type_of types.now.shapes) s ps result
+    ensures plan { (s : sort_of TypeTree) (ps : Typeds TypeTree) → plan_view (rights_of types.now) (type_of types.now.shapes) s ps result
         ≡ plans.Once (planning.composite_plan (rights_of types.now) (type_in (type_of types.now.shapes) ty) (planning.shape_of (rights_of types.now) (type_in (type_of types.now.shapes) ty)) ps) }
+    ensures known { KnownPlan (length types.now.shapes) result }
 {
     match group_of(types, ty) {
         Group::Slice { .. } => Plan::Perform(Operation::Gather),
@@ -110,8 +120,9 @@ fn composite(types: &Types, ty: Option<TypeId>) -> Plan
 
 fn builtin(types: &Types, name: Predeclared, parts: &[Option<TypedNode>]) -> Plan
     requires { AllKnown (length types.now.shapes) parts.now }
-    ensures { (s : sort_of TypeTree) → plan_view (rights_of types.now) (type_of types.now.shapes) s (all_seen types.now parts.now) result
+    ensures plan { (s : sort_of TypeTree) → plan_view (rights_of types.now) (type_of types.now.shapes) s (all_seen types.now parts.now) result
         ≡ plans.Once (planning.builtin_plan (rights_of types.now) name (all_seen types.now parts.now)) }
+    ensures known { KnownPlan (length types.now.shapes) result }
 {
     match name {
         Predeclared::Len => Plan::Perform(Operation::Length),
@@ -129,7 +140,8 @@ fn builtin(types: &Types, name: Predeclared, parts: &[Option<TypedNode>]) -> Pla
 }
 
 fn object(referent: Referent, ty: Option<TypeId>) -> Plan
-    ensures { (rights : Rights) (f : ℕ → TypeTree) (s : sort_of TypeTree) (ps : Typeds TypeTree) → plan_view rights f s ps result ≡ plans.Once (planning.object_plan rights referent (type_in f ty)) }
+    ensures plan { (rights : Rights) (f : ℕ → TypeTree) (s : sort_of TypeTree) (ps : Typeds TypeTree) → plan_view rights f s ps result ≡ plans.Once (planning.object_plan rights referent (type_in f ty)) }
+    ensures known { (n : ℕ) → IfSome ty (λ a. a < n) → KnownPlan n result }
 {
     match referent {
         Referent::Variable(number) => Plan::Variable(number),
@@ -142,8 +154,9 @@ fn object(referent: Referent, ty: Option<TypeId>) -> Plan
 /// A call of what has this sort.
 fn call_of(types: &Types, callee: &Sort, parts: &[Option<TypedNode>]) -> Plan
     requires { AllKnown (length types.now.shapes) parts.now }
-    ensures { (s : sort_of TypeTree) → plan_view (rights_of types.now) (type_of types.now.shapes) s (all_seen types.now parts.now) result
+    ensures plan { (s : sort_of TypeTree) → plan_view (rights_of types.now) (type_of types.now.shapes) s (all_seen types.now parts.now) result
         ≡ plans.Once (planning.call_plan (rights_of types.now) (sort_seen types.now callee.now) (all_seen types.now parts.now)) }
+    ensures known { KnownPlan (length types.now.shapes) result }
 {
     match callee {
         Sort::Println => Plan::Perform(Operation::Print),
@@ -154,8 +167,9 @@ fn call_of(types: &Types, callee: &Sort, parts: &[Option<TypedNode>]) -> Plan
 
 fn call(types: &Types, parts: &[Option<TypedNode>]) -> Plan
     requires { AllKnown (length types.now.shapes) parts.now }
-    ensures { (s : sort_of TypeTree) → plan_view (rights_of types.now) (type_of types.now.shapes) s (all_seen types.now parts.now) result
+    ensures plan { (s : sort_of TypeTree) → plan_view (rights_of types.now) (type_of types.now.shapes) s (all_seen types.now parts.now) result
         ≡ plans.Once (planning.form_plan (rights_of types.now) form.Call boolean (all_seen types.now parts.now)) }
+    ensures known { KnownPlan (length types.now.shapes) result }
 {
     match part(parts, 0) {
         Some(callee) => call_of(types, &callee.label.sort, parts),
@@ -167,8 +181,9 @@ fn call(types: &Types, parts: &[Option<TypedNode>]) -> Plan
 fn form_plan(types: &Types, form: Form, ty: Option<TypeId>, parts: &[Option<TypedNode>]) -> Plan
     requires ty { IfSome ty (λ a. a < length types.now.shapes) }
     requires parts { AllKnown (length types.now.shapes) parts.now }
-    ensures { (s : sort_of TypeTree) → plan_view (rights_of types.now) (type_of types.now.shapes) s (all_seen types.now parts.now) result
+    ensures plan { (s : sort_of TypeTree) → plan_view (rights_of types.now) (type_of types.now.shapes) s (all_seen types.now parts.now) result
         ≡ plans.Once (planning.form_plan (rights_of types.now) form (type_in (type_of types.now.shapes) ty) (all_seen types.now parts.now)) }
+    ensures known { KnownPlan (length types.now.shapes) result }
 {
     match form {
         Form::Function | Form::Variables | Form::Block => Plan::Sequence,
@@ -222,8 +237,9 @@ fn is_for(form: Form) -> bool
 
 /// The plan, or that of a constant.
 fn of_sort(sort: &Sort, plan: Plan) -> Plan
-    ensures { (rights : Rights) (f : ℕ → TypeTree) (ps : Typeds TypeTree) (p : plans.Plan) → plan_view rights f (sort_mapped f (sort_view sort.now)) ps plan ≡ plans.Once p →
+    ensures plan { (rights : Rights) (f : ℕ → TypeTree) (ps : Typeds TypeTree) (p : plans.Plan) → plan_view rights f (sort_mapped f (sort_view sort.now)) ps plan ≡ plans.Once p →
         plan_view rights f (sort_mapped f (sort_view sort.now)) ps result ≡ plans.Once (planning.sort_plan (sort_mapped f (sort_view sort.now)) p) }
+    ensures known { (n : ℕ) → KnownPlan n plan → KnownPlan n result }
 {
     match sort {
         Sort::Constant(..) | Sort::OpenConstant(_) => Plan::Constant,
@@ -235,8 +251,9 @@ fn of_sort(sort: &Sort, plan: Plan) -> Plan
 pub fn plan_of(types: &Types, form: Form, label: &Label, parts: &[Option<TypedNode>]) -> Plan
     requires label { KnownSort (length types.now.shapes) label.now.sort }
     requires parts { AllKnown (length types.now.shapes) parts.now }
-    ensures { plan_view (rights_of types.now) (type_of types.now.shapes) (sort_seen types.now label.now.sort) (all_seen types.now parts.now) result
+    ensures plan { plan_view (rights_of types.now) (type_of types.now.shapes) (sort_seen types.now label.now.sort) (all_seen types.now parts.now) result
         ≡ planning.plan (rights_of types.now) form (label_mapped (type_of types.now.shapes) (label_view label.now)) (all_seen types.now parts.now) }
+    ensures known { KnownPlan (length types.now.shapes) result }
 {
     if is_for(form) {
         return Plan::Loop(is_there(parts, 1));

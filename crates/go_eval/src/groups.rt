@@ -3,6 +3,7 @@
 ghost use Rattle.std.specs.Prelude.{◌≡◌, ◌<◌, IfSome, length};
 ghost use Rattle.go_types.specs.Tables.{type_of, rights_of};
 ghost use Rattle.go_meaning.specs.Planning.{shape_of};
+ghost use Rattle.go_eval.specs.Known.{KnownGroup};
 ghost use Rattle.go_eval.specs.Views.{type_in, IsGroup};
 
 use go_ints::Kind;
@@ -25,7 +26,8 @@ pub enum Group {
 /// side, counts as a boolean type.
 pub fn group_of(types: &Types, ty: Option<TypeId>) -> Group
     requires { IfSome ty (λ a. a < length types.now.shapes) }
-    ensures { IsGroup (type_of types.now.shapes) result (shape_of (rights_of types.now) (type_in (type_of types.now.shapes) ty)) }
+    ensures group { IsGroup (type_of types.now.shapes) result (shape_of (rights_of types.now) (type_in (type_of types.now.shapes) ty)) }
+    ensures known { KnownGroup (length types.now.shapes) result }
 {
     let Some(a) = ty else {
         return Group::Boolean;

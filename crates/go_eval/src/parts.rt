@@ -9,6 +9,7 @@ ghost use Rattle.go_typed.specs.Views.{view, views, sort_view};
 ghost use Rattle.go_meaning.specs.Planning as planning;
 ghost use Rattle.go_types.specs.Tables.{type_of, rights_of};
 ghost use Rattle.go_typed.specs.Views.{AllKnown, all_seen};
+ghost use Rattle.go_eval.specs.Known.{KnownGroup};
 ghost use Rattle.go_eval.specs.Views.{type_in, IsGroup, is_default_there};
 
 use crate::groups::{Group, group_of};
@@ -97,7 +98,8 @@ pub fn default_at(parts: &[Option<TypedNode>]) -> usize
 /// The group of the type of a part.
 pub fn group_at(types: &Types, parts: &[Option<TypedNode>], number: usize) -> Group
     requires { AllKnown (length types.now.shapes) parts.now }
-    ensures { IsGroup (type_of types.now.shapes) result (planning.shape_at (rights_of types.now) (all_seen types.now parts.now) number) }
+    ensures group { IsGroup (type_of types.now.shapes) result (planning.shape_at (rights_of types.now) (all_seen types.now parts.now) number) }
+    ensures known { KnownGroup (length types.now.shapes) result }
 {
     group_of(types, type_at(parts, number))
 }

@@ -1,11 +1,12 @@
 //! The plans of operators, by groups of types.
 
-ghost use Rattle.std.specs.Prelude.{◌≡◌, ℕ};
+ghost use Rattle.std.specs.Prelude.{◌≡◌, ◌<◌, ℕ, IfSome};
 ghost use Rattle.go_types.specs.Trees.{TypeTree};
 ghost use Rattle.go_types.specs.Relations.{Rights};
 ghost use Rattle.go_typed.specs.Trees.{Sort, Typeds};
 ghost use Rattle.go_meaning.specs.Plans as plans;
 ghost use Rattle.go_meaning.specs.Planning as planning;
+ghost use Rattle.go_eval.specs.Known.{KnownGroup};
 ghost use Rattle.go_eval.specs.Views.{type_in, member, items_view, operation_view, plan_view};
 
 use crate::groups::Group;
@@ -107,7 +108,8 @@ pub fn index(group: Group) -> Plan
 
 /// The type of an element.
 pub fn element(group: Group) -> Option<TypeId>
-    ensures { (f : ℕ → TypeTree) → type_in f result ≡ planning.element_of (member f group) }
+    ensures ty { (f : ℕ → TypeTree) → type_in f result ≡ planning.element_of (member f group) }
+    ensures known { (n : ℕ) → KnownGroup n group → IfSome result (λ a. a < n) }
 {
     match group {
         Group::Array { elem, .. } | Group::Slice { elem } => Some(elem),

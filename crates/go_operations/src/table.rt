@@ -4,10 +4,11 @@ ghost use Rattle.std.specs.Prelude.{◌≡◌, [], ◌∷◌, length};
 ghost use Rattle.go_types.specs.Tables.{type_of, rights_of};
 ghost use Rattle.go_typed.specs.Views.{all_seen};
 ghost use Rattle.go_meaning.specs.Operations.{Print, perform};
+ghost use Rattle.go_eval.specs.Known.{KnownOperation};
 ghost use Rattle.go_eval.specs.Views.{operation_view};
 ghost use Rattle.go_values.specs.Views.{views};
 ghost use Rattle.go_values.specs.Worlds.{world_view};
-ghost use Rattle.go_operations.specs.Performing.{IsPerformed, KnownOperation};
+ghost use Rattle.go_operations.specs.Performing.{IsPerformed};
 
 use crate::builds::build;
 use crate::cuts::slice_expression;

@@ -86,7 +86,7 @@ pub fn operand<'a>(operands: &'a [Value], number: usize, nil: &'a Value) -> &'a 
 }
 
 /// The operands behind the first one.
-fn rest(operands: &[Value]) -> &[Value]
+pub fn rest(operands: &[Value]) -> &[Value]
     ensures { result.now ≡ drop 1 operands.now }
 {
     if operands.is_empty() {

@@ -3,7 +3,7 @@ use Rattle.std.specs.Prelude.{min}
 use Rattle.go_typed.specs.declared.node.TypedNode.{out-TypedNode}
 use Rattle.go_typed.specs.Forms.{values_count}
 use Rattle.go_typed.specs.Funcs.{is_full}
-use Rattle.go_typed.specs.Lists.{present, statements_of}
+use Rattle.go_typed.specs.Lists.{present}
 use Rattle.go_typed.specs.Trees.{form_of, parts_of}
 use Rattle.go_typed.specs.Views.{view, views}
 use Rattle.clone_window.specs.Windows.{row_of}

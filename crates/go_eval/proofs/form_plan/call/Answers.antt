@@ -6,12 +6,12 @@ use Rattle.go_meaning.specs.Planning.{call_plan}
 use Rattle.go_eval.proofs.Seen.{sort_some, sort_none}
 use Rattle.go_eval.proofs.form_plan.call.Goals as goal
 
-pub returns-in-Some : goal.returns-in-Some
-returns-in-Some c s =
+pub returns-in-Some-clause-plan : goal.returns-in-Some-clause-plan
+returns-in-Some-clause-plan c s =
     let t = c.args.types.now in
-    c.call_of.ensures s ∙ ap (λ x. Once (call_plan (rights_of t) x (all_seen t c.args.parts.now))) (sort_some (type_of t.shapes) c.args.parts.now 0 c.in-Some.callee.now c.in-Some.ensures)
+    c.call_of.ensures.plan s ∙ ap (λ x. Once (call_plan (rights_of t) x (all_seen t c.args.parts.now))) (sort_some (type_of t.shapes) c.args.parts.now 0 c.in-Some.callee.now c.in-Some.ensures)
 
-pub returns-in-None : goal.returns-in-None
-returns-in-None c s =
+pub returns-in-None-clause-plan : goal.returns-in-None-clause-plan
+returns-in-None-clause-plan c s =
     let t = c.args.types.now in
     ap (λ x. Once (call_plan (rights_of t) x (all_seen t c.args.parts.now))) (sort_none (type_of t.shapes) c.args.parts.now 0 c.in-None.ensures)

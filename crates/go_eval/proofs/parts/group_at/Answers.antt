@@ -4,5 +4,5 @@ use Rattle.go_meaning.specs.Planning.{shape_of}
 use Rattle.go_eval.specs.Views.{IsGroup}
 use Rattle.go_eval.proofs.parts.group_at.Goals as goal
 
-pub returns : goal.returns
-returns c = let t = c.args.types.now in subst (λ u. IsGroup (type_of t.shapes) c.group_of.result (shape_of (rights_of t) u)) (c.type_at.ensures.is (type_of t.shapes)) c.group_of.ensures
+pub returns-clause-group : goal.returns-clause-group
+returns-clause-group c = let t = c.args.types.now in subst (λ u. IsGroup (type_of t.shapes) c.group_of.result (shape_of (rights_of t) u)) (c.type_at.ensures.is (type_of t.shapes)) c.group_of.ensures.group

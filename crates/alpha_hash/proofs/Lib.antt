@@ -1,0 +1,4 @@
+pub mod Terms
+pub mod Texts
+pub mod Alike
+pub mod Windows

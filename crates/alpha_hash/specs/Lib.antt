@@ -1,0 +1,7 @@
+pub mod Naming
+pub mod Words
+pub mod Numbers
+pub mod Hash
+pub mod Alike
+pub mod Packages
+pub mod Examples

@@ -1,0 +1,4 @@
+pub mod Contexts
+pub mod Expressions
+pub mod Final
+pub mod Examples

@@ -1,0 +1,6 @@
+pub mod Views
+pub mod Assigned
+pub mod Judged
+pub mod States
+pub mod Reads
+pub mod Procedures

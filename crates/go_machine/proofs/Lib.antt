@@ -1,0 +1,13 @@
+pub mod Rests
+pub mod Tasks
+pub mod Values
+pub mod Going
+pub mod Asking
+pub mod Looping
+pub mod Again
+pub mod Performed
+pub mod Gathering
+pub mod Stepping
+pub mod Performing
+pub mod Writing
+pub mod Begins

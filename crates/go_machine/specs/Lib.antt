@@ -1,0 +1,4 @@
+pub mod Rests
+pub mod Tasks
+pub mod Engines
+pub mod Written

@@ -1,0 +1,16 @@
+//! The machine that runs typed packages: a list of tasks in place of recursion, so that neither calls nor turns of loops nor
+//! the depth of trees take room on the program's own stack.
+//!
+//! A task is a part of what is left to do, and what all of them come to is a rest: a computation of the meaning, by the values
+//! that were given so far (`specs/Tasks.antt`). Each step is one equation, that the tasks before it and those behind it come
+//! to the same.
+#![tactic(auto)]
+
+mod asks;
+pub mod engine;
+mod loops;
+mod parts;
+mod start;
+mod steps;
+mod stores;
+pub mod task;

@@ -1,0 +1,192 @@
+//! Steps of parts, one after the other, and of what is done to all that they give.
+
+ghost use Rattle.std.specs.Prelude.{length};
+ghost use Rattle.go_meaning.specs.Operations.{perform};
+ghost use Rattle.go_values.specs.Views.{views};
+ghost use Rattle.go_values.specs.Worlds.{world_view};
+ghost use Rattle.go_operations.specs.Performing.{IsPerformed};
+ghost use Rattle.go_machine.specs.Tasks.{KnownDeed, deed_view};
+
+use crate::engine::Engine;
+use crate::start::count;
+use crate::task::{Deed, What};
+use go_operations::perform;
+use go_runs::exit::Exit;
+use go_runs::places::operand;
+use go_typed::checked::Checked;
+use go_typed::node::TypedNode;
+use go_values::{Stop, Value, World, element, field};
+use std::alloc::Global;
+
+/// What a deed at a node gives of its operands, and what it does to the world.
+fn perform_deed(
+    alloc: Global,
+    checked: &Checked,
+    node: &TypedNode,
+    deed: Deed,
+    operands: Vec<Value>,
+    world: &mut World,
+) -> Result<Option<Value>, Stop>
+    requires { KnownDeed (length checked.now.types.shapes) deed }
+    ensures { IsPerformed result (perform (deed_view checked.now node.now deed) (views operands.items) (world_view world.old)) (world_view world.old) (world_view world.new) }
+{
+    let nil = Value::NilFunction;
+    match deed {
+        Deed::Field(number) => {
+            let value = field(alloc, number as usize, operand(&operands, 0, &nil))?;
+            Ok(Some(value))
+        }
+        Deed::Element(length) => {
+            let array = operand(&operands, 0, &nil);
+            let value = element(alloc, length as usize, array, operand(&operands, 1, &nil))?;
+            Ok(Some(value))
+        }
+        Deed::Cell => {
+            let slice = operand(&operands, 0, &nil);
+            let value = world.cell(alloc, slice, operand(&operands, 1, &nil))?;
+            Ok(Some(value))
+        }
+        Deed::Planned(operation) => perform(
+            alloc,
+            checked.types(),
+            &node.parts,
+            operation,
+            operands,
+            world,
+        ),
+    }
+}
+
+impl<'a> Engine<'a> {
+    ghost use Rattle.std.specs.Prelude.{◌≡◌, length, take};
+    ghost use Rattle.go_typed.specs.Packages.{PackageView};
+    ghost use Rattle.go_typed.specs.Views.{Known};
+    ghost use Rattle.go_values.specs.Views.{views};
+    ghost use Rattle.go_machine.specs.declared.task.What.TheVariants as what;
+    ghost use Rattle.go_machine.specs.Tasks.{KnownDeed};
+    ghost use Rattle.go_machine.specs.Engines.{Goes, works};
+
+    /// The base, or the number of all values where there aren't so many.
+    fn lower(&self, base: usize) -> usize
+        ensures { result ≡ length (take base (views self.now.values.items)) }
+    {
+        let top = self.top();
+        if base < top { base } else { top }
+    }
+
+    /// The values of the parts from one on.
+    pub(crate) fn next_value(
+        &mut self,
+        node: &'a TypedNode,
+        base: usize,
+        next: usize,
+        end: usize,
+    ) -> Result<(), Exit>
+        ensures { (p : PackageView) → Known (length p.types.shapes) node.now → Goes p (works p node.now base (what.Values next end)) self.old result self.new }
+    {
+        if next >= end {
+            return Ok(());
+        }
+        if next >= count(node) {
+            return Ok(());
+        }
+        let low = self.lower(base);
+        let following = next + 1;
+        self.push(
+            node,
+            low,
+            What::Values {
+                next: following,
+                end,
+            },
+        )?;
+        self.ask(node, next)
+    }
+
+    /// The operands of the parts from one on.
+    pub(crate) fn next_find(
+        &mut self,
+        node: &'a TypedNode,
+        base: usize,
+        next: usize,
+        end: usize,
+    ) -> Result<(), Exit>
+        ensures { (p : PackageView) → Known (length p.types.shapes) node.now → Goes p (works p node.now base (what.Finds next end)) self.old result self.new }
+    {
+        if next >= end {
+            return Ok(());
+        }
+        if next >= count(node) {
+            return Ok(());
+        }
+        let low = self.lower(base);
+        let following = next + 1;
+        self.push(
+            node,
+            low,
+            What::Finds {
+                next: following,
+                end,
+            },
+        )?;
+        self.seek(node, next)
+    }
+
+    /// The tag of a switch, which is true where there is none (Go specification, "Expression switches").
+    pub(crate) fn tag(
+        &mut self,
+        node: &'a TypedNode,
+        base: usize,
+        tag: bool,
+        default: usize,
+    ) -> Result<(), Exit>
+        ensures { (p : PackageView) → Known (length p.types.shapes) node.now → Goes p (works p node.now base (what.Tag tag default)) self.old result self.new }
+    {
+        self.cut(base);
+        if tag {
+            self.lay_value(node, What::Clauses { next: 2, default }, 1)
+        } else {
+            self.lay_given(node, What::Clauses { next: 2, default }, Value::Truth(true))
+        }
+    }
+
+    /// The values of an assignment (Go specification, "Assignment statements").
+    pub(crate) fn assign(
+        &mut self,
+        node: &'a TypedNode,
+        base: usize,
+        targets: u32,
+    ) -> Result<(), Exit>
+        ensures { (p : PackageView) → Known (length p.types.shapes) node.now → Goes p (works p node.now base (what.Assign targets)) self.old result self.new }
+    {
+        let values = self.top();
+        self.push(node, base, What::Store { targets, values })?;
+        let next = targets as usize;
+        let end = count(node);
+        self.push(node, values, What::Values { next, end })?;
+        Ok(())
+    }
+
+    /// The deed on the operands.
+    pub(crate) fn perform(
+        &mut self,
+        alloc: Global,
+        checked: &Checked,
+        node: &'a TypedNode,
+        base: usize,
+        deed: Deed,
+    ) -> Result<(), Exit>
+        requires { KnownDeed (length checked.now.types.shapes) deed }
+        ensures { Goes checked.now (works checked.now node.now base (what.Perform deed)) self.old result self.new }
+    {
+        let operands = self.take(alloc, base)?;
+        let world = &mut self.machine.world;
+        match perform_deed(alloc, checked, node, deed, operands, world)? {
+            Some(value) => {
+                self.give(value)?;
+                Ok(())
+            }
+            None => Ok(()),
+        }
+    }
+}

@@ -1,0 +1,132 @@
+//! Assignments to places (Go specification, "Assignment statements").
+
+ghost use Rattle.std.specs.Prelude.{◌≡◌, ℕ, suc, IfOk, length};
+ghost use Rattle.go_typed.specs.Views.{AllKnown};
+ghost use Rattle.go_meaning.specs.Doings.{at};
+ghost use Rattle.go_values.specs.Views.{view, views};
+ghost use Rattle.go_runs.specs.Machines.{outcome};
+ghost use Rattle.go_runs.specs.Programs.{doings};
+ghost use Rattle.go_machine.specs.Written.{IsWritten};
+
+use go_base::Memory;
+use go_eval::parts::part;
+use go_runs::calls::put_at;
+use go_runs::exit::Exit;
+use go_runs::machine::Machine;
+use go_runs::places::{Place, as_place, in_array, load, operand, rest};
+use go_typed::checked::Checked;
+use go_typed::node::TypedNode;
+use go_values::{Value, with_element, with_field};
+use std::alloc::Global;
+
+/// How many operands a part has as a place.
+///
+/// # Errors
+///
+/// There are more than a number can tell.
+pub(crate) fn width(
+    checked: &Checked,
+    parts: &[Option<TypedNode>],
+    number: usize,
+) -> Result<usize, Memory>
+    requires { AllKnown (length checked.now.types.shapes) parts.now }
+    ensures { IfOk result (λ w. (n : ℕ) → w ≡ (at (doings checked.now n parts.now) number).width) }
+{
+    let Some(node) = part(parts, number) else {
+        return Ok(0);
+    };
+    match as_place(checked, node) {
+        Place::Local(_) => Ok(0),
+        Place::Name(_) => Ok(0),
+        Place::Variable(_) => Ok(0),
+        Place::Blank => Ok(0),
+        Place::Inner => {
+            let inner = width(checked, &node.parts, 0)?;
+            Ok(inner)
+        }
+        Place::Field(_) => {
+            let whole = width(checked, &node.parts, 0)?;
+            Ok(whole)
+        }
+        Place::Element(_) => {
+            let array = width(checked, &node.parts, 0)?;
+            one_more(array)
+        }
+        Place::Cell => Ok(2),
+        Place::Case(_) => Ok(0),
+        Place::Otherwise => Ok(0),
+        Place::Nothing => Ok(0),
+    }
+}
+
+/// One more than a number.
+fn one_more(number: usize) -> Result<usize, Memory>
+    ensures { IfOk result (λ n. n ≡ suc number) }
+{
+    match number.checked_add(1) {
+        Some(next) => Ok(next),
+        None => Err(Memory),
+    }
+}
+
+/// Assigns a value to the place that a part is, with these operands.
+///
+/// # Errors
+///
+/// The panic of an index; it is undecided where the part is no place; want of memory.
+pub(crate) fn store(
+    alloc: Global,
+    checked: &Checked,
+    parts: &[Option<TypedNode>],
+    number: usize,
+    operands: &[Value],
+    value: Value,
+    machine: &mut Machine,
+) -> Result<(), Exit>
+    requires { AllKnown (length checked.now.types.shapes) parts.now }
+    ensures is { (n d : ℕ) → IsWritten (outcome ((at (doings checked.now n parts.now) number).store (views operands.now) (view value)) d machine.old) result machine.new }
+    ensures turns { machine.new.turns ≡ machine.old.turns }
+{
+    let Some(node) = part(parts, number) else {
+        return Err(Exit::Undecided);
+    };
+    let nil = Value::NilFunction;
+    match as_place(checked, node) {
+        Place::Local(local) => {
+            put_at(&mut machine.frame, local as usize, value);
+            Ok(())
+        }
+        Place::Name(local) => {
+            put_at(&mut machine.frame, local as usize, value);
+            Ok(())
+        }
+        Place::Variable(variable) => {
+            machine.world.write_variable(variable as usize, value);
+            Ok(())
+        }
+        Place::Blank => Ok(()),
+        Place::Inner => store(alloc, checked, &node.parts, 0, operands, value, machine),
+        Place::Field(field) => {
+            let whole = load(alloc, checked, &node.parts, 0, operands, machine)?;
+            let other = with_field(alloc, field as usize, whole, value);
+            store(alloc, checked, &node.parts, 0, operands, other, machine)
+        }
+        Place::Element(length) => {
+            in_array(length, operands)?;
+            let array = rest(operands);
+            let whole = load(alloc, checked, &node.parts, 0, array, machine)?;
+            let other = with_element(alloc, whole, operand(operands, 0, &nil), value);
+            store(alloc, checked, &node.parts, 0, array, other, machine)
+        }
+        Place::Cell => {
+            let slice = operand(operands, 0, &nil);
+            machine
+                .world
+                .set_cell(slice, operand(operands, 1, &nil), value)?;
+            Ok(())
+        }
+        Place::Case(_) => Err(Exit::Undecided),
+        Place::Otherwise => Err(Exit::Undecided),
+        Place::Nothing => Err(Exit::Undecided),
+    }
+}

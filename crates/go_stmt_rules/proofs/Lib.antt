@@ -1,0 +1,4 @@
+pub mod Results
+pub mod Loops
+pub mod Fronts
+pub mod Steps

@@ -1,0 +1,4 @@
+pub mod Seen
+pub mod Told
+pub mod Ranges
+pub mod Firsts

@@ -1,0 +1,64 @@
+//! The parts of a statement that are there.
+ghost use Rattle.std.specs.Prelude.{◌≡◌, IfOk, length, map, take, drop};
+ghost use Rattle.std.specs.Option.{option_map};
+ghost use Rattle.go_typed.specs.Views.{seen, AllKnown};
+ghost use Rattle.go_rules.specs.Tables as tables;
+ghost use Rattle.go_call_rules.specs.Shown.{shown, AllShownKnown};
+
+use go_base::Memory;
+use go_typed::TypedNode;
+use go_types::Types;
+use std::alloc::Global;
+
+/// The parts that are there, in order.
+///
+/// # Errors
+///
+/// Want of memory.
+pub fn present<'a>(
+    alloc: Global,
+    types: &Types,
+    parts: &'a [Option<TypedNode>],
+) -> Result<Vec<&'a TypedNode>, Memory>
+    requires { AllKnown (length types.now.shapes) parts.now }
+    ensures nodes { IfOk result (λ ns. shown types.now ns.items ≡ tables.present (map (option_map (seen types.now)) parts.now)) }
+    ensures known { IfOk result (λ ns. AllShownKnown (length types.now.shapes) ns.items) }
+{
+    let mut nodes = Vec::new(alloc);
+    for part in parts {
+        let Some(part) = part else { continue };
+        nodes.push(part)?;
+    }
+    Ok(nodes)
+}
+
+/// The first nodes, of this number if there are so many.
+pub fn front<'a>(types: &Types, nodes: &'a [&'a TypedNode], count: u32) -> &'a [&'a TypedNode]
+    requires { AllShownKnown (length types.now.shapes) nodes.now }
+    ensures nodes { shown types.now result.now ≡ take count (shown types.now nodes.now) }
+    ensures known { AllShownKnown (length types.now.shapes) result.now }
+{
+    &nodes[..nodes.len().min(count as usize)]
+}
+
+/// The nodes behind the first ones of this number.
+pub fn behind<'a>(types: &Types, nodes: &'a [&'a TypedNode], count: u32) -> &'a [&'a TypedNode]
+    requires { AllShownKnown (length types.now.shapes) nodes.now }
+    ensures nodes { shown types.now result.now ≡ drop count (shown types.now nodes.now) }
+    ensures known { AllShownKnown (length types.now.shapes) result.now }
+{
+    &nodes[nodes.len().min(count as usize)..]
+}
+
+/// The parts behind the first ones of this number.
+pub fn parts_behind<'a>(
+    types: &Types,
+    parts: &'a [Option<TypedNode>],
+    count: usize,
+) -> &'a [Option<TypedNode>]
+    requires { AllKnown (length types.now.shapes) parts.now }
+    ensures parts { result.now ≡ drop count parts.now }
+    ensures known { AllKnown (length types.now.shapes) result.now }
+{
+    &parts[parts.len().min(count)..]
+}

@@ -1,0 +1,4 @@
+pub mod OverParts
+pub mod Results
+pub mod Rows
+pub mod SameNames
