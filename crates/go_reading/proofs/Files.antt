@@ -17,7 +17,8 @@ use Rattle.go_tokens.specs.Files.{IsLexing, IsFault, IsLaterFault}
 use Rattle.go_tokens.specs.Tokens.{TokenList, kinds}
 use Rattle.go_tree.specs.File.{FileTree}
 use Rattle.go_tree.specs.Views.{view}
-use Rattle.go_reading.specs.Model.{IsRead, AreRead, HaveNone, IsFirst, IsTreeFault, IsEncoded, IsTokens, IsTrees, IsReported, encoding, tokens, trees, failure_of}
+use Rattle.go_scopes.specs.Views.{failure_of}
+use Rattle.go_package.specs.Checked.{IsRead, AreRead, HaveNone, IsFirst, IsTreeFault, IsEncoded, IsTokens, IsTrees, IsReported, encoding, tokens, trees}
 use Rattle.go_reading.proofs.Each.{one_more}
 use Rattle.go_reading.specs.declared.error.CheckError.{CheckError}
 use Rattle.go_reading.specs.Reading.{check_refusal, IsLexed, IsLexedOr, Upto, AreLexed, IsParsed, AreParsed, IsUnparsed, IsUnlexed}

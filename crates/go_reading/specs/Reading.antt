@@ -13,7 +13,7 @@ use Rattle.go_tokens.specs.Tokens.{TokenList, kinds}
 use Rattle.go_tree.specs.Failures.{Failure}
 use Rattle.go_tree.specs.File.{FileTree}
 use Rattle.go_tree.specs.Views.{view}
-use Rattle.go_reading.specs.Model.{IsEncoded, IsTokens}
+use Rattle.go_package.specs.Checked.{IsEncoded, IsTokens}
 use Rattle.go_reading.specs.declared.error.CheckError.{CheckError}
 use Rattle.go_reading.specs.declared.error.CheckError.TheVariants as errors
 

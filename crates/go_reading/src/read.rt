@@ -5,7 +5,8 @@ ghost use Rattle.go_base.specs.Gives.{Meets};
 ghost use Rattle.go_base.specs.Package.{IsPackage};
 ghost use Rattle.go_base.specs.declared.bytes.FileText.{FileText as Text};
 ghost use Rattle.go_tokens.specs.Encoding.{IsEncodingFault};
-ghost use Rattle.go_reading.specs.Model.{AreRead, IsReported, failure_of};
+ghost use Rattle.go_scopes.specs.Views.{failure_of};
+ghost use Rattle.go_package.specs.Checked.{AreRead, IsReported};
 ghost use Rattle.go_reading.specs.Reading.{check_refusal, is_encoding, IsLexedOr, AreLexed, AreParsed, IsUnlexed, IsUnparsed};
 
 use crate::error::CheckError;

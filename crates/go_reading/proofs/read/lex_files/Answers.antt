@@ -4,7 +4,7 @@ use Rattle.go_base.specs.declared.bytes.FileText.{FileText}
 use Rattle.go_base.specs.declared.fault.Fault.{Fault}
 use Rattle.go_tokens.specs.Encoding.{IsEncodingFault}
 use Rattle.go_tokens.specs.Tokens.{TokenList}
-use Rattle.go_reading.specs.Model.{failure_of}
+use Rattle.go_scopes.specs.Views.{failure_of}
 use Rattle.go_base.specs.Gives.{Unless}
 use Rattle.go_reading.specs.Reading.{check_refusal, IsLexed, IsLexedOr, IsUnlexed}
 use Rattle.go_reading.proofs.Files.{NoneBefore, LexedSoFar, first_encoding, ended_later, none_more, lexed_more, later_more, stopped}
