@@ -186,7 +186,12 @@ fn same(one: Answer, other: Answer) -> bool {
 #[test]
 fn declarations(rt: HostRuntime) -> Result<(), Fail> {
     let rows = [
-        fault("const (\n\ta = iota\n\tb\n\tc int8 = iota + 126\n)", 12, 42, 52),
+        fault(
+            "const (\n\ta = iota\n\tb\n\tc int8 = iota + 126\n)",
+            12,
+            42,
+            52,
+        ),
         fault("var a = [2]int{1, 2, 3}", 14, 32, 33),
         fault("var b = []int{} == []int{}", 17, 19, 37),
         stands("var c = -1 << 3", "int"),

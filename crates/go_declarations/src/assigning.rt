@@ -179,12 +179,7 @@ fn unassigned(
 }
 
 /// A variable of this type, or of that of its value.
-fn value_assigned(
-    types: &Types,
-    basics: Basics,
-    of: Option<TypeId>,
-    value: &TypedNode,
-) -> Assigned
+fn value_assigned(types: &Types, basics: Basics, of: Option<TypeId>, value: &TypedNode) -> Assigned
     requires basics { AreBasics types.now basics }
     requires of { IfSome of (λ t. t < length types.now.shapes) }
     requires value { Known (length types.now.shapes) value.now }
@@ -195,7 +190,11 @@ fn value_assigned(
         Some(of) => Some(of),
         None => value_type(types, basics, sort_of(types, value)),
     };
-    outcome(types, variable(types, known), unassigned(types, basics, of, value))
+    outcome(
+        types,
+        variable(types, known),
+        unassigned(types, basics, of, value),
+    )
 }
 
 /// The types of the results of a function type.

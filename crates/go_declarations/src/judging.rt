@@ -26,10 +26,10 @@ use crate::assigning::{
 };
 use crate::specification::Specification;
 use go_base::Memory;
-use go_survey::{Survey, survey};
 use go_rules::fault::earlier;
 use go_rules::nodes::sort_of;
 use go_rules::{Basics, Hint, TypeFault};
+use go_survey::{Survey, survey};
 use go_tree::context::Entity;
 use go_tree::node::Node;
 use go_type_rules::Scope;
@@ -109,10 +109,8 @@ fn present_at<'a>(parts: &'a [Option<Node>], number: usize) -> Option<&'a Node>
 pub fn is_alone(specification: &Specification<'_>) -> bool
     ensures { result ≡ is_alone (specification_view specification.now) }
 {
-    matches!(
-        specification.entity,
-        Entity::Variable | Entity::Parameter
-    ) && count(specification.values) == 1
+    matches!(specification.entity, Entity::Variable | Entity::Parameter)
+        && count(specification.values) == 1
 }
 
 /// What the values of a specification are told.

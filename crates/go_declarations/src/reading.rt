@@ -1,7 +1,6 @@
 //! The specifications of the package block, read from the trees of its files.
 ghost use Rattle.std.specs.Prelude.{◌≡◌, ◌++◌, ◌∷◌, [], None, IfOk, OnOk, map};
 ghost use Rattle.std.specs.Option.{option_map};
-
 ghost use Rattle.go_tree.specs.Contexts.{entity_of};
 ghost use Rattle.go_tree.specs.Views.{view, views};
 ghost use Rattle.go_stmts.specs.Reading.{part_source};
@@ -206,9 +205,7 @@ fn push_group<'a>(
     let mut iota = 0;
     for part in parts {
         let Some(node) = part else { continue };
-        found.push(specification_of(
-            alloc, file, sort, iota, repeated, node,
-        )?)?;
+        found.push(specification_of(alloc, file, sort, iota, repeated, node)?)?;
         repeated = part_source(node.parts(), repeated);
         iota += 1;
     }

@@ -59,7 +59,15 @@ pub fn survey(
     let first = node.first();
     let last = node.last();
     let typed = survey_parts(alloc, types, scope, kind, hint, node.parts())?;
-    let one = build(alloc, types, scope, kind, hint, Place { first, last }, typed.parts)?;
+    let one = build(
+        alloc,
+        types,
+        scope,
+        kind,
+        hint,
+        Place { first, last },
+        typed.parts,
+    )?;
     Ok(Survey {
         node: one.node,
         fault: earlier(typed.fault, one.fault),

@@ -163,6 +163,11 @@ pub fn name_sort(
     types.count();
     match hint {
         Hint::Declares | Hint::Free => Ok(Sort::Nothing),
-        _ => object_sort(types, scope, need_of(types, scope, hint), scope.object(token)),
+        _ => object_sort(
+            types,
+            scope,
+            need_of(types, scope, hint),
+            scope.object(token),
+        ),
     }
 }
