@@ -95,8 +95,8 @@ module _ (p : PackageView) (n : ℕ) (x : TypedNode) (b : ℕ) (r : Rest) (vs : 
   unfolding task_rest
   assign_next m k end e e1 = rw (e, e1) (λ d f w t.
       then_before (each (values_of (drop m (parts_of p n x))) give) (λ ws. stores (take m (parts_of p n x)) (drop b vs) ws) (behind r (take b vs) (take b vs))
-        (behind (task_rest p n x b (what.Store m (length vs)) r) vs (take (length vs) vs))
-        (λ ws d1 f1 w1 t1. ap (λ us. then_rest (stores (take m (parts_of p n x)) (drop b us) ws) r (take b us) d1 f1 w1 t1) (sym (front vs ws))
-          ∙ ap (λ zs. then_rest (stores (take m (parts_of p n x)) (between b (length vs) (vs ++ ws)) zs) r (take b (take (length vs) (vs ++ ws))) d1 f1 w1 t1) (sym (back vs ws)))
-        (same_out r (take b vs) vs (take b vs) (take b (take (length vs) vs)) (ap (take b) (sym (whole vs)))) d f w t
+      (behind (task_rest p n x b (what.Store m (length vs)) r) vs (take (length vs) vs))
+      (λ ws d1 f1 w1 t1. ap (λ us. then_rest (stores (take m (parts_of p n x)) (drop b us) ws) r (take b us) d1 f1 w1 t1) (sym (front vs ws))
+      ∙ ap (λ zs. then_rest (stores (take m (parts_of p n x)) (between b (length vs) (vs ++ ws)) zs) r (take b (take (length vs) (vs ++ ws))) d1 f1 w1 t1) (sym (back vs ws)))
+      (same_out r (take b vs) vs (take b vs) (take b (take (length vs) vs)) (ap (take b) (sym (whole vs)))) d f w t
       ∙ ap (λ (ys : List Doing). before (each (values_of (drop m ys)) give) (behind (task_rest p n x b (what.Store m (length vs)) r) vs (take (length vs) vs)) d f w t) (sym (take_all (parts_of p n x))))

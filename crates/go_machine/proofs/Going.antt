@@ -41,7 +41,6 @@ module _ (p : PackageView) where
       ∙ (ap (λ (d : ℕ). c n (rest p n old.tasks.items) vs d (views m.machine.frame.items) (world_view m.machine.world) m.machine.turns) h.depth
       ∙ ap (λ (k : Machine). c n (rest p n old.tasks.items) vs old.depth (views k.frame.items) (world_view k.world) k.turns) h.machine))
 
-
   -- another world too
   pub worlded_state : (c : Work) (n : ℕ) (old m : Engine) (vs : List meant.Value) → IsKept old m → views m.values.items ≡ vs → (w : World) →
       c n (rest p n m.tasks.items) (views m.values.items) m.depth (views m.machine.frame.items) w m.machine.turns ≡ c n (rest p n old.tasks.items) vs old.depth (views old.machine.frame.items) w old.machine.turns
@@ -125,13 +124,13 @@ module _ {X : Type 0} (p : PackageView) where
       let turns : old.machine.turns ≡ suc m.machine.turns = ap (λ (k : Machine). k.turns) (sym h.machine) ∙ sp.2 in
       goes_on c c1 old m r new g (subst (λ (ts : Vec Task Global). AreFit (length p.types.shapes) old.tasks.items → AreFit (length p.types.shapes) ts.items) (sym tasks) (λ a. a)) (omega (arith, turns))
       (λ n le. ap (λ (t : ℕ). c n (rest p n old.tasks.items) (views old.values.items) old.depth (views old.machine.frame.items) (world_view old.machine.world) t) turns
-        ∙ (e n (rest p n old.tasks.items) old.depth (views old.machine.frame.items) (world_view old.machine.world) m.machine.turns
-        ∙ (ap (λ (k : Machine). c1 n (rest p n old.tasks.items) vs old.depth (views k.frame.items) (world_view k.world) m.machine.turns) (sym h.machine)
-        ∙ (ap (λ fr. c1 n (rest p n old.tasks.items) vs old.depth (views fr.items) (world_view m1.machine.world) m.machine.turns) (sym sp.0)
-        ∙ (ap (λ w. c1 n (rest p n old.tasks.items) vs old.depth (views m.machine.frame.items) (world_view w) m.machine.turns) (sym sp.1)
-        ∙ (ap (λ (d : ℕ). c1 n (rest p n old.tasks.items) vs d (views m.machine.frame.items) (world_view m.machine.world) m.machine.turns) (sym (ed ∙ h.depth))
-        ∙ (ap (λ (us : List meant.Value). in_state (c1 n (rest p n old.tasks.items) us) m) (sym values)
-        ∙ ap (λ (ts : Vec Task Global). in_state (c1 n (rest p n ts.items) (views m.values.items)) m) (sym tasks))))))))
+      ∙ (e n (rest p n old.tasks.items) old.depth (views old.machine.frame.items) (world_view old.machine.world) m.machine.turns
+      ∙ (ap (λ (k : Machine). c1 n (rest p n old.tasks.items) vs old.depth (views k.frame.items) (world_view k.world) m.machine.turns) (sym h.machine)
+      ∙ (ap (λ fr. c1 n (rest p n old.tasks.items) vs old.depth (views fr.items) (world_view m1.machine.world) m.machine.turns) (sym sp.0)
+      ∙ (ap (λ w. c1 n (rest p n old.tasks.items) vs old.depth (views m.machine.frame.items) (world_view w) m.machine.turns) (sym sp.1)
+      ∙ (ap (λ (d : ℕ). c1 n (rest p n old.tasks.items) vs d (views m.machine.frame.items) (world_view m.machine.world) m.machine.turns) (sym (ed ∙ h.depth))
+      ∙ (ap (λ (us : List meant.Value). in_state (c1 n (rest p n old.tasks.items) us) m) (sym values)
+      ∙ ap (λ (ts : Vec Task Global). in_state (c1 n (rest p n ts.items) (views m.values.items)) m) (sym tasks))))))))
 
   pub goes_unspent : (c : Work) (old m1 m : Engine) → IsKept old m1 → m.tasks ≡ m1.tasks → m.depth ≡ m1.depth → m.machine ≡ m1.machine → m1.machine.turns ≡ 0 →
       ((n : ℕ) (s : Rest) (d : ℕ) (f : List meant.Value) (w : World) → c n s (views old.values.items) d f w 0 ≡ Undecided w.output) → Goes {X = X} p c old (Err exit.Undecided) m
@@ -142,7 +141,7 @@ module _ {X : Type 0} (p : PackageView) where
         fits = subst (λ (ts : Vec Task Global). AreFit (length p.types.shapes) old.tasks.items → AreFit (length p.types.shapes) ts.items) (sym (et ∙ h.tasks)) (λ a. a);
         turns = (let t : m.machine.turns ≡ old.machine.turns = ap (λ (k1 : Machine). k1.turns) same in omega (arith, t));
         next = λ n le. ap (λ (t : ℕ). c n (rest p n old.tasks.items) (views old.values.items) old.depth (views old.machine.frame.items) (world_view old.machine.world) t) turns
-          ∙ (e n (rest p n old.tasks.items) old.depth (views old.machine.frame.items) (world_view old.machine.world) ∙ ap (λ (k : Machine). Undecided (world_view k.world).output) (sym same));
+            ∙ (e n (rest p n old.tasks.items) old.depth (views old.machine.frame.items) (world_view old.machine.world) ∙ ap (λ (k : Machine). Undecided (world_view k.world).output) (sym same));
       }
 
   -- a body ends
@@ -161,12 +160,12 @@ module _ {X : Type 0} (p : PackageView) where
       goes_on c c1 old m r new g (subst (λ (ts : Vec Task Global). AreFit (length p.types.shapes) old.tasks.items → AreFit (length p.types.shapes) ts.items) (sym (et ∙ h.tasks)) (λ a. a))
       (let t : m.machine.turns ≡ old.machine.turns = en ∙ ap (λ (k1 : Machine). k1.turns) h.machine in omega (arith, t))
       (λ n le. e n (rest p n old.tasks.items) old.depth (views old.machine.frame.items) old.machine.turns
-        ∙ (sym (worlded_state p c1 n old m1 vs h v (world_view m.machine.world))
-        ∙ (ap (λ (ts : Vec Task Global). c1 n (rest p n ts.items) (views m1.values.items) m1.depth (views m1.machine.frame.items) (world_view m.machine.world) m1.machine.turns) (sym et)
-        ∙ (ap (λ (k : Vec Value Global). c1 n (rest p n m.tasks.items) (views k.items) m1.depth (views m1.machine.frame.items) (world_view m.machine.world) m1.machine.turns) (sym ev)
-        ∙ (ap (λ (d : ℕ). c1 n (rest p n m.tasks.items) (views m.values.items) d (views m1.machine.frame.items) (world_view m.machine.world) m1.machine.turns) (sym ed)
-        ∙ (ap (λ fr. c1 n (rest p n m.tasks.items) (views m.values.items) m.depth (views fr.items) (world_view m.machine.world) m1.machine.turns) (sym ef)
-        ∙ ap (λ (t : ℕ). c1 n (rest p n m.tasks.items) (views m.values.items) m.depth (views m.machine.frame.items) (world_view m.machine.world) t) (sym en)))))))
+      ∙ (sym (worlded_state p c1 n old m1 vs h v (world_view m.machine.world))
+      ∙ (ap (λ (ts : Vec Task Global). c1 n (rest p n ts.items) (views m1.values.items) m1.depth (views m1.machine.frame.items) (world_view m.machine.world) m1.machine.turns) (sym et)
+      ∙ (ap (λ (k : Vec Value Global). c1 n (rest p n m.tasks.items) (views k.items) m1.depth (views m1.machine.frame.items) (world_view m.machine.world) m1.machine.turns) (sym ev)
+      ∙ (ap (λ (d : ℕ). c1 n (rest p n m.tasks.items) (views m.values.items) d (views m1.machine.frame.items) (world_view m.machine.world) m1.machine.turns) (sym ed)
+      ∙ (ap (λ fr. c1 n (rest p n m.tasks.items) (views m.values.items) m.depth (views fr.items) (world_view m.machine.world) m1.machine.turns) (sym ef)
+      ∙ ap (λ (t : ℕ). c1 n (rest p n m.tasks.items) (views m.values.items) m.depth (views m.machine.frame.items) (world_view m.machine.world) t) (sym en)))))))
 
   pub goes_panicked : (m : Engine) (k : Panic) → Goes {X = X} p (λ n s us. s.out us (Panics (panic_view k))) m (Err (exit.Panic k)) m
   goes_panicked m k = record { fits = λ a. a; turns = omega arith; next = λ n le. refl }

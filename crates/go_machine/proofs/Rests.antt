@@ -89,12 +89,19 @@ lowered (suc b) [] us k e = rw e refl
 lowered (suc b) (v ∷ vs) us k e = rw e (ap (λ ws. v ∷ ws) (lowered b vs us (length (take b vs)) refl))
 
 pub same_out : (r : Rest) (vs vs' ws ws' : List Value) → ws ≡ ws' → SameOut (behind r vs ws) (behind r vs' ws')
-same_out r vs vs' ws ws' e =
-    (λ us d f w t. ap (λ x. r.out x (Return us) d f w t) e,
-    ((λ d f w t. ap (λ x. r.out x Break d f w t) e),
-    ((λ d f w t. ap (λ x. r.out x Continue d f w t) e),
-    ((λ d f w t. ap (λ x. r.out x Fallthrough d f w t) e),
-    (λ p d f w t. ap (λ x. r.out x (Panics p) d f w t) e)))))
+same_out r vs vs' ws ws' e = (
+  λ us d f w t. ap (λ x. r.out x (Return us) d f w t) e,
+  (
+    (λ d f w t. ap (λ x. r.out x Break d f w t) e),
+    (
+      (λ d f w t. ap (λ x. r.out x Continue d f w t) e),
+      (
+        (λ d f w t. ap (λ x. r.out x Fallthrough d f w t) e),
+        (λ p d f w t. ap (λ x. r.out x (Panics p) d f w t) e),
+      ),
+    ),
+  ),
+)
 
 -- ---- the rules: a computation is begun, and what is behind it is left
 
@@ -126,8 +133,8 @@ pub next_each : (r : Rest) (vs : List Value) (b k : ℕ) (c : Comp) (cs : List C
 unfolding before end_by each
 next_each r vs b k c cs e = then_before c (λ us. each cs (λ ws. give (us ++ ws))) (behind r vs (take b vs)) (behind (adding k (each cs give) r) vs vs)
     (λ us d f w t. each_both cs (λ ws. give (us ++ ws)) give (behind r vs (take b vs)) (behind r (vs ++ us) (take b vs))
-        (λ ws d1 f1 w1 t1. ap (λ x. r.go x d1 f1 w1 t1) (sym (joined vs us ws))) (same_out r vs (vs ++ us) (take b vs) (take b vs) refl) d f w t
-        ∙ ap (λ x. before (each cs give) (behind r (vs ++ us) x) d f w t) (sym (lowered b vs us k e)))
+    (λ ws d1 f1 w1 t1. ap (λ x. r.go x d1 f1 w1 t1) (sym (joined vs us ws))) (same_out r vs (vs ++ us) (take b vs) (take b vs) refl) d f w t
+    ∙ ap (λ x. before (each cs give) (behind r (vs ++ us) x) d f w t) (sym (lowered b vs us k e)))
     (same_out r vs vs (take b vs) (take k vs) (sym (low e)))
   where
     low : k ≡ length (take b vs) → take k vs ≡ take b vs

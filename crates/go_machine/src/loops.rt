@@ -1,15 +1,15 @@
 //! Further turns of loops.
 
+ghost use Rattle.std.specs.Prelude.{◌≡◌};
+ghost use Rattle.go_typed.specs.declared.node.TypedNode.TheViews.{out-TypedNode};
+ghost use Rattle.go_eval.specs.Views.{is_for};
+
 use crate::engine::Engine;
 use crate::task::What;
 use go_eval::parts::is_there;
 use go_runs::exit::Exit;
 use go_typed::form::Form;
 use go_typed::node::TypedNode;
-
-ghost use Rattle.std.specs.Prelude.{◌≡◌};
-ghost use Rattle.go_typed.specs.declared.node.TypedNode.TheViews.{out-TypedNode};
-ghost use Rattle.go_eval.specs.Views.{is_for};
 
 /// Whether a node is a loop without a range clause.
 fn is_loop(node: &TypedNode) -> bool

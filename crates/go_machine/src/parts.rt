@@ -1,5 +1,12 @@
 //! Steps of parts, one after the other, and of what is done to all that they give.
 
+ghost use Rattle.std.specs.Prelude.{length};
+ghost use Rattle.go_meaning.specs.Operations.{perform};
+ghost use Rattle.go_values.specs.Views.{views};
+ghost use Rattle.go_values.specs.Worlds.{world_view};
+ghost use Rattle.go_operations.specs.Performing.{IsPerformed};
+ghost use Rattle.go_machine.specs.Tasks.{KnownDeed, deed_view};
+
 use crate::engine::Engine;
 use crate::start::count;
 use crate::task::{Deed, What};
@@ -10,13 +17,6 @@ use go_typed::checked::Checked;
 use go_typed::node::TypedNode;
 use go_values::{Stop, Value, World, element, field};
 use std::alloc::Global;
-
-ghost use Rattle.std.specs.Prelude.{length};
-ghost use Rattle.go_meaning.specs.Operations.{perform};
-ghost use Rattle.go_values.specs.Views.{views};
-ghost use Rattle.go_values.specs.Worlds.{world_view};
-ghost use Rattle.go_operations.specs.Performing.{IsPerformed};
-ghost use Rattle.go_machine.specs.Tasks.{KnownDeed, deed_view};
 
 /// What a deed at a node gives of its operands, and what it does to the world.
 fn perform_deed(

@@ -1,5 +1,8 @@
 //! The values of nodes: what each plan begins with.
 
+ghost use Rattle.std.specs.Prelude.{◌≡◌, length};
+ghost use Rattle.go_typed.specs.declared.node.TypedNode.TheViews.{out-TypedNode};
+
 use crate::engine::Engine;
 use crate::task::{Deed, What};
 use go_eval::form_plan::plan_of;
@@ -13,9 +16,6 @@ use go_typed::sort::Sort;
 use go_types::TypeId;
 use go_values::Value;
 use std::alloc::Global;
-
-ghost use Rattle.std.specs.Prelude.{◌≡◌, length};
-ghost use Rattle.go_typed.specs.declared.node.TypedNode.TheViews.{out-TypedNode};
 
 /// How many parts a node has.
 pub(crate) fn count(node: &TypedNode) -> usize
@@ -59,12 +59,7 @@ impl<'a> Engine<'a> {
     }
 
     /// Gives the zero value of a type.
-    fn zero(
-        &mut self,
-        alloc: Global,
-        checked: &Checked,
-        ty: Option<TypeId>,
-    ) -> Result<(), Exit>
+    fn zero(&mut self, alloc: Global, checked: &Checked, ty: Option<TypeId>) -> Result<(), Exit>
         requires { IfSome ty (λ a. a < length checked.now.types.shapes) }
         ensures { Goes checked.now (gives (meant.zero_value (zero_in (rights_of checked.now.types) (type_in (type_of checked.now.types.shapes) ty)))) self.old result self.new }
     {

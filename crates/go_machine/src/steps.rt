@@ -92,12 +92,7 @@ impl<'a> Engine<'a> {
     }
 
     /// The clauses from one on, as far as each falls through (Go specification, "Fallthrough statements").
-    pub(crate) fn fall(
-        &mut self,
-        node: &'a TypedNode,
-        base: usize,
-        next: usize,
-    ) -> Result<(), Exit>
+    pub(crate) fn fall(&mut self, node: &'a TypedNode, base: usize, next: usize) -> Result<(), Exit>
         ensures { (p : PackageView) → Known (length p.types.shapes) node.now → Goes p (falls p node.now base next) self.old result self.new }
     {
         self.cut(base);

@@ -8,12 +8,12 @@ ghost use Rattle.go_runs.specs.Machines.{outcome};
 ghost use Rattle.go_runs.specs.Programs.{doings};
 ghost use Rattle.go_machine.specs.Written.{IsWritten};
 
+use go_base::Memory;
+use go_eval::parts::part;
 use go_runs::calls::put_at;
 use go_runs::exit::Exit;
 use go_runs::machine::Machine;
 use go_runs::places::{Place, as_place, in_array, load, operand, rest};
-use go_base::Memory;
-use go_eval::parts::part;
 use go_typed::checked::Checked;
 use go_typed::node::TypedNode;
 use go_values::{Value, with_element, with_field};

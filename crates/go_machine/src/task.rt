@@ -25,9 +25,15 @@ pub enum What {
     /// The operands of the place that it is.
     Find,
     /// The values of its parts from `next` on, up to `end`.
-    Values { next: usize, end: usize },
+    Values {
+        next: usize,
+        end: usize,
+    },
     /// The operands of its parts from `next` on, up to `end`.
-    Finds { next: usize, end: usize },
+    Finds {
+        next: usize,
+        end: usize,
+    },
     /// The deed on the operands.
     Perform(Deed),
     /// The right side of `&&`, if the left one is true.
@@ -43,23 +49,37 @@ pub enum What {
     /// `x op= y`, behind the operands of x.
     Load(Operation),
     /// The same, behind y; the value of x stands at `value`.
-    Operate { operation: Operation, value: usize },
+    Operate {
+        operation: Operation,
+        value: usize,
+    },
     /// The values of an assignment, behind the operands of its targets.
     Assign(u32),
     /// Zero values for the targets.
     Zero(u32, Option<TypeId>),
     /// The assignment; its values stand from `values` on.
-    Store { targets: u32, values: usize },
+    Store {
+        targets: u32,
+        values: usize,
+    },
     /// The parts from `next` on, one after the other.
-    Sequence { next: usize },
+    Sequence {
+        next: usize,
+    },
     /// The condition of an `if`.
     Condition,
     /// The branch of an `if`.
     Branch,
     /// The tag of a switch.
-    Tag { tag: bool, default: usize },
+    Tag {
+        tag: bool,
+        default: usize,
+    },
     /// The clauses of a switch from `next` on, behind the tag.
-    Clauses { next: usize, default: usize },
+    Clauses {
+        next: usize,
+        default: usize,
+    },
     /// Whether the clause `next` is the one; what its test gave stands from `test` on.
     Clause {
         next: usize,
@@ -67,11 +87,21 @@ pub enum What {
         test: usize,
     },
     /// The expressions of a clause from `next` on, up to `end`, are compared with the tag.
-    Matches { next: usize, end: usize, tag: usize },
+    Matches {
+        next: usize,
+        end: usize,
+        tag: usize,
+    },
     /// The expression `next` is compared with the tag.
-    Match { next: usize, end: usize, tag: usize },
+    Match {
+        next: usize,
+        end: usize,
+        tag: usize,
+    },
     /// Behind a clause: the clauses from `next` on, if it falls through.
-    Fall { next: usize },
+    Fall {
+        next: usize,
+    },
     /// A turn of a loop: its condition, if there is one.
     Turn(bool),
     /// Its block, where the condition holds.
@@ -83,11 +113,18 @@ pub enum What {
     /// The test of the array of an element, behind the operands of the array.
     Index,
     /// The index of the element, behind that test; the operands end at `end`.
-    Tested { end: usize },
+    Tested {
+        end: usize,
+    },
     /// The same, behind the index, which stands at `index`.
-    Behind { index: usize },
+    Behind {
+        index: usize,
+    },
     /// The items of a range clause, behind its operand.
-    Items { targets: u32, items: Items },
+    Items {
+        targets: u32,
+        items: Items,
+    },
     /// The items from `next` on.
     Item {
         targets: u32,

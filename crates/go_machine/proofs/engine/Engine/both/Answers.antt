@@ -29,4 +29,3 @@ returns-in_ok-give c = λ p h.
     goes_kept p (works p x b what.Both) one old m (Ok (tt {0})) c.give.new.self (take b vs) c.test.ensures.kept c.test.ensures.values
     (goes_given p one m c.give.new.self (tt {0}) (views m.values.items ++ meant.Truth false ∷ []) c.in_ok-give.ensures.kept (c.in_ok-give.ensures.values ∙ ap (λ u. views m.values.items ++ u ∷ []) (view_truth false)) (λ n s d f u t. refl))
     (λ n s. both_false p n x b s vs (sym c.test.ensures.holds ∙ c.if-test.false))
-

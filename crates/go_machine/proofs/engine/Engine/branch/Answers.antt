@@ -23,4 +23,3 @@ returns-else-test c = λ p h.
     let vs = views old.values.items in
     goes_kept p (works p x b what.Branch) (asks_part p x 3) old c.test.new.self c.ask-else-test.result c.ask-else-test.new.self (take b vs) c.test.ensures.kept c.test.ensures.values (c.ask-else-test.ensures p h)
     (λ n s. branch_false p n x b s vs (sym c.test.ensures.holds ∙ c.if-test.false))
-

@@ -14,4 +14,3 @@ returns c = λ p h.
     let vs = views old.values.items in
     goes_kept p (works p x b what.Condition) (lays_value p x what.Branch 1) old c.cut.new.self c.lay_value.result c.lay_value.new.self (take b vs) c.cut.ensures.kept c.cut.ensures.values (c.lay_value.ensures p (h, tt))
     (λ n s. condition_next p n x b s vs)
-

@@ -29,4 +29,3 @@ returns-else-test c = λ p h.
     let vs = views old.values.items in
     goes_kept p (works p x b what.Either) (asks_part p x 1) old c.test.new.self c.ask.result c.ask.new.self (take b vs) c.test.ensures.kept c.test.ensures.values (c.ask.ensures p h)
     (λ n s. either_false p n x b s vs (sym c.test.ensures.holds ∙ c.if-test.false))
-

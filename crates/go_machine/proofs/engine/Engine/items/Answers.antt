@@ -47,4 +47,3 @@ returns-in-Runes c = λ p h.
     let vs = views old.values.items in
     subst (λ (i : Items). Goes p (begins p x (plan.Iterate m i)) old c.lay_value-in-Runes.result c.lay_value-in-Runes.new.self) (sym c.in-Runes.is)
     (goes_same p (begins p x (plan.Iterate m items.Runes)) (lays_value p x (what.Items m items.Runes) m) old c.lay_value-in-Runes.result c.lay_value-in-Runes.new.self (subst (λ (i : Items). Goes p (lays_value p x (what.Items m i) m) old c.lay_value-in-Runes.result c.lay_value-in-Runes.new.self) c.in-Runes.is (c.lay_value-in-Runes.ensures p (h, tt))) (λ n s. begins_runes p n x s vs m))
-

@@ -14,4 +14,3 @@ returns c = λ p h.
     let vs = views old.values.items in
     goes_kept p (works p x b what.Round) (lays_value p x what.Again 2) old c.cut.new.self c.lay_value.result c.lay_value.new.self (take b vs) c.cut.ensures.kept c.cut.ensures.values (c.lay_value.ensures p (h, tt))
     (λ n s. round_next p n x b s vs)
-
