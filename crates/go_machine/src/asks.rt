@@ -17,7 +17,7 @@ impl<'a> Engine<'a> {
     ghost use Rattle.go_machine.specs.Engines.{Goes, IsPushed, asks_part, seeks_part, lays, lays_value, lays_find, lays_values, lays_finds, lays_given};
 
     /// Asks a part for its value; one that isn't there gives nothing.
-    pub(crate) fn ask(&mut self, node: &'a TypedNode, number: usize) -> Result<(), Exit>
+    pub fn ask(&mut self, node: &'a TypedNode, number: usize) -> Result<(), Exit>
         ensures { (p : PackageView) → Known (length p.types.shapes) node.now → Goes p (asks_part p node.now number) self.old result self.new }
     {
         match part(&node.parts, number) {
@@ -30,7 +30,7 @@ impl<'a> Engine<'a> {
     }
 
     /// Asks a part for its operands as a place; what isn't there is none.
-    pub(crate) fn seek(&mut self, node: &'a TypedNode, number: usize) -> Result<(), Exit>
+    pub fn seek(&mut self, node: &'a TypedNode, number: usize) -> Result<(), Exit>
         ensures { (p : PackageView) → Known (length p.types.shapes) node.now → Goes p (seeks_part p node.now number) self.old result self.new }
     {
         match part(&node.parts, number) {
@@ -43,7 +43,7 @@ impl<'a> Engine<'a> {
     }
 
     /// Puts a task on top whose operands come behind all values.
-    pub(crate) fn lay(&mut self, node: &'a TypedNode, what: What) -> Result<(), Exit>
+    pub fn lay(&mut self, node: &'a TypedNode, what: What) -> Result<(), Exit>
         ensures { (p : PackageView) → IsFit (length p.types.shapes) node.now what → Goes p (lays p node.now what) self.old result self.new }
     {
         let base = self.top();
@@ -52,12 +52,7 @@ impl<'a> Engine<'a> {
     }
 
     /// The same, behind the value of a part.
-    pub(crate) fn lay_value(
-        &mut self,
-        node: &'a TypedNode,
-        what: What,
-        number: usize,
-    ) -> Result<(), Exit>
+    pub fn lay_value(&mut self, node: &'a TypedNode, what: What, number: usize) -> Result<(), Exit>
         ensures { (p : PackageView) → IsFit (length p.types.shapes) node.now what → Goes p (lays_value p node.now what number) self.old result self.new }
     {
         let base = self.top();
@@ -66,12 +61,7 @@ impl<'a> Engine<'a> {
     }
 
     /// The same, behind the operands of a part.
-    pub(crate) fn lay_find(
-        &mut self,
-        node: &'a TypedNode,
-        what: What,
-        number: usize,
-    ) -> Result<(), Exit>
+    pub fn lay_find(&mut self, node: &'a TypedNode, what: What, number: usize) -> Result<(), Exit>
         ensures { (p : PackageView) → IsFit (length p.types.shapes) node.now what → Goes p (lays_find p node.now what number) self.old result self.new }
     {
         let base = self.top();
@@ -80,12 +70,7 @@ impl<'a> Engine<'a> {
     }
 
     /// The same, behind the values of the first parts, up to `end`.
-    pub(crate) fn lay_values(
-        &mut self,
-        node: &'a TypedNode,
-        what: What,
-        end: usize,
-    ) -> Result<(), Exit>
+    pub fn lay_values(&mut self, node: &'a TypedNode, what: What, end: usize) -> Result<(), Exit>
         ensures { (p : PackageView) → IsFit (length p.types.shapes) node.now what → Goes p (lays_values p node.now what end) self.old result self.new }
     {
         let base = self.top();
@@ -95,12 +80,7 @@ impl<'a> Engine<'a> {
     }
 
     /// The same, behind the operands of the first parts, up to `end`.
-    pub(crate) fn lay_finds(
-        &mut self,
-        node: &'a TypedNode,
-        what: What,
-        end: usize,
-    ) -> Result<(), Exit>
+    pub fn lay_finds(&mut self, node: &'a TypedNode, what: What, end: usize) -> Result<(), Exit>
         ensures { (p : PackageView) → IsFit (length p.types.shapes) node.now what → Goes p (lays_finds p node.now what end) self.old result self.new }
     {
         let base = self.top();
@@ -110,12 +90,7 @@ impl<'a> Engine<'a> {
     }
 
     /// The same, behind a value that is given.
-    pub(crate) fn lay_given(
-        &mut self,
-        node: &'a TypedNode,
-        what: What,
-        value: Value,
-    ) -> Result<(), Exit>
+    pub fn lay_given(&mut self, node: &'a TypedNode, what: What, value: Value) -> Result<(), Exit>
         ensures { (p : PackageView) → IsFit (length p.types.shapes) node.now what → Goes p (lays_given p node.now what (view value)) self.old result self.new }
     {
         let base = self.top();

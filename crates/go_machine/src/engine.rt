@@ -27,12 +27,7 @@ impl<'a> Engine<'a> {
     /// # Errors
     ///
     /// Want of memory.
-    pub(crate) fn push(
-        &mut self,
-        node: &'a TypedNode,
-        base: usize,
-        what: What,
-    ) -> Result<(), Memory>
+    pub fn push(&mut self, node: &'a TypedNode, base: usize, what: What) -> Result<(), Memory>
         ensures { OnOk result (IsPushed node.now base what self.old self.new) }
     {
         self.tasks.push(Task { node, base, what })?;
@@ -44,7 +39,7 @@ impl<'a> Engine<'a> {
     /// # Errors
     ///
     /// Want of memory.
-    pub(crate) fn give(&mut self, value: Value) -> Result<(), Memory>
+    pub fn give(&mut self, value: Value) -> Result<(), Memory>
         ensures values { OnOk result (views self.new.values.items ≡ views self.old.values.items ++ view value ∷ []) }
         ensures kept { OnOk result (IsKept self.old self.new) }
     {
@@ -57,7 +52,7 @@ impl<'a> Engine<'a> {
     /// # Errors
     ///
     /// Want of memory.
-    pub(crate) fn take(&mut self, alloc: Global, base: usize) -> Result<Vec<Value>, Memory>
+    pub fn take(&mut self, alloc: Global, base: usize) -> Result<Vec<Value>, Memory>
         ensures taken { IfOk result (λ us. views us.items ≡ drop base (views self.old.values.items)) }
         ensures values { OnOk result (views self.new.values.items ≡ take base (views self.old.values.items)) }
         ensures kept { OnOk result (IsKept self.old self.new) }
@@ -70,14 +65,14 @@ impl<'a> Engine<'a> {
     }
 
     /// How many values there are.
-    pub(crate) fn top(&self) -> usize
+    pub fn top(&self) -> usize
         ensures { result ≡ length (views self.now.values.items) }
     {
         self.values.as_slice().len()
     }
 
     /// Drops the values behind the base.
-    pub(crate) fn cut(&mut self, base: usize)
+    pub fn cut(&mut self, base: usize)
         ensures values { views self.new.values.items ≡ take base (views self.old.values.items) }
         ensures kept { IsKept self.old self.new }
     {

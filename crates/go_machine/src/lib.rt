@@ -6,11 +6,11 @@
 //! to the same.
 #![tactic(auto)]
 
-mod asks;
+pub mod asks;
 pub mod engine;
-mod loops;
-mod parts;
-mod start;
-mod steps;
-mod stores;
+pub mod loops;
+pub mod parts;
+pub mod start;
+pub mod steps;
+pub mod stores;
 pub mod task;

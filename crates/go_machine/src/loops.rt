@@ -26,7 +26,7 @@ impl<'a> Engine<'a> {
     ghost use Rattle.go_machine.specs.Engines.{Goes, works};
 
     /// The next turn of a loop, which has no first statement (Go specification, "For statements with for clause").
-    pub(crate) fn again(&mut self, node: &'a TypedNode, base: usize) -> Result<(), Exit>
+    pub fn again(&mut self, node: &'a TypedNode, base: usize) -> Result<(), Exit>
         ensures { (p : PackageView) → Known (length p.types.shapes) node.now → Goes p (works p node.now base what.Again) self.old result self.new }
     {
         self.cut(base);

@@ -75,7 +75,7 @@ impl<'a> Engine<'a> {
     }
 
     /// The values of the parts from one on.
-    pub(crate) fn next_value(
+    pub fn next_value(
         &mut self,
         node: &'a TypedNode,
         base: usize,
@@ -104,7 +104,7 @@ impl<'a> Engine<'a> {
     }
 
     /// The operands of the parts from one on.
-    pub(crate) fn next_find(
+    pub fn next_find(
         &mut self,
         node: &'a TypedNode,
         base: usize,
@@ -133,7 +133,7 @@ impl<'a> Engine<'a> {
     }
 
     /// The tag of a switch, which is true where there is none (Go specification, "Expression switches").
-    pub(crate) fn tag(
+    pub fn tag(
         &mut self,
         node: &'a TypedNode,
         base: usize,
@@ -151,12 +151,7 @@ impl<'a> Engine<'a> {
     }
 
     /// The values of an assignment (Go specification, "Assignment statements").
-    pub(crate) fn assign(
-        &mut self,
-        node: &'a TypedNode,
-        base: usize,
-        targets: u32,
-    ) -> Result<(), Exit>
+    pub fn assign(&mut self, node: &'a TypedNode, base: usize, targets: u32) -> Result<(), Exit>
         ensures { (p : PackageView) → Known (length p.types.shapes) node.now → Goes p (works p node.now base (what.Assign targets)) self.old result self.new }
     {
         let values = self.top();
@@ -168,7 +163,7 @@ impl<'a> Engine<'a> {
     }
 
     /// The deed on the operands.
-    pub(crate) fn perform(
+    pub fn perform(
         &mut self,
         alloc: Global,
         checked: &Checked,

@@ -18,7 +18,7 @@ use go_values::Value;
 use std::alloc::Global;
 
 /// How many parts a node has.
-pub(crate) fn count(node: &TypedNode) -> usize
+pub fn count(node: &TypedNode) -> usize
     ensures { result ≡ length (out-TypedNode node.now).parts.items }
 {
     node.parts.as_slice().len()
@@ -174,7 +174,7 @@ impl<'a> Engine<'a> {
     }
 
     /// Begins with the value of a node.
-    pub(crate) fn start(
+    pub fn start(
         &mut self,
         alloc: Global,
         checked: &Checked,

@@ -32,7 +32,7 @@ impl<'a> Engine<'a> {
     }
 
     /// The right side of `&&` (Go specification, "Logical operators").
-    pub(crate) fn both(&mut self, node: &'a TypedNode, base: usize) -> Result<(), Exit>
+    pub fn both(&mut self, node: &'a TypedNode, base: usize) -> Result<(), Exit>
         ensures { (p : PackageView) → Known (length p.types.shapes) node.now → Goes p (works p node.now base what.Both) self.old result self.new }
     {
         if self.test(base) {
@@ -44,7 +44,7 @@ impl<'a> Engine<'a> {
     }
 
     /// The right side of `||` (Go specification, "Logical operators").
-    pub(crate) fn either(&mut self, node: &'a TypedNode, base: usize) -> Result<(), Exit>
+    pub fn either(&mut self, node: &'a TypedNode, base: usize) -> Result<(), Exit>
         ensures { (p : PackageView) → Known (length p.types.shapes) node.now → Goes p (works p node.now base what.Either) self.old result self.new }
     {
         if self.test(base) {
@@ -56,7 +56,7 @@ impl<'a> Engine<'a> {
     }
 
     /// The condition of an `if` (Go specification, "If statements").
-    pub(crate) fn condition(&mut self, node: &'a TypedNode, base: usize) -> Result<(), Exit>
+    pub fn condition(&mut self, node: &'a TypedNode, base: usize) -> Result<(), Exit>
         ensures { (p : PackageView) → Known (length p.types.shapes) node.now → Goes p (works p node.now base what.Condition) self.old result self.new }
     {
         self.cut(base);
@@ -64,7 +64,7 @@ impl<'a> Engine<'a> {
     }
 
     /// The branch of an `if` (Go specification, "If statements").
-    pub(crate) fn branch(&mut self, node: &'a TypedNode, base: usize) -> Result<(), Exit>
+    pub fn branch(&mut self, node: &'a TypedNode, base: usize) -> Result<(), Exit>
         ensures { (p : PackageView) → Known (length p.types.shapes) node.now → Goes p (works p node.now base what.Branch) self.old result self.new }
     {
         if self.test(base) {
@@ -75,12 +75,7 @@ impl<'a> Engine<'a> {
     }
 
     /// The statements from one on (Go specification, "Blocks").
-    pub(crate) fn sequence(
-        &mut self,
-        node: &'a TypedNode,
-        base: usize,
-        next: usize,
-    ) -> Result<(), Exit>
+    pub fn sequence(&mut self, node: &'a TypedNode, base: usize, next: usize) -> Result<(), Exit>
         ensures { (p : PackageView) → Known (length p.types.shapes) node.now → Goes p (works p node.now base (what.Sequence next)) self.old result self.new }
     {
         self.cut(base);
@@ -92,7 +87,11 @@ impl<'a> Engine<'a> {
     }
 
     /// The clauses from one on, as far as each falls through (Go specification, "Fallthrough statements").
+<<<<<<< HEAD
     pub(crate) fn fall(&mut self, node: &'a TypedNode, base: usize, next: usize) -> Result<(), Exit>
+=======
+    pub fn fall(&mut self, node: &'a TypedNode, base: usize, next: usize) -> Result<(), Exit>
+>>>>>>> 4c2fe6e848d0e82e6b3c1a83b36706dc139b8bec
         ensures { (p : PackageView) → Known (length p.types.shapes) node.now → Goes p (falls p node.now base next) self.old result self.new }
     {
         self.cut(base);
@@ -104,12 +103,7 @@ impl<'a> Engine<'a> {
     }
 
     /// The end of a body (Go specification, "Return statements").
-    pub(crate) fn ends_body(
-        &mut self,
-        alloc: Global,
-        node: &'a TypedNode,
-        base: usize,
-    ) -> Result<(), Exit>
+    pub fn ends_body(&mut self, alloc: Global, node: &'a TypedNode, base: usize) -> Result<(), Exit>
         ensures { (p : PackageView) → Goes p (works p node.now base what.Return) self.old result self.new }
     {
         let results = self.take(alloc, base)?;
@@ -117,12 +111,7 @@ impl<'a> Engine<'a> {
     }
 
     /// The condition of a turn of a loop (Go specification, "For statements with for clause").
-    pub(crate) fn turn(
-        &mut self,
-        node: &'a TypedNode,
-        base: usize,
-        condition: bool,
-    ) -> Result<(), Exit>
+    pub fn turn(&mut self, node: &'a TypedNode, base: usize, condition: bool) -> Result<(), Exit>
         ensures { (p : PackageView) → Known (length p.types.shapes) node.now → Goes p (works p node.now base (what.Turn condition)) self.old result self.new }
     {
         self.cut(base);
@@ -134,7 +123,7 @@ impl<'a> Engine<'a> {
     }
 
     /// The block of a turn, for which a turn is spent (Go specification, "For statements with for clause").
-    pub(crate) fn block(&mut self, node: &'a TypedNode, base: usize) -> Result<(), Exit>
+    pub fn block(&mut self, node: &'a TypedNode, base: usize) -> Result<(), Exit>
         ensures { (p : PackageView) → Known (length p.types.shapes) node.now → Goes p (works p node.now base what.Block) self.old result self.new }
     {
         if self.test(base) {
@@ -146,7 +135,7 @@ impl<'a> Engine<'a> {
     }
 
     /// What stands behind the block of a turn (Go specification, "For statements with for clause").
-    pub(crate) fn round(&mut self, node: &'a TypedNode, base: usize) -> Result<(), Exit>
+    pub fn round(&mut self, node: &'a TypedNode, base: usize) -> Result<(), Exit>
         ensures { (p : PackageView) → Known (length p.types.shapes) node.now → Goes p (works p node.now base what.Round) self.old result self.new }
     {
         self.cut(base);

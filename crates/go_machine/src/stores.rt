@@ -24,11 +24,7 @@ use std::alloc::Global;
 /// # Errors
 ///
 /// There are more than a number can tell.
-pub(crate) fn width(
-    checked: &Checked,
-    parts: &[Option<TypedNode>],
-    number: usize,
-) -> Result<usize, Memory>
+pub fn width(checked: &Checked, parts: &[Option<TypedNode>], number: usize) -> Result<usize, Memory>
     requires { AllKnown (length checked.now.types.shapes) parts.now }
     ensures { IfOk result (λ w. (n : ℕ) → w ≡ (at (doings checked.now n parts.now) number).width) }
 {
@@ -74,7 +70,7 @@ fn one_more(number: usize) -> Result<usize, Memory>
 /// # Errors
 ///
 /// The panic of an index; it is undecided where the part is no place; want of memory.
-pub(crate) fn store(
+pub fn store(
     alloc: Global,
     checked: &Checked,
     parts: &[Option<TypedNode>],
