@@ -87,11 +87,7 @@ impl<'a> Engine<'a> {
     }
 
     /// The clauses from one on, as far as each falls through (Go specification, "Fallthrough statements").
-<<<<<<< HEAD
-    pub(crate) fn fall(&mut self, node: &'a TypedNode, base: usize, next: usize) -> Result<(), Exit>
-=======
     pub fn fall(&mut self, node: &'a TypedNode, base: usize, next: usize) -> Result<(), Exit>
->>>>>>> 4c2fe6e848d0e82e6b3c1a83b36706dc139b8bec
         ensures { (p : PackageView) → Known (length p.types.shapes) node.now → Goes p (falls p node.now base next) self.old result self.new }
     {
         self.cut(base);
