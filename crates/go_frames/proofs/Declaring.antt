@@ -1,5 +1,5 @@
 -- One more local is declared.
-use Rattle.std.proofs.Common.{◌≡◌, ℕ, zero, suc, ◌+◌, ◌<◌, ◌≤◌, List, [], ◌∷◌, length, map, drop, get_or, Option, Some, None, refl, ap, sym, ◌∙◌, subst, arith}
+use Rattle.std.proofs.Common.{◌≡◌, ℕ, zero, suc, ◌≤◌, List, [], ◌∷◌, length, map, Option, Some, refl, ap, subst, arith}
 use Rattle.std.specs.Prelude.{slice_set, slice_get}
 use Rattle.go_stmts.specs.Frames.{placed}
 

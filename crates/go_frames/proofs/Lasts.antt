@@ -1,12 +1,11 @@
 -- The first and the last of some parts.
-use Rattle.std.proofs.Common.{◌≡◌, List, [], ◌∷◌, ◌++◌, map, Option, Some, None, cond, refl}
+use Rattle.std.proofs.Common.{◌≡◌, List, [], ◌∷◌, ◌++◌, map, Option, Some, refl}
 use Rattle.go_grammar.specs.declared.kind.Kind.TheVariants as kind
 use Rattle.go_typed.specs.declared.form.Form.TheVariants as form
-use Rattle.go_typed.specs.Trees.{typed, form_of}
-use Rattle.go_typed.specs.Forms.{local_of}
+use Rattle.go_typed.specs.Trees.{typed}
 use Rattle.go_rules.specs.Settling.{Part}
 use Rattle.go_rules.specs.Tables.{Parts}
-use Rattle.go_stmts.specs.Reading.{tag_of, last_of_list, tag_behind, first_name, name_in}
+use Rattle.go_stmts.specs.Reading.{last_of_list, tag_behind, first_name, name_in}
 use Rattle.go_stmt_tests.specs.Rows.{first_there}
 use Rattle.go_frames.specs.Tags.{part_tag}
 

@@ -8,10 +8,10 @@ ghost use Rattle.go_frames.specs.Tags.{holds_tag};
 
 use go_base::Memory;
 use go_grammar::kind::Kind;
+use go_rules::Basics;
 use go_rules::basics::default_type;
 use go_rules::nodes::sort_of;
 use go_rules::sorts::{const_kind, untyped_kind};
-use go_rules::Basics;
 use go_stmt_tests::nodes::{form_of, parts_of};
 use go_typed::{Form, Sort, TypedNode};
 use go_types::Types;
@@ -69,7 +69,10 @@ fn last_tag(types: &Types, basics: Basics, parts: &[Option<TypedNode>]) -> Resul
 fn holds_tag(form: Form) -> bool
     ensures { result ≡ holds_tag form }
 {
-    matches!(form, Form::Held(Kind::LateTag) | Form::Held(Kind::InitializedTag))
+    matches!(
+        form,
+        Form::Held(Kind::LateTag) | Form::Held(Kind::InitializedTag)
+    )
 }
 
 /// The tag that the part in front of the braces of a switch gives.
@@ -78,11 +81,7 @@ fn holds_tag(form: Form) -> bool
 ///
 /// Want of memory.
 #[tactic(auto, using(crate::proofs::Lasts::tag_by))]
-pub fn tag_behind(
-    types: &Types,
-    basics: Basics,
-    part: &Option<TypedNode>,
-) -> Result<Sort, Memory>
+pub fn tag_behind(types: &Types, basics: Basics, part: &Option<TypedNode>) -> Result<Sort, Memory>
     requires basics { AreBasics types.now basics }
     requires part { AllKnown (length types.now.shapes) (part.now ∷ []) }
     ensures tree { IfOk result (λ x. sort_seen types.now x ≡ tag_behind (option_map (seen types.now) part.now)) }
