@@ -83,7 +83,8 @@ fn operated(
 ) -> Result<Option<TypeFault>, Memory>
     requires basics { AreBasics types.now basics }
     requires parts { AllKnown (length types.now.shapes) parts.now }
-    ensures { (s : Frame) → s.around.rights ≡ rights_of types.now → IfOk result (λ o. o ≡ least (rules.failing s (kinds.OperatorAssignment operator) forms.Return place.first place.last (map (option_map (seen types.now)) parts.now))) }
+    ensures { (s : Frame) → s.around.rights ≡ rights_of types.now →
+        IfOk result (λ o. o ≡ least (rules.failing s (kinds.OperatorAssignment operator) forms.Return place.first place.last (map (option_map (seen types.now)) parts.now))) }
 {
     match parts {
         [Some(left), Some(right)] => {

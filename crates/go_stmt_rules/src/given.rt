@@ -50,7 +50,8 @@ fn operated(
     requires basics { AreBasics types.now basics }
     requires parts { AllKnown (length types.now.shapes) parts.now }
     requires takings { All (KnownTaking (length types.now.shapes)) takings.old.items }
-    ensures tree { (s : Frame) → s.around.rights ≡ rights_of types.now → OnOk result (map (taking_seen types.now) takings.new.items ≡ map (taking_seen types.now) takings.old.items ++ rules.taking s (kinds.OperatorAssignment operator) forms.Return (map (option_map (seen types.now)) parts.now)) }
+    ensures tree { (s : Frame) → s.around.rights ≡ rights_of types.now →
+        OnOk result (map (taking_seen types.now) takings.new.items ≡ map (taking_seen types.now) takings.old.items ++ rules.taking s (kinds.OperatorAssignment operator) forms.Return (map (option_map (seen types.now)) parts.now)) }
     ensures known { OnOk result (All (KnownTaking (length types.now.shapes)) takings.new.items) }
 {
     if let [Some(left), Some(right)] = parts {
@@ -102,7 +103,8 @@ fn defined(
     requires around { KnownAround (length types.now.shapes) around }
     requires parts { AllKnown (length types.now.shapes) parts.now }
     requires takings { All (KnownTaking (length types.now.shapes)) takings.old.items }
-    ensures tree { (s : Frame) → Agrees types.now around.entry s → OnOk result (map (taking_seen types.now) takings.new.items ≡ map (taking_seen types.now) takings.old.items ++ rules.split_at count (rules.define_takes s) (map (option_map (seen types.now)) parts.now)) }
+    ensures tree { (s : Frame) → Agrees types.now around.entry s →
+        OnOk result (map (taking_seen types.now) takings.new.items ≡ map (taking_seen types.now) takings.old.items ++ rules.split_at count (rules.define_takes s) (map (option_map (seen types.now)) parts.now)) }
     ensures known { OnOk result (All (KnownTaking (length types.now.shapes)) takings.new.items) }
 {
     let nodes = present(alloc, types, parts)?;
@@ -172,7 +174,8 @@ fn returned(
     requires around { KnownAround (length types.now.shapes) around }
     requires parts { AllKnown (length types.now.shapes) parts.now }
     requires takings { All (KnownTaking (length types.now.shapes)) takings.old.items }
-    ensures tree { (s : Frame) → Agrees types.now around.entry s → OnOk result (map (taking_seen types.now) takings.new.items ≡ map (taking_seen types.now) takings.old.items ++ rules.returned s.results (present (map (option_map (seen types.now)) parts.now))) }
+    ensures tree { (s : Frame) → Agrees types.now around.entry s →
+        OnOk result (map (taking_seen types.now) takings.new.items ≡ map (taking_seen types.now) takings.old.items ++ rules.returned s.results (present (map (option_map (seen types.now)) parts.now))) }
     ensures known { OnOk result (All (KnownTaking (length types.now.shapes)) takings.new.items) }
 {
     let values = present(alloc, types, parts)?;
@@ -286,7 +289,8 @@ fn push_takings(
     requires around { KnownAround (length types.now.shapes) around }
     requires parts { AllKnown (length types.now.shapes) parts.now }
     requires takings { All (KnownTaking (length types.now.shapes)) takings.old.items }
-    ensures tree { (s : Frame) → Agrees types.now around.entry s → OnOk result (map (taking_seen types.now) takings.new.items ≡ map (taking_seen types.now) takings.old.items ++ rules.taking s kind form (map (option_map (seen types.now)) parts.now)) }
+    ensures tree { (s : Frame) → Agrees types.now around.entry s →
+        OnOk result (map (taking_seen types.now) takings.new.items ≡ map (taking_seen types.now) takings.old.items ++ rules.taking s kind form (map (option_map (seen types.now)) parts.now)) }
     ensures known { OnOk result (All (KnownTaking (length types.now.shapes)) takings.new.items) }
 {
     let basics = around.basics;

@@ -212,7 +212,8 @@ pub fn push_constants(
     requires of { KnownWanted (length types.now.shapes) of }
     requires values { AllShownKnown (length types.now.shapes) values.now }
     requires takings { All (KnownTaking (length types.now.shapes)) takings.old.items }
-    ensures tree { OnOk result (map (taking_seen types.now) takings.new.items ≡ map (taking_seen types.now) takings.old.items ++ constants_take (option_map (type_of types.now.shapes) of) (replicate count (option_map (type_of types.now.shapes) of)) (shown types.now values.now)) }
+    ensures tree { OnOk result (map (taking_seen types.now) takings.new.items ≡ map (taking_seen types.now) takings.old.items
+        ++ constants_take (option_map (type_of types.now.shapes) of) (replicate count (option_map (type_of types.now.shapes) of)) (shown types.now values.now)) }
     ensures known { OnOk result (All (KnownTaking (length types.now.shapes)) takings.new.items) }
 {
     for number in 0..count {
