@@ -1,0 +1,10 @@
+//! Worked examples of expressions: source texts and the types that their expressions have, or their faults.
+//!
+//! The tests stand in a crate of their own, since the check of a crate with tests proves it twice.
+#![tactic(auto)]
+
+pub mod known;
+pub mod source;
+#[cfg(test)]
+mod typed;
+pub mod typing;
