@@ -39,7 +39,7 @@ const PACKAGE: &str =
 
 /// Variables of a function with parameters.
 const LOCAL: &str =
-    "v int64 = 1 << n # int64 int64 uint\nv = 1 << n # int\nv = x << 1 # int8\nv string = 1 << n # 11 70-76\nv bool = 1 << n == 8 # bool\nv = x + 1 # int8\nv = x + 300 # 12 67-70\nv = x + n # 10 63-68\nv = -x # int8\nv = !b && x < 3 # bool\nv = t + 1 # 10 63-68\nv = t[x] # uint8\nv = t[1:n] # string\nv = []int8{x, 1, 128} # 12 76-79\nv = n / 0 # 13 67-68\nv = 'a' + 1 # int32\nv = [2]int8{k: x} # 10 63-76\nv = struct{ p int }{q: 1} # 10 63-84\nv = make([]int, x, 1 << 40) # []int\nv = struct{ p int }{1}.p # int\nv func(int8) bool = nil # nil\nv = (int8)(x) == x # bool\nv = struct{ p int; q bool }{q: true} # struct";
+    "v int64 = 1 << n # int64\nv = 1 << n # int\nv = x << 1 # int8\nv string = 1 << n # 11 70-76\nv bool = 1 << n == 8 # bool\nv = x + 1 # int8\nv = x + 300 # 12 67-70\nv = x + n # 10 63-68\nv = -x # int8\nv = !b && x < 3 # bool\nv = t + 1 # 10 63-68\nv = t[x] # uint8\nv = t[1:n] # string\nv = []int8{x, 1, 128} # 12 76-79\nv = n / 0 # 13 67-68\nv = 'a' + 1 # int32\nv = [2]int8{k: x} # 10 63-76\nv = struct{ p int }{q: 1} # 10 63-84\nv = make([]int, x, 1 << 40) # []int\nv = struct{ p int }{1}.p # int\nv func(int8) bool = nil # nil\nv = (int8)(x) == x # bool\nv = struct{ p int; q bool }{q: true} # struct";
 
 /// The same with the types of the two operands.
 const WHOLE: &str =
