@@ -1,5 +1,5 @@
 -- A fault of tokens is none of the encoding.
-use Rattle.std.proofs.Common.{◌≡◌, ◌∙◌, ◌⊎◌, inl, inr, Bool, true, false, List, ℕ, Option, Some, None, ap, sym, refl, arith}
+use Rattle.std.proofs.Common.{◌≡◌, ◌∙◌, inl, inr, Bool, true, false, List, ℕ, Some, None, ap, sym, refl, arith}
 use Rattle.std.specs.Prelude.{if◌then◌else◌}
 use Rattle.go_base.specs.declared.fault.Fault.{Fault}
 use Rattle.go_base.specs.declared.fault.FaultCode.{FaultCode}

@@ -10,7 +10,6 @@ use Rattle.go_base.specs.declared.Span.{Span}
 use Rattle.go_base.specs.declared.bytes.FileText.{FileText}
 use Rattle.go_base.specs.declared.fault.Fault.{Fault}
 use Rattle.go_grammar.specs.Grammar.{IsFile}
-use Rattle.go_grammar.specs.Trees.{Tree}
 use Rattle.go_tokens.specs.declared.token.Token.{Token}
 use Rattle.go_tokens.specs.Encoding.{IsEncodingFault}
 use Rattle.go_tokens.specs.Files.{IsLexing, IsFault, IsLaterFault}
@@ -18,10 +17,10 @@ use Rattle.go_tokens.specs.Tokens.{TokenList, kinds}
 use Rattle.go_tree.specs.File.{FileTree}
 use Rattle.go_tree.specs.Views.{view}
 use Rattle.go_scopes.specs.Views.{failure_of}
-use Rattle.go_package.specs.Checked.{IsRead, AreRead, HaveNone, IsFirst, IsTreeFault, IsEncoded, IsTokens, IsTrees, IsReported, encoding, tokens, trees}
+use Rattle.go_package.specs.Checked.{IsRead, AreRead, HaveNone, IsFirst, encoding, tokens, trees}
 use Rattle.go_reading.proofs.Each.{one_more}
 use Rattle.go_reading.specs.declared.error.CheckError.{CheckError}
-use Rattle.go_reading.specs.Reading.{check_refusal, IsLexed, IsLexedOr, Upto, AreLexed, IsParsed, AreParsed, IsUnparsed, IsUnlexed}
+use Rattle.go_reading.specs.Reading.{check_refusal, IsLexed, IsLexedOr, Upto, AreLexed, IsParsed, AreParsed, IsUnparsed, IsUnlexed, IsFileFault, FileFaultsAreReported}
 
 same_some : {A : Type 0} (x y : A) → Some x ≡ Some y → x ≡ y
 same_some x y e = grind (arith, e)
@@ -118,14 +117,14 @@ text_at [] i lt = absurd (omega (arith, lt))
 text_at (x ∷ xs) zero lt = (x, refl)
 text_at (x ∷ xs) (suc i) lt = text_at xs i (omega (arith, lt))
 
-pub first_unparsed : NoFault → OneLexing → (xs : List FileText) (ts : List TokenList) (f : Fault) → AreLexed xs ts → IsUnparsed ts f → IsReported xs (failure_of f)
+pub first_unparsed : NoFault → OneLexing → (xs : List FileText) (ts : List TokenList) (f : Fault) → AreLexed xs ts → IsUnparsed ts f → IsFileFault xs (failure_of f)
 first_unparsed law one xs ts f l u =
     let lt : u.number < length xs = subst (λ m. u.number < m) l.0 (slice_get_within ts u.number u.file u.there) in
     let at = text_at xs u.number lt in
     let t = l.1 u.number at.0 lt at.1 in
     let same : t.0 ≡ u.file = same_some t.0 u.file (sym t.1 ∙ u.there) in
     let lexed : IsLexed u.number at.0 u.file = subst (IsLexed u.number at.0) same t.2 in
-    trees (
+    inr (
       no_encoding law xs ts l,
       no_later law xs ts l,
       (
@@ -145,9 +144,10 @@ first_unparsed law one xs ts f l u =
       ),
     )
 
-pub unlexed_reported : (xs : List FileText) (f : Fault) → IsUnlexed xs (failure_of f) → IsReported xs (failure_of f)
-unlexed_reported xs f (inl e) = encoding e
-unlexed_reported xs f (inr t) = tokens t
+pub are_reported : FileFaultsAreReported
+are_reported xs g (inl (inl e)) = encoding e
+are_reported xs g (inl (inr t)) = tokens t
+are_reported xs g (inr t) = trees t
 
 -- ---- one more file
 
@@ -190,11 +190,11 @@ pub small_files : (xs : List FileText) → total_bytes xs ≤ most_bytes → (n 
 small_files xs h n x e = small_by 1048576 xs h n x e
 
 pub read_or_reported : NoFault → OneLexing → (xs : List FileText) (ts : List TokenList) (r : Result (Vec FileTree Global) CheckError) → AreLexed xs ts
-    → Meets check_refusal r (λ v. AreParsed ts v.items) (IsUnparsed ts) → Meets check_refusal r (λ v. AreRead 0 xs v.items) (λ f. IsReported xs (failure_of f))
+    → Meets check_refusal r (λ v. AreParsed ts v.items) (IsUnparsed ts) → Meets check_refusal r (λ v. AreRead 0 xs v.items) (λ f. IsFileFault xs (failure_of f))
 read_or_reported law one xs ts (Ok v) l m = all_read xs ts v.items l m
 read_or_reported law one xs ts (Err e) l m = by_refusal (check_refusal e) m
   where
-    by_refusal : (o : Option Fault) → Unless o (IsUnparsed ts) → Unless o (λ f. IsReported xs (failure_of f))
+    by_refusal : (o : Option Fault) → Unless o (IsUnparsed ts) → Unless o (λ f. IsFileFault xs (failure_of f))
     by_refusal None h = tt
     by_refusal (Some f) h = first_unparsed law one xs ts f l h
 

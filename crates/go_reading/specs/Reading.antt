@@ -13,7 +13,7 @@ use Rattle.go_tokens.specs.Tokens.{TokenList, kinds}
 use Rattle.go_tree.specs.Failures.{Failure}
 use Rattle.go_tree.specs.File.{FileTree}
 use Rattle.go_tree.specs.Views.{view}
-use Rattle.go_package.specs.Checked.{IsEncoded, IsTokens}
+use Rattle.go_package.specs.Checked.{IsEncoded, IsTokens, IsTrees, IsReported}
 use Rattle.go_reading.specs.declared.error.CheckError.{CheckError}
 use Rattle.go_reading.specs.declared.error.CheckError.TheVariants as errors
 
@@ -64,3 +64,12 @@ pub record IsUnparsed (tokens : List TokenList) (f : Fault) : Type 0 where
 -- the fault of the encoding of the files, or of their tokens
 abbrev pub IsUnlexed : List FileText → Failure → Type 0
 IsUnlexed texts g = IsEncoded texts g ⊎ IsTokens texts g
+
+-- What is reported of a package where a file has a fault by itself: of its encoding; where none has, of its tokens; where none has,
+-- that it has no tree.
+abbrev pub IsFileFault : List FileText → Failure → Type 0
+IsFileFault texts g = IsUnlexed texts g ⊎ IsTrees texts g
+
+-- It is what is reported of the package.
+abbrev pub FileFaultsAreReported : Type 0
+FileFaultsAreReported = (texts : List FileText) (g : Failure) → IsFileFault texts g → IsReported texts g

@@ -6,8 +6,8 @@ ghost use Rattle.go_base.specs.Package.{IsPackage};
 ghost use Rattle.go_base.specs.declared.bytes.FileText.{FileText as Text};
 ghost use Rattle.go_tokens.specs.Encoding.{IsEncodingFault};
 ghost use Rattle.go_scopes.specs.Views.{failure_of};
-ghost use Rattle.go_package.specs.Checked.{AreRead, IsReported};
-ghost use Rattle.go_reading.specs.Reading.{check_refusal, is_encoding, IsLexedOr, AreLexed, AreParsed, IsUnlexed, IsUnparsed};
+ghost use Rattle.go_package.specs.Checked.{AreRead};
+ghost use Rattle.go_reading.specs.Reading.{check_refusal, is_encoding, IsLexedOr, AreLexed, AreParsed, IsFileFault, IsUnlexed, IsUnparsed};
 
 use crate::error::CheckError;
 use go_base::{Fault, FaultCode, FileText};
@@ -102,7 +102,7 @@ fn parse_files(alloc: Global, files: &[Tokens]) -> Result<Vec<File>, CheckError>
 /// first one without a tree. Or want of memory.
 pub fn read_files(alloc: Global, texts: &[FileText]) -> Result<Vec<File>, CheckError>
     requires { IsPackage texts.now }
-    ensures { Meets check_refusal result (λ v. AreRead 0 texts.now v.items) (λ f. IsReported texts.now (failure_of f)) }
+    ensures { Meets check_refusal result (λ v. AreRead 0 texts.now v.items) (λ f. IsFileFault texts.now (failure_of f)) }
 {
     one_lexing();
     one_fault();

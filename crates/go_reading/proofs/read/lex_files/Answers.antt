@@ -1,13 +1,9 @@
-use Rattle.std.proofs.Common.{rules, ◌≡◌, ◌∙◌, ◌+◌, ◌++◌, ◌∷◌, ℕ, ◌⊎◌, inl, inr, ◌<◌, [], Option, Some, None, Ok, Err, List, length, slice_get, refl, sym, ap, subst, arith}
+use Rattle.std.proofs.Common.{rules, ◌≡◌, Some, length, slice_get, refl, subst, arith}
 use Rattle.std.proofs.lemmas.Option.{slice_get_read}
-use Rattle.go_base.specs.declared.bytes.FileText.{FileText}
-use Rattle.go_base.specs.declared.fault.Fault.{Fault}
 use Rattle.go_tokens.specs.Encoding.{IsEncodingFault}
-use Rattle.go_tokens.specs.Tokens.{TokenList}
-use Rattle.go_scopes.specs.Views.{failure_of}
 use Rattle.go_base.specs.Gives.{Unless}
-use Rattle.go_reading.specs.Reading.{check_refusal, IsLexed, IsLexedOr, IsUnlexed}
-use Rattle.go_reading.proofs.Files.{NoneBefore, LexedSoFar, first_encoding, ended_later, none_more, lexed_more, later_more, stopped}
+use Rattle.go_reading.specs.Reading.{check_refusal, IsLexedOr}
+use Rattle.go_reading.proofs.Files.{NoneBefore, LexedSoFar, ended_later, none_more, lexed_more, later_more, stopped}
 use Rattle.go_reading.proofs.read.lex_files.Goals.{in-Ok+in_ok-push-in-Ok, in-Err}
 use Rattle.go_reading.proofs.read.lex_files.Goals as goal
 

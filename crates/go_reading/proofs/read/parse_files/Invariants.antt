@@ -1,4 +1,3 @@
-use Rattle.std.proofs.Common.{◌≡◌}
 use Rattle.go_reading.specs.Reading.{Upto, IsParsed}
 use Rattle.go_reading.proofs.read.parse_files.Given as goal
 

@@ -1,7 +1,5 @@
-use Rattle.std.proofs.Common.{rules, ◌≡◌, ◌≤◌, ℕ, zero, suc, List, [], ◌∷◌, Ok, Err, Some, None, length, slice_get, subst, sym, arith, ap}
-use Rattle.go_base.specs.declared.bytes.FileText.{FileText}
+use Rattle.std.proofs.Common.{subst}
 use Rattle.go_base.specs.Gives.{Meets}
-use Rattle.go_base.specs.Package.{total_bytes}
 use Rattle.go_reading.specs.Reading.{check_refusal, AreParsed, IsUnparsed}
 use Rattle.go_reading.proofs.Files.{small_files, read_or_reported}
 use Rattle.go_reading.proofs.read.read_files.Goals as goal

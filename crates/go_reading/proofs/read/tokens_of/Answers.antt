@@ -1,5 +1,4 @@
-use Rattle.std.proofs.Common.{rules, ◌≡◌, ◌∙◌, sym, true, false}
-use Rattle.go_tokens.specs.Encoding.{IsEncodingFault}
+use Rattle.std.proofs.Common.{rules, ◌≡◌, ◌∙◌, sym, false}
 use Rattle.go_tokens.specs.Files.{IsFault}
 use Rattle.go_reading.specs.Reading.{is_encoding}
 use Rattle.go_reading.proofs.Codes.{encoding_of, later_of, no_encoding}
