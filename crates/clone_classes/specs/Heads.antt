@@ -2,7 +2,7 @@
 -- package block then have equal numbers where they have equal names. A type that is declared in the package block corresponds to
 -- the one of its name. One that is declared in a function corresponds to the one that is declared at the same token of a
 -- function of the same name whose body has equal token texts, and to no other.
-use Rattle.std.specs.Prelude.{ℕ, suc, ◌+◌, ◌-◌, Bool, true, false, ◌&&◌, nat_eq, List, [], ◌∷◌, ◌++◌, map, take, drop, Option, Some, None, slice_get}
+use Rattle.std.specs.Prelude.{ℕ, ◌-◌, Bool, true, false, ◌&&◌, nat_eq, List, [], ◌∷◌, ◌++◌, map, take, drop, Option, Some, None, slice_get}
 use Rattle.std.specs.Option.{option_map}
 use Rattle.go_base.specs.Optional.{◌>>=◌}
 use Rattle.go_grammar.specs.Trees.{Tree, first, last, parts}

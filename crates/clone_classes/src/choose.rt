@@ -5,6 +5,7 @@ ghost use Rattle.clone_same.specs.Bodies.{bodies_of};
 ghost use Rattle.clone_classes.specs.Choices.{apart, chosen, first_other, numbers_unless, place_of, IsRefused};
 
 use crate::place::{Place, places_of};
+use crate::taken::Taken;
 use go_base::Memory;
 use go_typed::checked::Checked;
 use go_typed::window::Class;
@@ -138,12 +139,12 @@ fn apart(alloc: Global, places: &[Place]) -> Result<Vec<u32>, Memory>
     requires { length places.now < 2 ^ 32 }
     ensures { IfOk result (λ v. v.items ≡ apart [] 1 places.now) }
 {
-    let mut taken: Vec<Place> = Vec::new(alloc);
+    let mut taken = Taken::new(alloc);
     let mut numbers = Vec::new(alloc);
     let mut number: u32 = 0;
     for place in places {
         number += 1;
-        if !place.meets_any(&taken) {
+        if !taken.meets(*place) {
             taken.push(*place)?;
             numbers.push(number)?;
         }

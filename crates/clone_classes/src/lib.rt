@@ -10,3 +10,4 @@ pub mod laws;
 pub mod listed;
 pub mod pairwise;
 pub mod place;
+mod taken;

@@ -5,6 +5,7 @@ ghost use Rattle.std.specs.List.{list_any};
 ghost use Rattle.go_typed.specs.Views.{views};
 ghost use Rattle.clone_same.specs.Bodies.{bodies_of};
 ghost use Rattle.clone_classes.specs.Choices.{last_from, meets, place_of, place_over};
+ghost use Rattle.clone_classes.specs.Ends.{is_behind, reaches};
 
 use clone_window::run::statements;
 use go_base::Memory;
@@ -30,6 +31,20 @@ impl Place {
         ensures { result ≡ meets self other }
     {
         self.func == other.func && self.from < other.to && other.from < self.to
+    }
+
+    /// Whether it lies in a later function than another place, or behind it in the same.
+    pub(crate) fn is_behind(self, other: Place) -> bool
+        ensures { result ≡ is_behind other self }
+    {
+        other.func < self.func || other.func == self.func && other.to <= self.from
+    }
+
+    /// Whether another place reaches no further.
+    pub(crate) fn reaches(self, other: Place) -> bool
+        ensures { result ≡ reaches self other }
+    {
+        other.func < self.func || other.func == self.func && other.to <= self.to
     }
 
     /// Whether it shares a token with one of other places.

@@ -4,4 +4,4 @@ use Rattle.clone_classes.proofs.choose.apart.Given as goal
 
 abbrev pub invariant-loop-place : goal.invariant-loop-place
 invariant-loop-place l =
-    (apart [] 1 l.places ≡ l.numbers.items ++ apart l.taken.items (suc l.number) (drop l.place-index l.places)) × (l.number ≡ l.place-index)
+    (apart [] 1 l.places ≡ l.numbers.items ++ apart l.taken (suc l.number) (drop l.place-index l.places)) × (l.number ≡ l.place-index)
