@@ -1,0 +1,5 @@
+pub mod Assigned
+pub mod Judged
+pub mod Needs
+pub mod Rounds
+pub mod Through
