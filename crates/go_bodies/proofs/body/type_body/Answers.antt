@@ -1,0 +1,46 @@
+use Rattle.std.proofs.Common.{length, ap, sym, subst, ◌∙◌}
+use Rattle.go_base.specs.Gives.{Gives}
+use Rattle.go_tree.specs.Views.{view}
+use Rattle.go_types.specs.Trees.{declared}
+use Rattle.go_types.specs.Tables.{type_of, rights_of}
+use Rattle.go_typed.specs.Contents.{func_content}
+use Rattle.go_rules.specs.Faults.{refusal_of}
+use Rattle.type_tests.proofs.Extending.{extends_both}
+use Rattle.go_exprs.proofs.Stays.{basics_stay}
+use Rattle.go_stmts.specs.Bodies.{based, body_answer}
+use Rattle.go_body_frames.specs.declared.state.Surroundings.{Surroundings}
+use Rattle.go_package.specs.Bodies.{which_types, local_type}
+use Rattle.go_bodies.specs.Bodies.{scope_around, AreOwn}
+use Rattle.go_bodies.proofs.Around.{around_is, all_known, count_stays}
+use Rattle.go_bodies.proofs.body.type_body.Goals as goal
+
+pub type_function-requires-clause-known : goal.type_function-requires-clause-known
+type_function-requires-clause-known c =
+    let old = c.args.types.now in
+    let mid = c.basics.new.types in
+    let new = c.own_types.new.types in
+    let g = c.in_ok-basics.ensures.grows in
+    all_known old new c.count.ensures.table (extends_both old mid new g.extends c.in_ok-own.ensures.extends) _ c.requires.objects (basics_stay mid new g.table c.in_ok-own.ensures.extends c.in_ok-basics.basics c.in_ok-basics.ensures.basics)
+    (length mid.rights) (which_types c.args.locals.now) (subst (AreOwn new (length mid.rights) (which_types c.args.locals.now)) (sym c.deref.ensures.value) c.in_ok-own.ensures.own)
+
+pub returns-clause-extends : goal.returns-clause-extends
+returns-clause-extends c =
+    let old = c.args.types.now in
+    let mid = c.basics.new.types in
+    let new = c.own_types.new.types in
+    extends_both old new c.type_function.new.types (extends_both old mid new c.in_ok-basics.ensures.grows.extends c.in_ok-own.ensures.extends) c.type_function.ensures.extends
+
+pub returns-clause-exact : goal.returns-clause-exact
+returns-clause-exact c =
+    let old = c.args.types.now in
+    let mid = c.basics.new.types in
+    let new = c.own_types.new.types in
+    let g = c.in_ok-basics.ensures.grows in
+    let bs = which_types c.args.locals.now in
+    let o : Surroundings = record { tokens = c.args.tokens; uses = c.args.uses; env = c.args.env; basics = c.in_ok-basics.basics; base = c.args.base; types = c.deref.result } in
+    let same = around_is old new c.count.ensures.table (extends_both old mid new g.extends c.in_ok-own.ensures.extends) o c.requires.objects bs (rights_of mid) c.in_ok-own.ensures.rights g.rights in
+    let numbers = subst (AreOwn new (length mid.rights) bs) (sym c.deref.ensures.value) c.in_ok-own.ensures.own in
+    let counted = count_stays old mid g.rights in
+    let answer = c.type_function.ensures.exact (local_type (length old.rights) bs) (λ n i is. (numbers n i is).1 ∙ ap (λ m. declared (local_type m bs n)) counted) in
+    subst (λ s. Gives (func_content (type_of c.type_function.new.types.shapes)) refusal_of c.type_function.result (body_answer s c.args.number (length c.args.locals.now) (local_type (length old.rights) bs) (based c.args.base (view c.args.function.now)))) same
+    (subst (λ t. Gives (func_content (type_of c.type_function.new.types.shapes)) refusal_of c.type_function.result (body_answer (scope_around new o) c.args.number (length c.args.locals.now) (local_type (length old.rights) bs) t)) c.in_ok-function.ensures answer)
