@@ -45,7 +45,7 @@ as_many p n [] = refl
 as_many p n (None ∷ xs) = ap suc (as_many p n xs)
 as_many p n (Some x ∷ xs) = ap suc (as_many p n xs)
 
-out_itself : (l : Ending → Comp) → SameOut l l
+pub out_itself : (l : Ending → Comp) → SameOut l l
 out_itself l = (λ us. same_refl (l (Return us)), (same_refl (l Break), (same_refl (l Continue), (same_refl (l Fallthrough), λ k. same_refl (l (Panics k))))))
 
 module _ (p : PackageView) (n : ℕ) (x : TypedNode) (r : Rest) (vs : List Value) where
@@ -120,7 +120,7 @@ module _ (p : PackageView) (n : ℕ) (x : TypedNode) (r : Rest) (vs : List Value
   begins_case m = begins_plain r vs (in_order (values_of (drop m (parts_of p n x))))
 
   -- two parts, of which either may not be there
-  each_two : (xs : List Doing) (k : List Value → Comp) (l : Ending → Comp) → Same (before (each ((at xs 0).value ∷ (at xs 1).value ∷ []) k) l) (before (each (values_of (take 2 xs)) k) l)
+  pub each_two : (xs : List Doing) (k : List Value → Comp) (l : Ending → Comp) → Same (before (each ((at xs 0).value ∷ (at xs 1).value ∷ []) k) l) (before (each (values_of (take 2 xs)) k) l)
   unfolding before each then_do end_by
   each_two [] k l d f w t = refl
   each_two (x1 ∷ []) k l d f w t = then_both x1.value (λ us. each (give [] ∷ []) (λ ws. k (us ++ ws))) (λ us. each [] (λ ws. k (us ++ ws))) l l (λ us d1 f1 w1 t1. refl) (out_itself l) d f w t

@@ -23,13 +23,13 @@ taken_beyond zero (v ∷ vs) h = absurd (omega arith)
 taken_beyond (suc b) [] h = refl
 taken_beyond (suc b) (v ∷ vs) h = ap suc (taken_beyond b vs (omega arith))
 
-drop_taken : (xs : List Doing) (k end : ℕ) → k < end → k < length xs → drop k (take end xs) ≡ at xs k ∷ drop (suc k) (take end xs)
+pub drop_taken : (xs : List Doing) (k end : ℕ) → k < end → k < length xs → drop k (take end xs) ≡ at xs k ∷ drop (suc k) (take end xs)
 drop_taken [] k end e h = absurd (omega arith)
 drop_taken (x ∷ xs) k zero e h = absurd (omega arith)
 drop_taken (x ∷ xs) zero (suc end) e h = refl
 drop_taken (x ∷ xs) (suc k) (suc end) e h = drop_taken xs k end (omega arith) (omega arith)
 
-drop_short : (xs : List Doing) (k end : ℕ) → end ≤ k → drop k (take end xs) ≡ []
+pub drop_short : (xs : List Doing) (k end : ℕ) → end ≤ k → drop k (take end xs) ≡ []
 drop_short xs zero zero e = refl
 drop_short xs (suc k) zero e = refl
 drop_short [] zero (suc end) e = refl
@@ -37,7 +37,7 @@ drop_short [] (suc k) (suc end) e = refl
 drop_short (x ∷ xs) zero (suc end) e = absurd (omega arith)
 drop_short (x ∷ xs) (suc k) (suc end) e = drop_short xs k end (omega arith)
 
-drop_over : (xs : List Doing) (k end : ℕ) → length xs ≤ k → drop k (take end xs) ≡ []
+pub drop_over : (xs : List Doing) (k end : ℕ) → length xs ≤ k → drop k (take end xs) ≡ []
 drop_over xs zero zero h = refl
 drop_over xs (suc k) zero h = refl
 drop_over [] zero (suc end) h = refl

@@ -1,6 +1,6 @@
 -- What is left to do behind a computation, by how that ends.
 use Rattle.std.specs.Prelude.{ℕ, suc, List, [], ◌++◌, take}
-use Rattle.go_meaning.specs.Values.{Value, nth}
+use Rattle.go_meaning.specs.Values.{Value}
 use Rattle.go_meaning.specs.Computations.{World, Ending, Next, Return, Break, Continue, Fallthrough, Panics, Outcome, Ends, Undecided, Comp, end_by, give}
 
 -- What is done next with the values that were given so far, and what is done on the way out by another ending.
@@ -57,22 +57,9 @@ out_of_round c r ws Continue = then_rest c r ws
 out_of_round c r ws Break = r.go ws
 out_of_round c r ws e = r.out ws e
 
--- and over items, whose operand stands above the base
-abbrev pub out_of_items : ℕ → Comp → Rest → List Value → Ending → Comp
-out_of_items b c r ws Continue = then_rest c r (take b ws)
-out_of_items b c r ws Break = r.go (take b ws)
-out_of_items b c r ws e = r.out (take b ws) e
-
 -- behind the block of a loop: the rest of the loop
 abbrev pub round : ℕ → Comp → Rest → Rest
 round b c r = record { go = λ vs. then_rest c r (take b vs); out = λ ws e. out_of_round c r (take b ws) e }
-
--- behind the block of a loop over items: the rest of the loop, by the value above the base
-abbrev pub item_round : (b k : ℕ) → (Value → Comp) → Rest → Rest
-item_round b k c r = record {
-  go = λ vs. then_rest (c (nth (take k vs) b)) r (take b (take k vs));
-  out = λ ws e. out_of_items b (c (nth (take k ws) b)) r (take k ws) e;
-}
 
 -- the way out of a clause of a switch
 abbrev pub out_of_clause : Comp → Rest → List Value → Ending → Comp

@@ -1,5 +1,5 @@
 -- What tasks come to.
-use Rattle.std.specs.Prelude.{ℕ, suc, pos, ◌-◌, Bool, true, false, List, [], ◌∷◌, length, replicate, take, drop, ◌<◌, IfSome}
+use Rattle.std.specs.Prelude.{ℕ, suc, pos, ◌-◌, Bool, true, false, List, [], ◌∷◌, ◌≡◌, length, replicate, take, drop, ◌<◌, IfSome}
 use Rattle.go_grammar.specs.declared.kind.Comparison.TheVariants.{Equal}
 use Rattle.go_types.specs.Tables.{type_of, rights_of}
 use Rattle.go_typed.specs.declared.node.TypedNode.{TypedNode}
@@ -15,14 +15,16 @@ use Rattle.go_meaning.specs.Planning.{zero_in}
 use Rattle.go_eval.specs.declared.plan.Operation.{Operation}
 use Rattle.go_eval.specs.Known.{KnownOperation}
 use Rattle.go_eval.specs.Views.{operation_view, items_view, type_in}
-use Rattle.go_values.specs.Views.{views}
+use Rattle.go_operations.specs.Places.{IsPlace}
+use Rattle.go_values.specs.Views.{view, views}
 use Rattle.go_runs.specs.Programs.{calls, doing, doings, again}
 use Rattle.go_machine.specs.declared.task.Deed.{Deed}
 use Rattle.go_machine.specs.declared.task.Deed.TheVariants as deed
+use Rattle.go_machine.specs.declared.task.Iteration.{Iteration}
 use Rattle.go_machine.specs.declared.task.What.{What}
 use Rattle.go_machine.specs.declared.task.What.TheVariants as what
 use Rattle.go_machine.specs.declared.task.Task.{Task}
-use Rattle.go_machine.specs.Rests.{Rest, finish, replacing, replacing_both, adding, asking, round, item_round, clause_end, leaving}
+use Rattle.go_machine.specs.Rests.{Rest, finish, replacing, replacing_both, adding, asking, round, clause_end, leaving}
 
 -- what the parts of a node can be asked to do
 abbrev pub parts_of : PackageView → ℕ → TypedNode → List Doing
@@ -125,9 +127,9 @@ task_rest p n x b what.Index r = replacing b (λ vs. then_do ((at (parts_of p n 
 task_rest p n x b (what.Tested k) r = replacing_both b k (λ vs. indexed (at (parts_of p n x) 1) (between b k vs)) r
 task_rest p n x b (what.Behind k) r = replacing_both b k (λ vs. give (nth (drop k vs) 0 ∷ between b k vs)) r
 task_rest p n x b (what.Items m items) r = replacing b (λ vs. iterated (items_view items) (take m (parts_of p n x)) (at (parts_of p n x) (suc m)).value (first_above b vs)) r
-task_rest p n x b (what.Item m items next) r = replacing b (λ vs. items_from (parts_of p n x) m (items_view items) next (first_above b vs)) r
-task_rest p n x b (what.ItemTo m items next k) r = replacing_both b k (λ vs. item_to (parts_of p n x) m (items_view items) next (nth (take k vs) b) (drop k vs)) r
-task_rest p n x b (what.ItemRound m items next k) r = item_round b k (items_from (parts_of p n x) m (items_view items) next) r
+task_rest p n x b (what.Item g) r = replacing b (λ vs. items_from (parts_of p n x) g.targets (items_view g.items) g.next (view g.operand)) r
+task_rest p n x b (what.ItemTo g) r = replacing b (λ vs. item_to (parts_of p n x) g.targets (items_view g.items) g.next (view g.operand) (drop b vs)) r
+task_rest p n x b (what.ItemRound g) r = round b (items_from (parts_of p n x) g.targets (items_view g.items) g.next (view g.operand)) r
 task_rest p n x b (what.Leave frame) r = leaving b (views frame.items) r
 
 -- the tasks lie on one another, the last one on top
@@ -138,11 +140,16 @@ on_top p n r (t ∷ ts) = on_top p n (task_rest p n t.node.now t.base t.what r) 
 abbrev pub rest : PackageView → ℕ → List Task → Rest
 rest p n ts = on_top p n finish ts
 
--- ---- their types are among the first k of a table
+-- ---- their types are among the first k of a table, and what they tell of items is so
 
 abbrev pub KnownDeed : ℕ → Deed → Type 0
 KnownDeed k (deed.Planned o) = KnownOperation k o
 KnownDeed k o = Unit {0}
+
+-- The items are counted, and the next one begins at the place.
+pub record IsIteration (g : Iteration) : Type 0 where
+  pub count : g.count ≡ item_count (items_view g.items) (view g.operand)
+  pub place : IsPlace (items_view g.items) (view g.operand) g.next g.place
 
 abbrev pub KnownWhat : ℕ → What → Type 0
 KnownWhat k (what.Perform o) = KnownDeed k o
@@ -150,6 +157,9 @@ KnownWhat k (what.Step o) = KnownOperation k o
 KnownWhat k (what.Load o) = KnownOperation k o
 KnownWhat k (what.Operate o i) = KnownOperation k o
 KnownWhat k (what.Zero m t) = IfSome t (λ a. a < k)
+KnownWhat k (what.Item g) = IsIteration g
+KnownWhat k (what.ItemTo g) = IsIteration g × (g.next < g.count)
+KnownWhat k (what.ItemRound g) = IsIteration g
 KnownWhat k w = Unit {0}
 
 abbrev pub IsFit : ℕ → TypedNode → What → Type 0

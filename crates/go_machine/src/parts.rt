@@ -67,7 +67,7 @@ impl<'a> Engine<'a> {
     ghost use Rattle.go_machine.specs.Engines.{Goes, works};
 
     /// The base, or the number of all values where there aren't so many.
-    fn lower(&self, base: usize) -> usize
+    pub fn lower(&self, base: usize) -> usize
         ensures { result ≡ length (take base (views self.now.values.items)) }
     {
         let top = self.top();

@@ -20,7 +20,7 @@ impl<'a> Engine<'a> {
     ghost use Rattle.go_machine.specs.Engines.{Goes, IsKept, works, falls};
 
     /// Whether the first operand is true; the operands are dropped.
-    fn test(&mut self, base: usize) -> bool
+    pub fn test(&mut self, base: usize) -> bool
         ensures holds { result ≡ is_true (first_above base (views self.old.values.items)) }
         ensures values { views self.new.values.items ≡ take base (views self.old.values.items) }
         ensures kept { IsKept self.old self.new }

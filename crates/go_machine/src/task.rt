@@ -17,6 +17,22 @@ pub enum Deed {
     Planned(Operation),
 }
 
+/// A range clause that runs: what it goes over, and which item is next (Go specification, "For statements with range clause").
+#[derive(Debug, Drop)]
+pub struct Iteration {
+    /// How many targets an item has.
+    pub targets: u32,
+    pub items: Items,
+    /// What its operand was at the start.
+    pub operand: Value,
+    /// How many items there are.
+    pub count: usize,
+    /// The number of the next item.
+    pub next: usize,
+    /// Where it begins: of a rune the place of its first byte.
+    pub place: usize,
+}
+
 /// What is to be done with a node. Operands are the values that stand behind the base of the task.
 #[derive(Debug, Drop)]
 pub enum What {
@@ -125,26 +141,12 @@ pub enum What {
         targets: u32,
         items: Items,
     },
-    /// The items from `next` on.
-    Item {
-        targets: u32,
-        items: Items,
-        next: usize,
-    },
-    /// The assignment of the item `next` and the block, behind the operands of the targets, which stand from `operands` on.
-    ItemTo {
-        targets: u32,
-        items: Items,
-        next: usize,
-        operands: usize,
-    },
-    /// Behind the block of a loop over items: the items from `next` on.
-    ItemRound {
-        targets: u32,
-        items: Items,
-        next: usize,
-        end: usize,
-    },
+    /// The items from one on.
+    Item(Iteration),
+    /// The assignment of that item and the block, behind the operands of the targets.
+    ItemTo(Iteration),
+    /// Behind the block of a loop over items: the items from that one on.
+    ItemRound(Iteration),
     /// Behind a body: the frame of the caller.
     Leave(Vec<Value>),
 }

@@ -1,0 +1,6 @@
+pub mod Between
+pub mod Going
+pub mod Finding
+pub mod Testing
+pub mod Storing
+pub mod Operating

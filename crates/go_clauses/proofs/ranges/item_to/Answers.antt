@@ -1,0 +1,70 @@
+use Rattle.std.proofs.Common.{◌≡◌, ℕ, ◌+◌, suc, List, [], ◌∷◌, Option, take, drop, length, refl, sym, ap, ◌∙◌, subst, add-one, Ok, Err}
+use Rattle.std.proofs.lemmas.Result.{err_from_is_err_and}
+use Rattle.go_typed.specs.declared.node.TypedNode.{TypedNode}
+use Rattle.go_meaning.specs.Values.{Value}
+use Rattle.go_meaning.specs.Computations as meaning
+use Rattle.go_meaning.specs.Computations.{Comp, then_do, looped}
+use Rattle.go_meaning.specs.Doings.{at, stores}
+use Rattle.go_meaning.specs.Operations.{Item, item, operate}
+use Rattle.go_eval.specs.Views.{items_view}
+use Rattle.go_values.specs.declared.value.Value as code
+use Rattle.go_values.specs.Views.{view, views}
+use Rattle.go_values.specs.Worlds.{world_view}
+use Rattle.go_runs.specs.Machines.{outcome, ends, IsLeft}
+use Rattle.go_runs.specs.Programs.{doings}
+use Rattle.go_machine.specs.declared.task.Iteration.{Iteration}
+use Rattle.go_machine.specs.declared.task.What.TheVariants as what
+use Rattle.go_machine.specs.Tasks.{parts_of, items_from}
+use Rattle.go_machine.specs.Engines.{works, lays_value}
+use Rattle.go_assignments.proofs.Going.{goes_behind, goes_stored, kept_itself}
+use Rattle.go_assignments.proofs.Storing.{then_left}
+use Rattle.go_clauses.proofs.Ranging.{item_given, item_assigned, item_round}
+use Rattle.go_clauses.proofs.ranges.item_to.Goals as goal
+
+pub returns : goal.returns
+returns c =
+    let p = c.args.checked.now in
+    let x = c.args.node.now in
+    let b = c.args.base in
+    let g = c.args.iteration in
+    let m = c.args.engine.now in
+    let vs = views m.values.items in
+    let M = c.store_all-answer.new.machine in
+    let I = items_view g.items in
+    let v = view g.operand in
+    let ws = views c.in_ok-values.values.items in
+    let given : ws ≡ item I g.next v (world_view m.machine.world) = c.in_ok-values.ensures ∙ c.in_ok-item.ensures.values in
+    let us : views c.above.result.now ≡ drop b vs = c.above.ensures ∙ ap (λ (zs : List code.Value). drop b (views zs)) c.deref-2.ensures.value in
+    let C : ℕ → Comp = λ n. then_do (operate (Item I g.next) (v ∷ [])) (λ zs. stores (take g.targets (parts_of p n x)) (drop b vs) zs) in
+    let L : ℕ → Comp = λ n. looped (at (parts_of p n x) (suc g.targets)).value (items_from (parts_of p n x) g.targets I (suc g.next) v) in
+    let g1 : Iteration = record { targets = g.targets; items = g.items; operand = g.operand; count = g.count; next = g.next + 1; place = c.in_ok-item.item.next } in
+    goes_behind p (works p x b (what.ItemTo g)) (lays_value p x (what.ItemRound g1) (g.targets + 1)) C L m m c.cut.new.self M (take b vs) c.lay_value.result c.lay_value.new.self (kept_itself m) c.cut.ensures.kept c.cut.ensures.values c.in_ok-answer.ensures.turns
+    (λ n. item_given I g.next v (λ zs. stores (take g.targets (parts_of p n x)) (drop b vs) zs) ws m.depth m.machine given
+    ∙ subst (λ (zs : List Value). outcome (stores (take g.targets (parts_of p n x)) zs ws) m.depth m.machine ≡ ends (meaning.Next []) M) us
+    (subst (λ (ys : List (Option TypedNode)). outcome (stores (take g.targets (doings p n ys)) (views c.above.result.now) ws) m.depth m.machine ≡ ends (meaning.Next []) M) c.deref.ensures.value (c.in_ok-answer.ensures.is n m.depth)))
+    (λ n s. item_assigned p n x b s vs g) (λ n s. item_round p n x b s vs g g1 refl refl refl (add-one g.next) (g.targets + 1) (add-one g.targets) (take b vs))
+    (c.lay_value.ensures p (c.requires.node, record { count = c.requires.iteration.count; place = c.in_ok-item.ensures.next }))
+
+pub returns-in_err-answer : goal.returns-in_err-answer
+returns-in_err-answer c =
+    let p = c.args.checked.now in
+    let x = c.args.node.now in
+    let b = c.args.base in
+    let g = c.args.iteration in
+    let m = c.args.engine.now in
+    let vs = views m.values.items in
+    let M = c.store_all-answer.new.machine in
+    let I = items_view g.items in
+    let v = view g.operand in
+    let ws = views c.in_ok-values.values.items in
+    let q = err_from_is_err_and c.from_residual-in_err-answer.result c.from_residual-in_err-answer.ensures.1 in
+    let e = c.in_err-answer.field-0.0 in
+    let given : ws ≡ item I g.next v (world_view m.machine.world) = c.in_ok-values.ensures ∙ c.in_ok-item.ensures.values in
+    let us : views c.above.result.now ≡ drop b vs = c.above.ensures ∙ ap (λ (zs : List code.Value). drop b (views zs)) c.deref-2.ensures.value in
+    let C : ℕ → Comp = λ n. then_do (operate (Item I g.next) (v ∷ [])) (λ zs. stores (take g.targets (parts_of p n x)) (drop b vs) zs) in
+    let L : ℕ → Comp = λ n. looped (at (parts_of p n x) (suc g.targets)).value (items_from (parts_of p n x) g.targets I (suc g.next) v) in
+    rw (q.1, q.2) (goes_stored p (works p x b (what.ItemTo g)) (λ n. then_do (C n) (λ no. L n)) m m c.cut.new.self M (take b vs) (Err e) (kept_itself m) c.cut.ensures.kept c.cut.ensures.values c.in_err-answer.ensures.turns
+    (λ n. then_left (C n) (λ no. L n) m.depth m.machine M e (subst (IsLeft e M) (sym (item_given I g.next v (λ zs. stores (take g.targets (parts_of p n x)) (drop b vs) zs) ws m.depth m.machine given))
+    (subst (λ (zs : List Value). IsLeft e M (outcome (stores (take g.targets (parts_of p n x)) zs ws) m.depth m.machine)) us
+    (subst (λ (ys : List (Option TypedNode)). IsLeft e M (outcome (stores (take g.targets (doings p n ys)) (views c.above.result.now) ws) m.depth m.machine)) c.deref.ensures.value (c.in_err-answer.ensures.is n m.depth)))))
+    (λ n s. item_assigned p n x b s vs g))
