@@ -1,22 +1,20 @@
 -- Trees that agree have words that are alike.
-use Rattle.std.proofs.Common.{◌≡◌, ℕ, zero, suc, ◌+◌, Bool, true, false, List, [], ◌∷◌, ◌++◌, length, Option, Some, None, refl, sym, ap, subst, ◌∙◌, arith, length-append}
-use Rattle.std.specs.Prelude.{◌&&◌, ◌||◌, not, nat_eq, nat_lt, if◌then◌else◌}
+use Rattle.std.proofs.Common.{◌≡◌, ℕ, suc, Bool, true, false, List, [], ◌∷◌, ◌++◌, length, Option, Some, None, refl, sym, ap, subst, ◌∙◌, arith, length-append}
+use Rattle.std.specs.Prelude.{◌&&◌, ◌||◌, nat_eq, if◌then◌else◌}
 use Rattle.std.specs.Option.{option_to_list}
 use Rattle.std.proofs.lemmas.Bool.{and_parts, and_from, eqb-true}
-use Rattle.std.proofs.lemmas.List.{append-nil}
-use Rattle.type_tests.specs.Identity.{same_name}
 use Rattle.go_typed.specs.declared.form.Form.{Form}
 use Rattle.go_typed.specs.Forms.{local_of}
 use Rattle.go_typed.specs.Trees.{Sort, Nothing, Typed, typed, Typeds, none, more, skip}
 use Rattle.clone_window.specs.declared.outline.Outline.{Outline}
 use Rattle.clone_window.specs.Kinds.{outline}
 use Rattle.clone_window.specs.Masses.{is_hole, is_inside}
-use Rattle.clone_window.specs.Sameness.{final, same_final, value_of, are_alike, same_literal, same_outline, Compared, by_form, by_sort, by_literal, compared, agree_besides, agree_at, agree, all_agree, locals, all_locals}
+use Rattle.clone_window.specs.Sameness.{final, same_final, value_of, are_alike, same_outline, Compared, by_form, by_sort, by_literal, compared, agree_besides, agree_at, agree, all_agree, locals, all_locals}
 use Rattle.clone_window.proofs.Equivalence.{as-many-here, all-as-many}
 use Rattle.alpha_hash.specs.Alike.{AreAlike, NamesAgree, same_field, fields_agree, all_fields_agree}
 use Rattle.alpha_hash.specs.Hash.{text_fold}
 use Rattle.alpha_hash.specs.Naming.{Naming, final_text}
-use Rattle.alpha_hash.specs.Words.{Word, number, named, begins_with_list, last_list, length_if, is_at, lengths_at, row_length, one_if, kind_words, operator_words, local_words, object_words, names_field, field_name, field_words, value_text, compared_words, defined_words, constant_words, blank_words, name_words, declared_words, all_declared, constants_words, own_words, hole_words, is_defined, words, row_words, window_words}
+use Rattle.alpha_hash.specs.Words.{Word, number, named, begins_with_list, last_list, length_if, is_at, lengths_at, row_length, one_if, kind_words, operator_words, local_words, object_words, names_field, field_name, field_words, compared_words, defined_words, constant_words, blank_words, name_words, declared_words, all_declared, constants_words, own_words, hole_words, is_defined, words, row_words, window_words}
 use Rattle.alpha_hash.proofs.Texts.{name-is, literals-text, finals-text, alike-texts}
 
 -- ---- rows of locals

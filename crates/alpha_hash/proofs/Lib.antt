@@ -2,3 +2,4 @@ pub mod Terms
 pub mod Texts
 pub mod Alike
 pub mod Windows
+pub mod Functions

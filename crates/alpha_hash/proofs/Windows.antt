@@ -1,13 +1,16 @@
 -- Windows that are the same have one number.
-use Rattle.std.proofs.Common.{◌≡◌, ℕ, suc, Bool, true, false, List, [], ◌∷◌, length, refl, sym, ap, subst, ◌∙◌, arith}
+use Rattle.std.proofs.Common.{◌≡◌, ℕ, Bool, true, false, List, [], ◌∷◌, length, slice_get, refl, sym, ap, subst, ◌∙◌, arith}
 use Rattle.std.specs.Prelude.{◌&&◌, ◌||◌, nat_eq}
 use Rattle.std.specs.List.{list_all, list_any, zip}
 use Rattle.std.proofs.lemmas.Bool.{and_parts, and_from, eqb-true, eq-eqb}
 use Rattle.go_typed.specs.Trees.{Sort, Typeds}
+use Rattle.clone_same.specs.Bodies.{bodies_of, locals_in}
 use Rattle.clone_window.specs.Sameness.{are_alike, all_agree, all_locals, local_pairs, is_iff, fits_pair, is_one_to_one, sort_at, is_matched, is_same}
 use Rattle.clone_window.proofs.Equivalence.{all-as-many}
 use Rattle.alpha_hash.specs.Alike.{IsOneToOne, NamesAgree, window_fields_agree}
 use Rattle.alpha_hash.specs.Naming.{Naming}
+use Rattle.alpha_hash.specs.Packages.{statements_in, window_hash, window_naming}
+use Rattle.alpha_hash.specs.Sharing.{IsLawful}
 use Rattle.alpha_hash.specs.Numbers.{hash}
 use Rattle.alpha_hash.specs.Words.{window_words}
 use Rattle.alpha_hash.proofs.Alike.{Paired, alike-window}
@@ -79,3 +82,9 @@ same-windows d n m here there names left right ps qs h fields =
     ap (λ s. are_alike d s (m.local_sort y)) (left x) ∙ ap (λ t. are_alike d (sort_at here x) t) (right y) ∙ found-passes (is_matched d here there) pairs x y k u.1 in
     same-number R (one-to-one pairs w.1) (window_words n ps) (window_words m qs)
     (alike-window d n m R names sorts ps qs w.0 fields (paired-rows R (all_locals false ps) (all_locals false qs) long (λ x y k. k)))
+
+-- the numbers of windows of two packages
+pub hash-lawful : IsLawful window_hash
+hash-lawful identical p q share w v h =
+    same-windows identical (window_naming p w) (window_naming q v) (locals_in (slice_get (bodies_of p.functions) w.func)) (locals_in (slice_get (bodies_of q.functions) v.func))
+    (record { types = share.types; objects = share.objects }) (λ k. refl) (λ k. refl) (statements_in p w) (statements_in q v) h (share.fields w v h)

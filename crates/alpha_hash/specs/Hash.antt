@@ -1,5 +1,5 @@
 -- The rolling hash. All numbers are those of 64 bits.
-use Rattle.std.specs.Prelude.{ℕ, suc, ◌+◌, ◌-◌, ◌*◌, ◌%◌, ◌^◌, List, [], ◌∷◌, Option, Some, None}
+use Rattle.std.specs.Prelude.{ℕ, ◌-◌, ◌*◌, ◌%◌, ◌^◌, List, [], ◌∷◌, Option, Some, None}
 use Rattle.std.specs.Int.Bits.{bit_xor}
 
 abbrev pub mix : ℕ → ℕ → ℕ

@@ -4,4 +4,5 @@ pub mod Numbers
 pub mod Hash
 pub mod Alike
 pub mod Packages
+pub mod Sharing
 pub mod Examples

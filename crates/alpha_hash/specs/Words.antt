@@ -2,13 +2,12 @@
 --
 -- A node gives the number of its kind, then its own words, then the words of its parts in order; a part that is left out gives 0,
 -- and a list of parts stands behind its length. Types, keys of fields and specifications of variables have no kind.
-use Rattle.std.specs.Prelude.{ℕ, suc, Bool, true, false, ◌&&◌, ◌||◌, not, nat_eq, nat_lt, if◌then◌else◌, List, [], ◌∷◌, ◌++◌, map, Option, Some, None}
+use Rattle.std.specs.Prelude.{ℕ, suc, Bool, true, false, ◌&&◌, nat_eq, nat_lt, if◌then◌else◌, List, [], ◌∷◌, ◌++◌, Option, Some, None}
 use Rattle.std.specs.List.{list_any}
 use Rattle.go_constants.specs.declared.values.Const.{Const}
 use Rattle.go_print.specs.Literals.{literal_text}
-use Rattle.go_typed.specs.declared.form.Form.{Form}
 use Rattle.go_typed.specs.Forms.{local_of}
-use Rattle.go_typed.specs.Trees.{Sort, Nothing, Label, Typed, typed, Typeds, none, more, skip, sort_of}
+use Rattle.go_typed.specs.Trees.{Sort, Nothing, Typed, typed, Typeds, none, more, skip, sort_of}
 use Rattle.clone_window.specs.declared.outline.Outline.{Outline}
 use Rattle.clone_window.specs.Kinds.{outline}
 use Rattle.clone_window.specs.Masses.{is_hole, is_inside}

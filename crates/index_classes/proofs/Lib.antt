@@ -1,0 +1,3 @@
+pub mod Ascents
+pub mod Flattened
+pub mod Classified

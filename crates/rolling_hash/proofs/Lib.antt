@@ -1,0 +1,5 @@
+pub mod Folds
+pub mod Declared
+pub mod Rows
+pub mod Runs
+pub mod Last

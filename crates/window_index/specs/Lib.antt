@@ -1,0 +1,4 @@
+pub mod Buckets
+pub mod Groups
+pub mod Fitting
+pub mod Counting
