@@ -114,20 +114,23 @@ keyword_reads (k ∷ ks) h = reads_as (Either (IsWord k) (IsKeyword ks)) (IsKeyw
 pub all_apart : AreApart keywords
 unfolding literal_at
 all_apart = (
-  (λ rest. refl, (λ rest. refl, (λ rest. refl, (λ rest. refl, (λ rest. refl, (λ rest. refl, tt)))))),
+  (λ rest. refl, (λ rest. refl, (λ rest. refl, (λ rest. refl, (λ rest. refl, (λ rest. refl, (λ rest. refl, tt))))))),
   (
-    (λ rest. refl, (λ rest. refl, (λ rest. refl, (λ rest. refl, (λ rest. refl, tt))))),
+    (λ rest. refl, (λ rest. refl, (λ rest. refl, (λ rest. refl, (λ rest. refl, (λ rest. refl, tt)))))),
     (
-      (λ rest. refl, (λ rest. refl, (λ rest. refl, (λ rest. refl, tt)))),
+      (λ rest. refl, (λ rest. refl, (λ rest. refl, (λ rest. refl, (λ rest. refl, tt))))),
       (
-        (λ rest. refl, (λ rest. refl, (λ rest. refl, tt))),
+        (λ rest. refl, (λ rest. refl, (λ rest. refl, (λ rest. refl, tt)))),
         (
-          (λ rest. refl, (λ rest. refl, tt)),
+          (λ rest. refl, (λ rest. refl, (λ rest. refl, tt))),
           (
-            (λ rest. refl, tt),
+            (λ rest. refl, (λ rest. refl, tt)),
             (
-              tt,
-              tt,
+              (λ rest. refl, tt),
+              (
+                tt,
+                tt,
+              ),
             ),
           ),
         ),
@@ -143,7 +146,8 @@ is_keyword keyword.Drop = inr (inr (inl refl))
 is_keyword keyword.Classes = inr (inr (inr (inl refl)))
 is_keyword keyword.Stat = inr (inr (inr (inr (inl refl))))
 is_keyword keyword.Show = inr (inr (inr (inr (inr (inl refl)))))
-is_keyword keyword.Quit = inr (inr (inr (inr (inr (inr (inl refl))))))
+is_keyword keyword.Save = inr (inr (inr (inr (inr (inr (inl refl))))))
+is_keyword keyword.Quit = inr (inr (inr (inr (inr (inr (inr (inl refl)))))))
 
 -- ---- what stands behind a keyword
 
@@ -230,6 +234,7 @@ Tail keyword.Drop = Named newline (λ name. Only (command.Remove name))
 Tail keyword.Classes = Only command.Classes
 Tail keyword.Stat = Only command.Stat
 Tail keyword.Show = Named newline (λ name. Only (command.Show name))
+Tail keyword.Save = Only command.Save
 Tail keyword.Quit = Only command.Quit
 
 edit_reads : Reads (Tail keyword.Edit) (named_at blank (λ name. counted_at (λ start. counted_at (λ end. sized_at (λ text. command.Edit name start end text)))))
@@ -259,6 +264,7 @@ tail_reads keyword.Drop = alone_reads (λ name. command.Remove name)
 tail_reads keyword.Classes = only_reads command.Classes
 tail_reads keyword.Stat = only_reads command.Stat
 tail_reads keyword.Show = alone_reads (λ name. command.Show name)
+tail_reads keyword.Save = only_reads command.Save
 tail_reads keyword.Quit = only_reads command.Quit
 
 tail_some : (k : Keyword) → (s : List ℕ) × (c : Command) × Tail k s c
@@ -268,6 +274,7 @@ tail_some keyword.Drop = named_some newline (λ name. Only (command.Remove name)
 tail_some keyword.Classes = ([], command.Classes, (refl, refl))
 tail_some keyword.Stat = ([], command.Stat, (refl, refl))
 tail_some keyword.Show = named_some newline (λ name. Only (command.Show name)) (λ name rest. Ok (command.Show name, rest)) (alone_reads (λ name. command.Show name))
+tail_some keyword.Save = ([], command.Save, (refl, refl))
 tail_some keyword.Quit = ([], command.Quit, (refl, refl))
 
 -- ---- the spelling of a command is that of its keyword and of what stands behind it
@@ -329,6 +336,7 @@ from_tail keyword.Show x y s c ex t e =
     let first : y ≡ t.0 ++ (newline ∷ []) = flat y t.1 t.2 t.0 [] newline t.3.1 t.4.0 t.5 in
     let all : s ≡ spelling (command.Show t.0) = e ∙ ap (λ (w : List ℕ). w ++ y) ex ∙ ap (λ (w : List ℕ). spelling_of keyword.Show ++ w) first in
     subst (λ (d : Command). Spells s d) (sym t.4.1) (t.3.0, all)
+from_tail keyword.Save x y s c ex t e = subst (λ (d : Command). Spells s d) (sym t.1) (tt, e ∙ rw (ex, t.0) refl)
 from_tail keyword.Quit x y s c ex t e = subst (λ (d : Command). Spells s d) (sym t.1) (tt, e ∙ rw (ex, t.0) refl)
 
 -- the text behind a keyword, after the name
@@ -370,6 +378,7 @@ to_whole s (command.Remove name) t = (keyword.Drop, spelling_of keyword.Drop, na
 to_whole s command.Classes t = (keyword.Classes, spelling_of keyword.Classes, [], (is_keyword keyword.Classes, refl), (refl, refl), t.1 ∙ sym (append-nil (spelling_of keyword.Classes)))
 to_whole s command.Stat t = (keyword.Stat, spelling_of keyword.Stat, [], (is_keyword keyword.Stat, refl), (refl, refl), t.1 ∙ sym (append-nil (spelling_of keyword.Stat)))
 to_whole s (command.Show name) t = (keyword.Show, spelling_of keyword.Show, name ++ (newline ∷ []), (is_keyword keyword.Show, refl), alone (λ n. command.Show n) name t.0, t.1)
+to_whole s command.Save t = (keyword.Save, spelling_of keyword.Save, [], (is_keyword keyword.Save, refl), (refl, refl), t.1 ∙ sym (append-nil (spelling_of keyword.Save)))
 to_whole s command.Quit t = (keyword.Quit, spelling_of keyword.Quit, [], (is_keyword keyword.Quit, refl), (refl, refl), t.1 ∙ sym (append-nil (spelling_of keyword.Quit)))
 
 pub command_reads : Reads Spells command_at

@@ -36,4 +36,5 @@ short_lines (command.Remove name) h = omega (arith, last name, h.few)
 short_lines command.Classes h = omega arith
 short_lines command.Stat h = omega arith
 short_lines (command.Show name) h = omega (arith, last name, h.few)
+short_lines command.Save h = omega arith
 short_lines command.Quit h = omega arith

@@ -54,6 +54,7 @@ some_byte (command.Remove name) = omega arith
 some_byte command.Classes = omega arith
 some_byte command.Stat = omega arith
 some_byte (command.Show name) = omega arith
+some_byte command.Save = omega arith
 some_byte command.Quit = omega arith
 
 quits : (c : Command) → (c ≡ command.Quit) ⊎ (c ≡ command.Quit → ⊥)
@@ -63,6 +64,7 @@ quits (command.Remove name) = inr (λ e. absurd cc)
 quits command.Classes = inr (λ e. absurd cc)
 quits command.Stat = inr (λ e. absurd cc)
 quits (command.Show name) = inr (λ e. absurd cc)
+quits command.Save = inr (λ e. absurd cc)
 quits command.Quit = inl refl
 
 shorter : (bytes others : List ℕ) (c : Command) (n : ℕ) → BeginsWith bytes c others → length bytes < suc n → length others < n

@@ -66,6 +66,7 @@ behind_stays keyword.Drop = bad_stays
 behind_stays keyword.Classes = bad_stays
 behind_stays keyword.Stat = bad_stays
 behind_stays keyword.Show = bad_stays
+behind_stays keyword.Save = bad_stays
 behind_stays keyword.Quit = bad_stays
 
 size_stays : Stays size_at
@@ -103,6 +104,7 @@ behind_made keyword.Drop bytes rest size e = absurd cc
 behind_made keyword.Classes bytes rest size e = absurd cc
 behind_made keyword.Stat bytes rest size e = absurd cc
 behind_made keyword.Show bytes rest size e = absurd cc
+behind_made keyword.Save bytes rest size e = absurd cc
 behind_made keyword.Quit bytes rest size e = absurd cc
 
 made : (bytes rest : List ℕ) (size : ℕ) → size_at bytes ≡ Ok (size, rest) → Made (command_at bytes) size rest
@@ -230,6 +232,7 @@ told_by_line (command.Remove name) bytes rest h fits e le = absurd (none_behind 
 told_by_line command.Classes bytes rest h fits e le = absurd (none_behind bytes rest command.Classes h fits e le)
 told_by_line command.Stat bytes rest h fits e le = absurd (none_behind bytes rest command.Stat h fits e le)
 told_by_line (command.Show name) bytes rest h fits e le = absurd (none_behind bytes rest (command.Show name) h fits e le)
+told_by_line command.Save bytes rest h fits e le = absurd (none_behind bytes rest command.Save h fits e le)
 told_by_line command.Quit bytes rest h fits e le = absurd (none_behind bytes rest command.Quit h fits e le)
 
 pub told_is : (bytes rest : List ℕ) (size count : ℕ) → size_at bytes ≡ Ok (size, rest) → Told bytes count → size_of bytes size rest ≡ count

@@ -38,10 +38,11 @@ spelling_of keyword.Drop = codes "drop "
 spelling_of keyword.Classes = codes "classes\n"
 spelling_of keyword.Stat = codes "stat\n"
 spelling_of keyword.Show = codes "show "
+spelling_of keyword.Save = codes "save\n"
 spelling_of keyword.Quit = codes "quit\n"
 
 abbrev pub keywords : List Keyword
-keywords = keyword.Edit ∷ keyword.Add ∷ keyword.Drop ∷ keyword.Classes ∷ keyword.Stat ∷ keyword.Show ∷ keyword.Quit ∷ []
+keywords = keyword.Edit ∷ keyword.Add ∷ keyword.Drop ∷ keyword.Classes ∷ keyword.Stat ∷ keyword.Show ∷ keyword.Save ∷ keyword.Quit ∷ []
 
 -- the first of these keywords that the bytes begin with, or may begin with
 unfoldable pub keyword_of : List Keyword → List ℕ → Read Keyword
@@ -70,6 +71,7 @@ behind_keyword keyword.Stat bytes = Ok (command.Stat, bytes)
 behind_keyword keyword.Show bytes = do
   name ← name_at newline bytes
   Ok (command.Show name.0, name.1)
+behind_keyword keyword.Save bytes = Ok (command.Save, bytes)
 behind_keyword keyword.Quit bytes = Ok (command.Quit, bytes)
 
 -- the command at the front, and the bytes behind it

@@ -31,6 +31,7 @@ Fits (command.Remove name) = IsName name
 Fits command.Classes = Unit {0}
 Fits command.Stat = Unit {0}
 Fits (command.Show name) = IsName name
+Fits command.Save = Unit {0}
 Fits command.Quit = Unit {0}
 
 -- Words of the line are separated by one blank. A newline ends the line, and another one follows the bytes.
@@ -42,6 +43,7 @@ spelling (command.Remove name) = codes "drop " ++ (name ++ (newline ∷ []))
 spelling command.Classes = codes "classes\n"
 spelling command.Stat = codes "stat\n"
 spelling (command.Show name) = codes "show " ++ (name ++ (newline ∷ []))
+spelling command.Save = codes "save\n"
 spelling command.Quit = codes "quit\n"
 
 -- how many bytes of a command stand behind its line
@@ -52,6 +54,7 @@ behind_line (command.Remove name) = 0
 behind_line command.Classes = 0
 behind_line command.Stat = 0
 behind_line (command.Show name) = 0
+behind_line command.Save = 0
 behind_line command.Quit = 0
 
 -- the bytes spell the command

@@ -21,6 +21,7 @@ size_behind keyword.Drop bytes = Err bad
 size_behind keyword.Classes bytes = Err bad
 size_behind keyword.Stat bytes = Err bad
 size_behind keyword.Show bytes = Err bad
+size_behind keyword.Save bytes = Err bad
 size_behind keyword.Quit bytes = Err bad
 
 -- LEN at the end of the line at the front, and the bytes behind the line

@@ -44,6 +44,8 @@ pub enum Command {
     Show {
         name: Name,
     },
+    /// `save`: all files are written into the folder.
+    Save,
     /// `quit`: the end of the script.
     Quit,
 }
@@ -57,17 +59,19 @@ pub enum Keyword {
     Classes,
     Stat,
     Show,
+    Save,
     Quit,
 }
 
 /// The first words of all commands.
-pub const KEYWORDS: [Keyword; 7] = [
+pub const KEYWORDS: [Keyword; 8] = [
     Keyword::Edit,
     Keyword::Add,
     Keyword::Drop,
     Keyword::Classes,
     Keyword::Stat,
     Keyword::Show,
+    Keyword::Save,
     Keyword::Quit,
 ];
 
@@ -83,6 +87,7 @@ impl Keyword {
             Keyword::Classes => b"classes\n",
             Keyword::Stat => b"stat\n",
             Keyword::Show => b"show ",
+            Keyword::Save => b"save\n",
             Keyword::Quit => b"quit\n",
         }
     }
@@ -221,6 +226,7 @@ fn behind_keyword(
         Keyword::Classes => Ok((Command::Classes, bytes)),
         Keyword::Stat => Ok((Command::Stat, bytes)),
         Keyword::Show => show_of(alloc, bytes),
+        Keyword::Save => Ok((Command::Save, bytes)),
         Keyword::Quit => Ok((Command::Quit, bytes)),
     }
 }

@@ -14,7 +14,7 @@ enum Rest {
     Bad(&'static [u8]),
 }
 
-/// The commands of a script, and what stands behind them. `extract`, `run` and `save` are no commands yet.
+/// The commands of a script, and what stands behind them. `extract` and `run` are no commands yet.
 const SCRIPTS: [(&[&[u8]], Rest); 10] = [
     (&[b"classes\n"], Rest::Bad(b"run 10 0\n\n")),
     (&[b"stat\n"], Rest::Front(b"")),
@@ -54,7 +54,7 @@ const SCRIPTS: [(&[&[u8]], Rest); 10] = [
     ),
     (&[b"classes\n"], Rest::Front(b"edit main.go 0 0 10\nabcd")),
     (&[], Rest::Bad(b"clases\n")),
-    (&[], Rest::Bad(b"save\n")),
+    (&[b"save\n"], Rest::Front(b"")),
 ];
 
 /// The command at the front is this one.

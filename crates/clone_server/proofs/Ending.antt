@@ -1,0 +1,87 @@
+-- How a run ends.
+use Rattle.std.proofs.Common.{◌≡◌, ℕ, List, [], ◌++◌, Option, Some, Result, Ok, Err, inl, inr, refl, ap, ◌∙◌, append_assoc}
+use Rattle.go_base.specs.declared.bytes.FileText.{FileText}
+use Rattle.port_io.specs.declared.sink.SinkError.{SinkError}
+use Rattle.port_io.specs.declared.sink.SinkError.TheVariants as sink
+use Rattle.port_io.specs.Held.{Held}
+use Rattle.clone_intake.specs.declared.step.End.{End}
+use Rattle.clone_intake.specs.Taking.{outcome_of}
+use Rattle.clone_words.specs.declared.words.WordsError.{WordsError}
+use Rattle.clone_words.specs.Words.{Said, usage}
+use Rattle.clone_folder.specs.declared.folder.OpenError.{OpenError}
+use Rattle.clone_folder.specs.Opening.{opened}
+use Rattle.clone_server.specs.declared.stop.Stop.{Stop}
+use Rattle.clone_server.specs.declared.stop.Stop.TheVariants as stop
+use Rattle.clone_server.specs.Session.{Settings, Answering, outcome_status, outcome_text}
+use Rattle.clone_server.specs.Serving.{sink_stop, WritesAll, AtEnd, Runs}
+use Rattle.clone_server.specs.Run.{Closes, RunsFiles, Untouched, RunsFolder, RunsWords}
+use Rattle.clone_server.proofs.Written.{leaves_all}
+use Rattle.clone_server.proofs.Standing.{stands_first}
+
+pub closes_stop : (line : List ℕ) (status : ℕ) (before : List ℕ) (e : SinkError) (written : Option (List ℕ)) → WritesAll (Err e) before line written → Closes line status before (Err (sink_stop e)) written
+closes_stop line status before sink.Failed written w = w
+closes_stop line status before sink.Memory written w = (w.0, w.2)
+
+-- memory ran out before the line was written
+pub closes_before : (line : List ℕ) (status : ℕ) (before : List ℕ) (written : Option (List ℕ)) → written ≡ Some before → Closes line status before (Err stop.Memory) written
+closes_before line status before written e = (line, leaves_all before line written e)
+
+module _ (A : Answering) (dir : List ℕ) (files : List FileText) (held : Held) (script before : List ℕ) where
+  pub files_stop : (e : Stop) (now : List FileText) (after : Option Held) (written left : Option (List ℕ)) →
+      Runs A dir (record { files = files; held = held }) script before (Err e) now after written left → RunsFiles A dir (record { files = files; held = held }) script before (Err e) after written left
+  files_stop stop.Folder now after written left r = r
+  files_stop stop.Script now after written left r = r
+  files_stop stop.Save now after written left r = (now, r)
+  files_stop stop.Sink now after written left r = inl (now, r)
+  files_stop stop.Memory now after written left r = elim r [ inl w ↦ inl (now, w) | inr b ↦ inr (inl b) ]
+
+  -- memory ran out before the first command
+  pub files_first : (after : Option Held) (written left : Option (List ℕ)) → after ≡ Some held → written ≡ Some before → left ≡ Some script →
+      RunsFiles A dir (record { files = files; held = held }) script before (Err stop.Memory) after written left
+  files_first after written left eh ew el =
+      let s = stands_first A dir files held script before after written left eh ew el in
+      inr (inl ([], left, record { bytes = s.bytes; now = record { files = files; held = s.held }; reached = s.reached; held = s.held_is; written_is = s.written_is; left_is = s.left_is }))
+
+  pub files_end : (end : End) (r : Result ℕ Stop) (after : Option Held) (written0 written left : Option (List ℕ)) →
+      (a : AtEnd A dir (record { files = files; held = held }) script before (outcome_of end) after written0) →
+      Closes (outcome_text (outcome_of end)) (outcome_status (outcome_of end)) (before ++ a.bytes) r written →
+      RunsFiles A dir (record { files = files; held = held }) script before r after written left
+  files_end end (Ok n) after written0 written left a c = (
+    outcome_of end,
+    a.bytes ++ outcome_text (outcome_of end),
+    a.now,
+    record { commands = a.commands; rest = a.rest; replies = a.bytes; follow = a.follow; ends = a.ends; answered = a.answered; whole = refl },
+    c.0,
+    c.1 ∙ ap Some (append_assoc before a.bytes (outcome_text (outcome_of end))),
+    a.held,
+  )
+  files_end end (Err stop.Sink) after written0 written left a c = inr (record { outcome = outcome_of end; some = written0; end = a; stops = c })
+  files_end end (Err stop.Memory) after written0 written left a c = inr (inr (record { outcome = outcome_of end; some = written0; end = a; stops = c }))
+  files_end end (Err stop.Folder) after written0 written left a c = absurd c
+  files_end end (Err stop.Script) after written0 written left a c = absurd c
+  files_end end (Err stop.Save) after written0 written left a c = absurd c
+
+  pub folder_files : (r : Result ℕ Stop) (after : Option Held) (written left : Option (List ℕ)) → RunsFiles A dir (record { files = files; held = held }) script before r after written left →
+      RunsFolder A dir (Ok files) held script before r after written left
+  folder_files (Ok n) after written left h = h
+  folder_files (Err stop.Folder) after written left h = absurd h
+  folder_files (Err stop.Script) after written left h = h
+  folder_files (Err stop.Sink) after written left h = h
+  folder_files (Err stop.Save) after written left h = h
+  folder_files (Err stop.Memory) after written left h = h
+
+pub folder_failed : (A : Answering) (dir : List ℕ) (x : Result (List FileText) OpenError) (held : Held) (script before : List ℕ) (after : Option Held) (written left : Option (List ℕ)) →
+    Untouched held script before after written left → RunsFolder A dir x held script before (Err stop.Folder) after written left
+folder_failed A dir (Ok files) held script before after written left u = u
+folder_failed A dir (Err e) held script before after written left u = u
+
+pub folder_memory : (A : Answering) (dir : List ℕ) (x : Result (List FileText) OpenError) (held : Held) (script before : List ℕ) (after : Option Held) (written left : Option (List ℕ)) →
+    Untouched held script before after written left → RunsFolder A dir x held script before (Err stop.Memory) after written left
+folder_memory A dir (Ok files) held script before after written left u = files_first A dir files held script before after written left u.0 u.1 u.2
+folder_memory A dir (Err e) held script before after written left u = u
+
+pub words_memory : (A : Settings → Answering) (x : Result Said WordsError) (held : Held) (script before : List ℕ) (after : Option Held) (written left : Option (List ℕ)) →
+    Untouched held script before after written left → RunsWords A x held script before (Err stop.Memory) after written left
+words_memory A (Ok said) held script before after written left u =
+    folder_memory (A (record { min = said.min; mass = said.mass })) said.dir (opened (held said.dir)) held script before after written left u
+words_memory A (Err e) held script before after written left u = (closes_before usage 2 before written u.1, u.0, u.2)

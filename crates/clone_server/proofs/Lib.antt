@@ -1,0 +1,5 @@
+mod Written
+mod Saved
+mod Steps
+mod Standing
+mod Ending
