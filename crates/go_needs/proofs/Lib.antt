@@ -1,0 +1,6 @@
+mod Standing
+mod Lowest
+mod Called
+mod Reaching
+mod Settled
+mod Lists

@@ -1,0 +1,12 @@
+pub mod Blocked
+pub mod Calls
+pub mod Declaring
+pub mod Flags
+pub mod Groups
+pub mod Levels
+pub mod Objects
+pub mod Owners
+pub mod Parts
+pub mod Passing
+pub mod Reached
+pub mod Tells

@@ -1,0 +1,85 @@
+//! The lowest level of what the names of each part of a specification call for.
+
+ghost use Rattle.std.specs.Prelude.{◌≡◌, true, false, IfOk, OnOk};
+ghost use Rattle.std.specs.HashMap as hash;
+ghost use Rattle.go_needs.specs.Levels.{nearer, here, nearest, near, KnowsNearest, level_of};
+ghost use Rattle.go_needs.specs.Parts.{Place, same_place};
+
+use crate::calls::Call;
+use crate::levels::{Levels, level_of};
+use crate::owners::Owner;
+use crate::parts::{Part, Place, own_part};
+use std::alloc::{AllocError, Global};
+use std::collections::HashMap;
+
+/// The lowest level in each part, where there is one.
+pub type Nearest = HashMap<Place, usize>;
+
+/// The lower of two levels.
+fn nearer(a: Option<usize>, b: Option<usize>) -> Option<usize>
+    ensures { result ≡ nearer a b }
+{
+    match (a, b) {
+        (Some(a), Some(b)) => Some(a.min(b)),
+        (Some(a), None) => Some(a),
+        (None, b) => b,
+    }
+}
+
+/// Notes a level in a part, if there are both.
+fn note(
+    nearest: &mut Nearest,
+    place: Option<Place>,
+    level: Option<usize>,
+) -> Result<(), AllocError>
+    ensures { OnOk result ((k : Place) → hash.get same_place nearest.new k ≡ nearer (here place k level) (hash.get same_place nearest.old k)) }
+{
+    let Some(place) = place else {
+        return Ok(());
+    };
+    let Some(level) = level else {
+        return Ok(());
+    };
+    let lowest = match nearest.get(&place).copied() {
+        Some(old) => level.min(old),
+        None => level,
+    };
+    nearest.insert(place, lowest)?;
+    Ok(())
+}
+
+/// Notes the levels of what a name calls for.
+fn add(nearest: &mut Nearest, levels: &[Levels], call: &Call) -> Result<(), AllocError>
+    ensures { OnOk result ((k : Place) → hash.get same_place nearest.new k ≡ nearer (here call.now.full k (level_of levels.now call.now.number true)) (nearer (here call.now.partial k (level_of levels.now call.now.number false)) (hash.get same_place nearest.old k))) }
+{
+    note(nearest, call.partial, level_of(levels, call.number, false))?;
+    note(nearest, call.full, level_of(levels, call.number, true))
+}
+
+/// The lowest level in each part.
+pub fn nearest(alloc: Global, calls: &[Call], levels: &[Levels]) -> Result<Nearest, AllocError>
+    ensures { IfOk result (λ m. KnowsNearest m levels.now calls.now) }
+{
+    let mut nearest = HashMap::new(alloc);
+    for number in (0..calls.len()).rev() {
+        add(&mut nearest, levels, &calls[number])?;
+    }
+    Ok(nearest)
+}
+
+/// The lowest level of what a declaration needs at once, in full or in part.
+pub fn near(nearest: &Nearest, owner: &Owner, full: bool) -> Option<usize>
+    ensures { result ≡ near (hash.get same_place nearest.now) owner.now full }
+{
+    let Some(source) = owner.source else {
+        return None;
+    };
+    let spot = (owner.file, source);
+    nearer(
+        nearest.get(&(spot, Part::Always)).copied(),
+        nearer(
+            nearest.get(&(spot, Part::Value(owner.column))).copied(),
+            nearest.get(&(spot, own_part(full))).copied(),
+        ),
+    )
+}

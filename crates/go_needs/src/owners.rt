@@ -1,0 +1,66 @@
+//! The specifications that declarations have.
+
+ghost use Rattle.std.specs.Prelude.{◌≡◌, ℕ, List, IfOk, map};
+ghost use Rattle.std.specs.HashSet as set;
+ghost use Rattle.go_lookup.specs.Tables.{same_spot};
+ghost use Rattle.go_lookup.specs.Views.{found_view};
+ghost use Rattle.go_needs.specs.Owners.{owner_of, same_source, same_owner, has_source};
+
+use go_lookup::found::Found;
+use std::alloc::{AllocError, Global};
+use std::collections::HashSet;
+
+/// The specification that a declaration has, if it has one, and its column in it.
+#[derive(Clone, Copy, Debug)]
+pub struct Owner {
+    /// The number of the file.
+    pub file: u32,
+    /// The number of the specification's token.
+    pub source: Option<u32>,
+    pub column: usize,
+}
+
+/// The files and tokens of specifications.
+pub type Sources = HashSet<(u32, u32)>;
+
+/// The specification and the column of a declaration.
+pub fn owner_of(d: &Found<'_>) -> Owner
+    ensures { result ≡ owner_of (found_view d.now) }
+{
+    Owner {
+        file: d.file,
+        source: d.declaration.source,
+        column: d.declaration.column,
+    }
+}
+
+/// Whether two declarations have one specification, or neither has one.
+fn same_source(a: Option<u32>, b: Option<u32>) -> bool
+    ensures { result ≡ same_source a b }
+{
+    match (a, b) {
+        (None, None) => true,
+        (Some(a), Some(b)) => a == b,
+        _ => false,
+    }
+}
+
+/// Whether two declarations have one specification and one column.
+pub fn same_owner(a: &Owner, b: &Owner) -> bool
+    ensures { result ≡ same_owner a.now b.now }
+{
+    a.file == b.file && same_source(a.source, b.source) && a.column == b.column
+}
+
+/// The specifications that these have.
+pub fn sources_of(alloc: Global, owners: &[Owner]) -> Result<Sources, AllocError>
+    ensures { IfOk result (λ m. (n s : ℕ) → set.contains same_spot m (n, s) ≡ has_source owners.now n s) }
+{
+    let mut sources = HashSet::new(alloc);
+    for o in owners {
+        if let Some(source) = o.source {
+            sources.insert((o.file, source))?;
+        }
+    }
+    Ok(sources)
+}
