@@ -3,7 +3,7 @@
 -- A name is free of faults where no rule fails in its type, in its expression and at its own assignment, and where the same holds
 -- of all that it needs. What isn't free stands for nothing known, so that a node that names it isn't judged. The right side of a
 -- type is known before limits are judged: in an element of a slice and in a function type it is needed for these alone.
-use Rattle.std.specs.Prelude.{ℕ, suc, Bool, true, false, ◌&&◌, if◌then◌else◌, nat_eq, List, [], ◌∷◌, map, Option, Some, None, slice_get, is_some}
+use Rattle.std.specs.Prelude.{ℕ, suc, Bool, true, false, ◌&&◌, if◌then◌else◌, nat_eq, List, [], ◌∷◌, map, Option, Some, None, slice_get, is_some, unwrap_or}
 use Rattle.go_tree.specs.declared.context.Entity.{Entity}
 use Rattle.go_tree.specs.declared.context.Entity.TheVariants as entity
 use Rattle.go_tree.specs.declared.object.Declared.{Declared}
@@ -132,8 +132,7 @@ abbrev pub rights_of : Package → List State → Rights
 rights_of p ss = rights_among p.uses.package_level ss
 
 abbrev pub referent_there : Option Referent → Referent
-referent_there (Some r) = r
-referent_there None = referent.Println
+referent_there o = unwrap_or o referent.Println
 
 abbrev pub referent_at : Package → ℕ → Referent
 referent_at p n = referent_there (slice_get (referents p.uses.package_level) n)
