@@ -149,7 +149,7 @@ module _ (p : Package) (os all : List Owner) where
     rest_none None cs k e = e
     rest_none (Some c) cs k e = right_none (here c.partial k (level_of ls c.number false)) (nearest ls cs k) (right_none (here c.full k (level_of ls c.number true)) (nearer (here c.partial k (level_of ls c.number false)) (nearest ls cs k)) e)
 
-    place_by : Bool → Call → Option Place
+    abbrev place_by : Bool → Call → Option Place
     place_by true c = c.full
     place_by false c = c.partial
 
@@ -187,15 +187,15 @@ module _ (p : Package) (os all : List Owner) where
       full : c.full ≡ full_place a.file a.it.site
       partial : c.partial ≡ partial_place a.file a.it.site
 
-    number_there : Option Call → ℕ
+    abbrev number_there : Option Call → ℕ
     number_there None = 0
     number_there (Some c) = c.number
 
-    full_there : Option Call → Option Place
+    abbrev full_there : Option Call → Option Place
     full_there None = None
     full_there (Some c) = c.full
 
-    partial_there : Option Call → Option Place
+    abbrev partial_there : Option Call → Option Place
     partial_there None = None
     partial_there (Some c) = c.partial
 
@@ -208,7 +208,7 @@ module _ (p : Package) (os all : List Owner) where
         let is : ◌≡◌ {A = Option Call} (Some (record { number = m; full = full_place a.file a.it.site; partial = partial_place a.file a.it.site })) (Some c) = sym (ap (call_at a) (nd d refl)) ∙ e in
         record { counted = cb; found = d; source = so; number = nd d refl ∙ ap (λ o. Some (number_there o)) is; full = sym (ap full_there is); partial = sym (ap partial_there is) }
 
-    source_number : Option Found → Option ℕ
+    abbrev source_number : Option Found → Option ℕ
     source_number None = None
     source_number (Some d) = number_of p.uses d
 
@@ -218,6 +218,10 @@ module _ (p : Package) (os all : List Owner) where
     call_place : (g : Bool) (a : Asked) (c : Call) → IsCall a c → place_by g c ≡ place_of g a.file a.it.site
     call_place true a c i = i.full
     call_place false a c i = i.partial
+
+    abbrev level_there : Option ℕ → Bool → Option ℕ
+    level_there None g = None
+    level_there (Some m) g = level_of ls m g
 
     one_here : (a : Asked) (asks : List Asked) (x : Needed) (s j : ℕ) (q : Part) (c : Call) (g : Bool) → x.it.it.source ≡ Some s → fits_one p.uses os all a ≡ true → IsOwnPart x.it.it.column x.full q
         → IsCall a c → here (place_by g c) ((x.it.file, s), q) (level_of ls c.number g) ≡ Some j → One (Has (Some j)) (needs (a ∷ asks) x)
@@ -230,41 +234,35 @@ module _ (p : Package) (os all : List Owner) where
         let fit = is_called a i.found g i.counted i.source ok in
         let number : Some fit.number ≡ Some c.number = sym fit.named ∙ i.number in
         subst (One (Has (Some j))) (sym (needs_some a asks x y needed)) (inl record { fit = fit; level = ap (λ o. level_there o g) number ∙ there.level })
-      where
-        level_there : Option ℕ → Bool → Option ℕ
-        level_there None g = None
-        level_there (Some m) g = level_of ls m g
+
+    partial_or : (a : Asked) (asks : List Asked) (x : Needed) (s j : ℕ) (q : Part) (c : Call) → x.it.it.source ≡ Some s → fits_one p.uses os all a ≡ true → IsOwnPart x.it.it.column x.full q → IsCall a c
+        → (nearest ls (calls_of p.uses all asks) ((x.it.file, s), q) ≡ Some j → One (Has (Some j)) (needs asks x))
+        → (here c.partial ((x.it.file, s), q) (level_of ls c.number false) ≡ Some j) ⊎ (nearest ls (calls_of p.uses all asks) ((x.it.file, s), q) ≡ Some j) → One (Has (Some j)) (needs (a ∷ asks) x)
+    partial_or a asks x s j q c src ok own i rest (inl h) = one_here a asks x s j q c false src ok own i h
+    partial_or a asks x s j q c src ok own i rest (inr h) = one_more (Has (Some j)) a asks x (needed_by a x) refl (rest h)
+
+    full_or : (a : Asked) (asks : List Asked) (x : Needed) (s j : ℕ) (q : Part) (c : Call) → x.it.it.source ≡ Some s → fits_one p.uses os all a ≡ true → IsOwnPart x.it.it.column x.full q → IsCall a c
+        → (nearest ls (calls_of p.uses all asks) ((x.it.file, s), q) ≡ Some j → One (Has (Some j)) (needs asks x))
+        → (here c.full ((x.it.file, s), q) (level_of ls c.number true) ≡ Some j) ⊎ (nearer (here c.partial ((x.it.file, s), q) (level_of ls c.number false)) (nearest ls (calls_of p.uses all asks) ((x.it.file, s), q)) ≡ Some j)
+        → One (Has (Some j)) (needs (a ∷ asks) x)
+    full_or a asks x s j q c src ok own i rest (inl h) = one_here a asks x s j q c true src ok own i h
+    full_or a asks x s j q c src ok own i rest (inr h) =
+        partial_or a asks x s j q c src ok own i rest (one_some (here c.partial ((x.it.file, s), q) (level_of ls c.number false)) (nearest ls (calls_of p.uses all asks) ((x.it.file, s), q)) j h)
+
+    one_by_call : (a : Asked) (asks : List Asked) (x : Needed) (s j : ℕ) (q : Part) → x.it.it.source ≡ Some s → fits_one p.uses os all a ≡ true → IsOwnPart x.it.it.column x.full q
+        → (nearest ls (calls_of p.uses all asks) ((x.it.file, s), q) ≡ Some j → One (Has (Some j)) (needs asks x))
+        → (o : Option Call) → call_of p.uses all a ≡ o → nearest ls (with_call o (calls_of p.uses all asks)) ((x.it.file, s), q) ≡ Some j → One (Has (Some j)) (needs (a ∷ asks) x)
+    one_by_call a asks x s j q src ok own rest None h e = one_more (Has (Some j)) a asks x (needed_by a x) refl (rest e)
+    one_by_call a asks x s j q src ok own rest (Some c) h e =
+        full_or a asks x s j q c src ok own (is_call a c h) rest
+        (one_some (here c.full ((x.it.file, s), q) (level_of ls c.number true)) (nearer (here c.partial ((x.it.file, s), q) (level_of ls c.number false)) (nearest ls (calls_of p.uses all asks) ((x.it.file, s), q))) j e)
 
     one_below : (asks : List Asked) (x : Needed) (s j : ℕ) (q : Part) → x.it.it.source ≡ Some s → fits p.uses os all asks ≡ true → IsOwnPart x.it.it.column x.full q
         → nearest ls (calls_of p.uses all asks) ((x.it.file, s), q) ≡ Some j → One (Has (Some j)) (needs asks x)
     one_below [] x s j q src ok own e = absurd (grind (arith, e))
     one_below (a ∷ asks) x s j q src ok own e =
-        by (call_of p.uses all a) refl (one_below asks x s j q src (both_right (fits_one p.uses os all a) (fits p.uses os all asks) ok) own)
-      where
-        k : Place
-        k = ((x.it.file, s), q)
-
-        more : One (Has (Some j)) (needs asks x) → One (Has (Some j)) (needs (a ∷ asks) x)
-        more h = one_more (Has (Some j)) a asks x (needed_by a x) refl h
-
-        ok_here : fits_one p.uses os all a ≡ true
-        ok_here = both_left (fits_one p.uses os all a) (fits p.uses os all asks) ok
-
-        partial_or : (c : Call) → IsCall a c → (here c.partial k (level_of ls c.number false) ≡ Some j) ⊎ (nearest ls (calls_of p.uses all asks) k ≡ Some j)
-            → (nearest ls (calls_of p.uses all asks) k ≡ Some j → One (Has (Some j)) (needs asks x)) → One (Has (Some j)) (needs (a ∷ asks) x)
-        partial_or c i (inl h) rest = one_here a asks x s j q c false src ok_here own i h
-        partial_or c i (inr h) rest = more (rest h)
-
-        full_or : (c : Call) → IsCall a c → (here c.full k (level_of ls c.number true) ≡ Some j) ⊎ (nearer (here c.partial k (level_of ls c.number false)) (nearest ls (calls_of p.uses all asks) k) ≡ Some j)
-            → (nearest ls (calls_of p.uses all asks) k ≡ Some j → One (Has (Some j)) (needs asks x)) → One (Has (Some j)) (needs (a ∷ asks) x)
-        full_or c i (inl h) rest = one_here a asks x s j q c true src ok_here own i h
-        full_or c i (inr h) rest = partial_or c i (one_some (here c.partial k (level_of ls c.number false)) (nearest ls (calls_of p.uses all asks) k) j h) rest
-
-        by : (o : Option Call) → call_of p.uses all a ≡ o → (nearest ls (calls_of p.uses all asks) k ≡ Some j → One (Has (Some j)) (needs asks x)) → One (Has (Some j)) (needs (a ∷ asks) x)
-        by None h rest = more (rest (sym (ap (λ o. nearest ls (with_call o (calls_of p.uses all asks)) k) h) ∙ e))
-        by (Some c) h rest =
-            let there : nearest ls (c ∷ calls_of p.uses all asks) k ≡ Some j = sym (ap (λ o. nearest ls (with_call o (calls_of p.uses all asks)) k) h) ∙ e in
-            full_or c (is_call a c h) (one_some (here c.full k (level_of ls c.number true)) (nearer (here c.partial k (level_of ls c.number false)) (nearest ls (calls_of p.uses all asks) k)) j there) rest
+        one_by_call a asks x s j q src (both_left (fits_one p.uses os all a) (fits p.uses os all asks) ok) own
+        (one_below asks x s j q src (both_right (fits_one p.uses os all a) (fits p.uses os all asks) ok) own) (call_of p.uses all a) refl e
 
     -- ---- what a declaration needs at once
 

@@ -1,6 +1,15 @@
 mod Standing
 mod Lowest
 mod Called
+mod Here
 mod Reaching
 mod Settled
 mod Lists
+mod Ours
+mod Maps
+mod Declares
+mod Telling
+mod Knowing
+mod Passes
+mod Blocking
+mod Listed

@@ -1,5 +1,5 @@
 -- Whether a declaration needs one that fails, by levels that are right.
-use Rattle.std.proofs.Common.{◌≡◌, ◌∙◌, ℕ, zero, suc, ◌<◌, ◌≤◌, ◌+◌, Bool, true, false, ◌&&◌, ◌||◌, not, nat_eq, nat_le, nat_lt, List, [], ◌∷◌, ◌++◌, length, Option, Some, None, is_some, refl, ap, sym, subst, arith, inl, inr, ◌⊎◌, cond, get}
+use Rattle.std.proofs.Common.{◌≡◌, ◌∙◌, ℕ, zero, suc, ◌<◌, ◌≤◌, ◌+◌, Bool, true, false, ◌&&◌, ◌||◌, not, nat_eq, nat_le, nat_lt, List, [], ◌∷◌, ◌++◌, length, Option, Some, None, is_some, refl, ap, sym, subst, arith, inl, inr, ◌⊎◌}
 use Rattle.std.specs.Prelude.{if◌then◌else◌, slice_get}
 use Rattle.std.specs.List.{list_any}
 use Rattle.go_tree.specs.Declarations.{Found}
@@ -14,6 +14,7 @@ use Rattle.go_needs.specs.Owners.{owner_of, has_source}
 use Rattle.go_needs.specs.Parts.{Place}
 use Rattle.go_needs.specs.Reached.{IsOurs}
 use Rattle.go_needs.proofs.Standing.{both_left, both_right, same_number, number_itself}
+use Rattle.go_needs.proofs.Here.{ours_object}
 use Rattle.go_needs.proofs.Called.{Each, One, Fits, Has, all_fit, all_none, one_some_level}
 
 -- ---- lists
@@ -73,11 +74,11 @@ module _ (p : Package) (os all : List Owner) (ls : List Levels) (f : ℕ → Boo
 
   known_is : (x : Needed) (xs : List Needed) (m : ℕ) (g : Bool) → is_known x xs ≡ true → Is m g x → One (Is m g) xs
   known_is x [] m g e i = absurd (grind (arith, e))
-  known_is x (y ∷ ys) m g e i = by (is_same x.it y.it && same_way x.full y.full) refl e
+  known_is x (y ∷ ys) m g e i = by (is_same x.it y.it && same_way x.full y.full) refl e (λ k. known_is x ys m g k i)
     where
-      by : (b : Bool) → (is_same x.it y.it && same_way x.full y.full) ≡ b → (b || is_known x ys) ≡ true → One (Is m g) (y ∷ ys)
-      by true h k = inl (is_by x y m g h i)
-      by false h k = inr (known_is x ys m g k i)
+      by : (b : Bool) → (is_same x.it y.it && same_way x.full y.full) ≡ b → (b || is_known x ys) ≡ true → (is_known x ys ≡ true → One (Is m g) ys) → One (Is m g) (y ∷ ys)
+      by true h k rest = inl (is_by x y m g h i)
+      by false h k rest = inr (rest k)
 
   one_new : (x : Needed) (xs : List Needed) (m : ℕ) (g : Bool) → Is m g x → One (Is m g) (with_one x xs)
   one_new x xs m g i = by (is_known x xs) refl
@@ -117,27 +118,8 @@ module _ (p : Package) (os all : List Owner) (ls : List Levels) (f : ℕ → Boo
 
   module _ (r : ℕ) (others : List Owner) (ok : fits p.uses os all p.asked ≡ true) (among : all ≡ os ++ others)
       (right : (m : ℕ) (g : Bool) (o : Owner) → slice_get os m ≡ Some o → settled (f m) (level_of ls m g) (near levels o g) r ≡ true) where
-    there : (ws : List Owner) (m : ℕ) (o : Owner) (s : ℕ) → slice_get ws m ≡ Some o → o.source ≡ Some s → has_source (ws ++ others) o.file s ≡ true
-    there [] m o s e src = absurd (grind (arith, e))
-    there (w ∷ ws) zero o s e src = ap (λ b. b || has_source (ws ++ others) o.file s) (own w o e src)
-      where
-        own : (w o : Owner) → ◌≡◌ {A = Option Owner} (Some w) (Some o) → o.source ≡ Some s → (nat_eq w.file o.file && is_source s w.source) ≡ true
-        own w o e src =
-            let same : w ≡ o = grind (arith, e) in
-            subst (λ v. (nat_eq v.file o.file && is_source s v.source) ≡ true) (sym same)
-            (ap (λ b. b && is_source s o.source) (number_itself o.file) ∙ (ap (is_source s) src ∙ number_itself s))
-    there (w ∷ ws) (suc m) o s e src = by (nat_eq w.file o.file && is_source s w.source)
-      where
-        by : (b : Bool) → (b || has_source (ws ++ others) o.file s) ≡ true
-        by true = refl
-        by false = there ws m o s e src
-
-    ours_by : (n : ℕ) (o : Option ℕ) (w : Owner) (m : ℕ) → slice_get os m ≡ Some w → w.file ≡ n → w.source ≡ o → IsOurs all n o
-    ours_by n None w m e file src = tt
-    ours_by n (Some s) w m e file src = ap (λ ws. has_source ws n s) among ∙ subst (λ j. has_source (os ++ others) j s ≡ true) file (there os m w s e src)
-
     ours : (y : Needed) → Fits p os all y → IsOurs all y.it.file y.it.it.source
-    ours y t = ours_by y.it.file y.it.it.source (owner_of y.it) t.number t.owner refl refl
+    ours y t = subst (λ ws. IsOurs ws y.it.file y.it.it.source) (sym among) (ours_object os others y.it.file y.it.it.source (owner_of y.it) t.number t.owner refl refl)
 
     fit_all : (xs : List Needed) → Each (Fits p os all) xs → Each (Fits p os all) (needs_of p.asked xs)
     fit_all [] h = tt
@@ -175,7 +157,7 @@ module _ (p : Package) (os all : List Owner) (ls : List Levels) (f : ℕ → Boo
     -- ---- one fails
 
     -- One of the list is the object of this number, needed in this way.
-    record Picked (m : ℕ) (g : Bool) (xs : List Needed) : Type 0 where
+    record Picked (m : ℕ) (g : Bool) (xs : List Needed) : Type 1 where
       it : Needed
       fit : Fits p os all it
       number : fit.number ≡ m
@@ -226,10 +208,10 @@ module _ (p : Package) (os all : List Owner) (ls : List Levels) (f : ℕ → Boo
     found_by k xs m g l h o e next =
         let w = pick xs m g h o in
         let same : level_of ls w.fit.number w.it.full ≡ Some l = ap (λ n. level_of ls n w.it.full) w.number ∙ (ap (level_of ls m) w.way ∙ e) in
-        let s = right w.fit.number w.it.full (owner_of w.it) w.fit.owner in
-        by w (fails_or (f w.fit.number) l (near levels (owner_of w.it) w.it.full) (sym (ap (λ v. settled (f w.fit.number) v (near levels (owner_of w.it) w.it.full) r) same) ∙ s))
+        let s = right w.fit.number w.it.full (owner_of w.it.it) w.fit.owner in
+        by w (fails_or (f w.fit.number) l (near levels (owner_of w.it.it) w.it.full) (sym (ap (λ v. settled (f w.fit.number) v (near levels (owner_of w.it.it) w.it.full) r) same) ∙ s))
       where
-        by : (w : Picked m g xs) → (f w.fit.number ≡ true) ⊎ Lower l (near levels (owner_of w.it) w.it.full) → list_any f (needed_numbers p (all_needed p.asked k xs)) ≡ true
+        by : (w : Picked m g xs) → (f w.fit.number ≡ true) ⊎ Lower l (near levels (owner_of w.it.it) w.it.full) → list_any f (needed_numbers p (all_needed p.asked k xs)) ≡ true
         by w (inl b) = one_fails (all_needed p.asked k xs) m g (ap f (sym w.number) ∙ b) (stays k xs m g o)
         by w (inr v) = next v.next v.below (w.more (Has p os all ls (Some v.next)) (one_some_level p os all ls w.it v.next ok v.is))
 
@@ -247,21 +229,21 @@ module _ (p : Package) (os all : List Owner) (ls : List Levels) (f : ℕ → Boo
     picked_low : (m : ℕ) (g : Bool) (xs : List Needed) (j : ℕ) → Picked m g xs → level_of ls m g ≡ Some j → j ≤ r
     picked_low m g xs j w e =
         let same : level_of ls w.fit.number w.it.full ≡ Some j = ap (λ n. level_of ls n w.it.full) w.number ∙ (ap (level_of ls m) w.way ∙ e) in
-        not_high (f w.fit.number) j (near levels (owner_of w.it) w.it.full) (sym (ap (λ v. settled (f w.fit.number) v (near levels (owner_of w.it) w.it.full) r) same) ∙ right w.fit.number w.it.full (owner_of w.it) w.fit.owner)
+        not_high (f w.fit.number) j (near levels (owner_of w.it.it) w.it.full) (sym (ap (λ v. settled (f w.fit.number) v (near levels (owner_of w.it.it) w.it.full) r) same) ∙ right w.fit.number w.it.full (owner_of w.it.it) w.fit.owner)
+
+    abbrev start : Needed → List Needed
+    start x = with_all (needs p.asked x) []
+
+    fit_start : (x : Needed) → IsOurs all x.it.file x.it.it.source → Each (Fits p os all) (start x)
+    fit_start x our = each_all (Fits p os all) (needs p.asked x) [] (all_fit p os all p.asked x our ok) tt
+
+    reaches_by : (x : Needed) → IsOurs all x.it.file x.it.it.source → r ≤ rounds p → (o : Option ℕ) → near levels (owner_of x.it) x.full ≡ o → is_some o ≡ list_any f (needed_by p x)
+    reaches_by x our high None e = sym (none_fails (all_needed p.asked (rounds p) (start x)) (none_through (rounds p) (start x) (each_all (Has p os all ls None) (needs p.asked x) [] (all_none p os all ls x our ok e) tt)))
+    reaches_by x our high (Some j) e =
+        let w = level_in j (needs p.asked x) (one_some_level p os all ls x j ok e) in
+        let there = all_new (needs p.asked x) [] w.number w.way w.one in
+        let low = picked_low w.number w.way (start x) j (pick (start x) w.number w.way (fit_start x our) there) w.level in
+        sym (found (rounds p) (start x) w.number w.way j (fit_start x our) there w.level (omega (arith, low, high)))
 
     pub reaches : (x : Needed) → IsOurs all x.it.file x.it.it.source → r ≤ rounds p → is_some (near levels (owner_of x.it) x.full) ≡ list_any f (needed_by p x)
-    reaches x our high = by (near levels (owner_of x.it) x.full) refl
-      where
-        start : List Needed
-        start = with_all (needs p.asked x) []
-
-        fit_start : Each (Fits p os all) start
-        fit_start = each_all (Fits p os all) (needs p.asked x) [] (all_fit p os all p.asked x our ok) tt
-
-        by : (o : Option ℕ) → near levels (owner_of x.it) x.full ≡ o → is_some o ≡ list_any f (needed_by p x)
-        by None e = sym (none_fails (all_needed p.asked (rounds p) start) (none_through (rounds p) start (each_all (Has p os all ls None) (needs p.asked x) [] (all_none p os all ls x our ok e) tt)))
-        by (Some j) e =
-            let w = level_in j (needs p.asked x) (one_some_level p os all ls x j ok e) in
-            let there = all_new (needs p.asked x) [] w.number w.way w.one in
-            let low = picked_low w.number w.way start j (pick start w.number w.way fit_start there) w.level in
-            sym (found (rounds p) start w.number w.way j fit_start there w.level (omega (arith, low, high)))
+    reaches x our high = reaches_by x our high (near levels (owner_of x.it) x.full) refl

@@ -52,10 +52,17 @@ reached_so m p os all cs ls bs f r known are low a tell x our =
     let levels : Place → Option ℕ = nearest ls (calls_of p.uses all p.asked) in
     let same : (k : Place) → hash.get same_place m k ≡ levels k = λ k. known k ∙ ap (λ l. nearest ls l k) a.calls in
     let many : rounds p ≡ length p.uses.package_level + length p.uses.package_level = refl in
-    near_same (hash.get same_place m) levels x.it.file x.it.it.source x.it.it.column x.full same
+    ap is_some (near_same (hash.get same_place m) levels x.it.file x.it.it.source x.it.it.column x.full same)
     ∙ reaches p os all ls f r a.others a.fit a.among
     (λ n b o e.
         let set = settled_so (hash.get same_place m) ls bs r n b o (settled_there (hash.get same_place m) ls bs r 0 n n os o (omega arith) e are) in
         sym (ap (λ v. settled v (level_of ls n b) (near levels o b) r) (tell n (less os n o e)))
         ∙ (sym (ap (λ v. settled (fails_at bs n) (level_of ls n b) v r) (near_same (hash.get same_place m) levels o.file o.source o.column b same)) ∙ set))
     x our (omega (arith, low, a.as_many, many))
+
+-- the same of lists that are these
+pub reach_on : {S : Type 0} (m : HashMap Place ℕ S) (os ws : List Owner) (cs xs : List Call) (bs ys : List Bool) → ws ≡ os → xs ≡ cs → ys ≡ bs
+    → ((q : Package) (all : List Owner) (f : ℕ → Bool) → AreCalls q ws all xs → TellFailing (length ws) ys f → Reaches m q all f)
+    → (q : Package) (all : List Owner) (f : ℕ → Bool) → AreCalls q os all cs → TellFailing (length os) bs f → Reaches m q all f
+reach_on m os ws cs xs bs ys eo ec eb r q all f a t =
+    r q all f (subst (λ o. AreCalls q o all xs) (sym eo) (subst (λ c. AreCalls q os all c) (sym ec) a)) (subst (λ o. TellFailing (length o) ys f) (sym eo) (subst (λ b. TellFailing (length os) b f) (sym eb) t))

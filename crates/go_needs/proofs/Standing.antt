@@ -117,7 +117,7 @@ counted all n s c f (site.Right t r) g e h = ap (has_source all n) (own_source t
 
 -- ---- from a part to a way
 
-there : Option Place → Place
+abbrev there : Option Place → Place
 there o = unwrap_or o ((0, 0), part.Always)
 
 own_full : (c : ℕ) (f : Bool) (q : Part) → part.Full ≡ q → IsOwnPart c f q → f ≡ true

@@ -1,5 +1,6 @@
 -- Which objects block the rule of a specification.
 use Rattle.std.specs.Prelude.{ℕ, zero, suc, Bool, true, false, ◌&&◌, ◌||◌, not, List, [], ◌∷◌, length, map, Option, Some, None, is_some, slice_get}
+use Rattle.go_package.specs.Verdicts.{is_in}
 use Rattle.go_needs.specs.declared.declaring.Declaring.{Declaring}
 use Rattle.go_needs.specs.declared.groups.Group.{Group}
 use Rattle.go_needs.specs.declared.needs.Passing.{Passing}
@@ -31,6 +32,11 @@ any_column g x = any_by g x.root x.columns
 abbrev pub any_there : (Place → Option ℕ) → Option Group → Bool
 any_there g None = false
 any_there g (Some x) = any_column g x
+
+-- whether the objects from the number n on are among these
+abbrev pub flags_from : List ℕ → ℕ → List Owner → List Bool
+flags_from ns n [] = []
+flags_from ns n (o ∷ os) = is_in ns n ∷ flags_from ns (suc n) os
 
 -- whether an object blocks: it fails, or, where its own specification doesn't need these, its assignment does
 abbrev pub blocks_at : (Place → Option ℕ) → List Group → List Bool → List Bool → List Bool → ℕ → Declaring → Bool

@@ -1,7 +1,6 @@
 pub mod Blocked
 pub mod Calls
 pub mod Declaring
-pub mod Flags
 pub mod Groups
 pub mod Levels
 pub mod Objects

@@ -3,10 +3,9 @@
 ghost use Rattle.std.specs.Prelude.{◌≡◌, not, IfOk, map, slice_get};
 ghost use Rattle.std.specs.HashMap as hash;
 ghost use Rattle.go_package.specs.Verdicts.{is_in};
-ghost use Rattle.go_needs.specs.Blocked.{passing_of, passings, any_below, any_column, any_there, blocks_at, blocking};
+ghost use Rattle.go_needs.specs.Blocked.{passing_of, passings, any_below, any_column, any_there, flags_from, blocks_at, blocking};
 ghost use Rattle.go_needs.specs.Levels.{fails_at};
 ghost use Rattle.go_needs.specs.Parts.{same_place};
-ghost use Rattle.go_needs.specs.Flags.{flags_from};
 
 use crate::declaring::Declaring;
 use crate::groups::Group;
@@ -103,12 +102,12 @@ fn is_in(numbers: &[usize], number: usize) -> bool
     false
 }
 
-/// Of so many objects, which are among these.
-pub fn flags(alloc: Global, numbers: &[usize], count: usize) -> Result<Vec<bool>, AllocError>
-    ensures { IfOk result (λ v. v.items ≡ flags_from numbers.now 0 count) }
+/// Of each object whether its number is among these.
+pub fn flags(alloc: Global, numbers: &[usize], owners: &[Owner]) -> Result<Vec<bool>, AllocError>
+    ensures { IfOk result (λ v. v.items ≡ flags_from numbers.now 0 owners.now) }
 {
     let mut flags = Vec::new(alloc);
-    for number in 0..count {
+    for (number, _owner) in owners.iter().enumerate() {
         flags.push(is_in(numbers, number))?;
     }
     Ok(flags)

@@ -1,11 +1,9 @@
 //! The names in specifications that call for objects of the package.
 
 ghost use Rattle.std.specs.Prelude.{◌≡◌, ℕ, List, Some, true, IfOk, map};
-ghost use Rattle.std.specs.Option.{option_map};
 ghost use Rattle.std.specs.HashSet as set;
 ghost use Rattle.go_lookup.specs.Tables.{same_spot};
-ghost use Rattle.go_lookup.specs.Views.{found_view, meaning_view, asked_view};
-ghost use Rattle.go_cycles.specs.Needs.{source_of};
+ghost use Rattle.go_lookup.specs.Views.{found_view, asked_view};
 ghost use Rattle.go_needs.specs.Calls.{is_counted, number_of, call_of, calls_of, is_fit, fits_one, fits};
 ghost use Rattle.go_needs.specs.Owners.{has_source};
 ghost use Rattle.go_needs.specs.declared.owners.Owner as owner;
@@ -13,9 +11,9 @@ ghost use Rattle.go_needs.specs.declared.owners.Owner as owner;
 use crate::owners::{Owner, Sources, owner_of, same_owner, sources_of};
 use crate::parts::{Place, full_place, partial_place};
 use go_base::Memory;
+use go_cycles::needs::source_of;
 use go_lookup::asked::Asked;
 use go_lookup::found::Found;
-use go_lookup::meaning::Meaning;
 use go_tree::context::Site;
 use go_tree::object::Object;
 use go_tree::uses::Uses;
@@ -41,16 +39,6 @@ fn is_counted(sources: &Sources, file: u32, site: Site) -> bool
         Site::Type { specification } => sources.contains(&(file, specification)),
         Site::Value { specification, .. } => sources.contains(&(file, specification)),
         Site::Right { specification, .. } => sources.contains(&(file, specification)),
-    }
-}
-
-/// The declaration that the meaning comes from.
-fn source_of<'a>(meaning: Option<Meaning<'a>>) -> Option<Found<'a>>
-    ensures { option_map found_view result ≡ source_of (option_map meaning_view meaning.entry) }
-{
-    match meaning {
-        Some(meaning) => meaning.source,
-        None => None,
     }
 }
 

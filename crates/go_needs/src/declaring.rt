@@ -1,6 +1,6 @@
 //! Which specification declares a name, and as which of its names.
 
-ghost use Rattle.std.specs.Prelude.{◌≡◌, ℕ, Some, IfOk, OnOk, map};
+ghost use Rattle.std.specs.Prelude.{◌≡◌, ℕ, Some, IfOk, OnOk, map, slice_get};
 ghost use Rattle.std.specs.HashMap as hash;
 ghost use Rattle.go_declarations.specs.Views.{seen_all};
 ghost use Rattle.go_lookup.specs.Tables.{same_spot};
@@ -73,4 +73,11 @@ pub fn declaring_of(
         all.push(declaring)?;
     }
     Ok(all)
+}
+
+/// What declares the object of this number.
+pub fn declaring_at(declaring: &[Declaring], number: usize) -> Option<Declaring>
+    ensures { result ≡ slice_get declaring.now number }
+{
+    declaring.get(number).copied()
 }

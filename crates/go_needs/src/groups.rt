@@ -1,6 +1,7 @@
 //! What is held of each specification.
 
-ghost use Rattle.std.specs.Prelude.{◌≡◌, ◌++◌, IfOk, length, map};
+ghost use Rattle.std.specs.Prelude.{◌≡◌, ◌++◌, IfOk, length, map, slice_get};
+ghost use Rattle.std.specs.Option.{option_map};
 ghost use Rattle.go_declarations.specs.Views.{specification_view, seen_all};
 ghost use Rattle.go_package.specs.Declarations.{trees_of};
 ghost use Rattle.go_package.specs.Verdicts.{first_name};
@@ -100,6 +101,13 @@ pub fn groups_of(
         groups.push(group_of(alloc, uses, owned, s)?)?;
     }
     Ok(groups)
+}
+
+/// What is held of the specification of this number.
+pub fn group_at<'a>(groups: &'a [Group], number: usize) -> Option<&'a Group>
+    ensures { option_map (λ g. g.now) result ≡ slice_get groups.now number }
+{
+    groups.get(number)
 }
 
 /// The specifications of objects, and those as which first names are declared.

@@ -1,8 +1,8 @@
 //! The lowest level of what the names of each part of a specification call for.
 
-ghost use Rattle.std.specs.Prelude.{◌≡◌, true, false, IfOk, OnOk};
+ghost use Rattle.std.specs.Prelude.{◌≡◌, true, false, Some, IfOk, OnOk};
 ghost use Rattle.std.specs.HashMap as hash;
-ghost use Rattle.go_needs.specs.Levels.{nearer, here, nearest, near, KnowsNearest, level_of};
+ghost use Rattle.go_needs.specs.Levels.{nearer, here, nearest, near_in, near, KnowsNearest, level_of};
 ghost use Rattle.go_needs.specs.Parts.{Place, same_place};
 
 use crate::calls::Call;
@@ -24,6 +24,13 @@ fn nearer(a: Option<usize>, b: Option<usize>) -> Option<usize>
         (Some(a), None) => Some(a),
         (None, b) => b,
     }
+}
+
+/// The lowest level in a part.
+fn level_at(nearest: &Nearest, place: Place) -> Option<usize>
+    ensures { result ≡ hash.get same_place nearest.now place }
+{
+    nearest.get(&place).copied()
 }
 
 /// Notes a level in a part, if there are both.
@@ -62,24 +69,35 @@ pub fn nearest(alloc: Global, calls: &[Call], levels: &[Levels]) -> Result<Neare
 {
     let mut nearest = HashMap::new(alloc);
     for number in (0..calls.len()).rev() {
-        add(&mut nearest, levels, &calls[number])?;
+        let call = calls[number];
+        add(&mut nearest, levels, &call)?;
     }
     Ok(nearest)
+}
+
+/// The lowest level of what stands in the parts of a specification in which a declaration needs it.
+fn near_in(
+    nearest: &Nearest,
+    file: u32,
+    source: u32,
+    column: usize,
+    full: bool,
+) -> Option<usize>
+    ensures { result ≡ near_in (hash.get same_place nearest.now) file (Some source) column full }
+{
+    let spot = (file, source);
+    let always = level_at(nearest, (spot, Part::Always));
+    let value = level_at(nearest, (spot, Part::Value(column)));
+    let own = level_at(nearest, (spot, own_part(full)));
+    nearer(always, nearer(value, own))
 }
 
 /// The lowest level of what a declaration needs at once, in full or in part.
 pub fn near(nearest: &Nearest, owner: &Owner, full: bool) -> Option<usize>
     ensures { result ≡ near (hash.get same_place nearest.now) owner.now full }
 {
-    let Some(source) = owner.source else {
-        return None;
-    };
-    let spot = (owner.file, source);
-    nearer(
-        nearest.get(&(spot, Part::Always)).copied(),
-        nearer(
-            nearest.get(&(spot, Part::Value(owner.column))).copied(),
-            nearest.get(&(spot, own_part(full))).copied(),
-        ),
-    )
+    match owner.source {
+        None => None,
+        Some(source) => near_in(nearest, owner.file, source, owner.column, full),
+    }
 }

@@ -1,16 +1,28 @@
 //! What the objects of a package need.
 
 ghost use Rattle.std.specs.Prelude.{◌≡◌, ◌≤◌, Bool, List, Some, IfOk, IfSome, length, map, nat_lt, slice_get, is_some};
+ghost use Rattle.go_lookup.specs.Views.{found_view, asked_view};
 ghost use Rattle.go_declarations.specs.Views.{seen_all};
-ghost use Rattle.go_package.specs.Declarations.{Specification};
+ghost use Rattle.go_package.specs.Declarations as declarations;
 ghost use Rattle.go_package.specs.Knowledge.{Outline, State, outlines};
 ghost use Rattle.go_package.specs.Sources.{Package, package_of, source_of};
 ghost use Rattle.go_package.specs.Verdicts.{is_blocked};
 ghost use Rattle.go_needs.specs.Passing.{ArePassing, is_faulty, is_misassigned};
 ghost use Rattle.go_needs.specs.Tells.{TellsNeeds};
 
+use crate::blocked::{any_column, blocking, failing, flags, passings};
+use crate::calls::{Call, calls_of};
+use crate::declaring::{Declaring, declaring_at, declaring_of, table_of};
+use crate::groups::{Group, all_of, group_at, groups_of};
+use crate::objects::{owned_of, owners_of};
+use crate::owners::Owner;
+use crate::reached::reached;
 use go_base::Memory;
 use go_declarations::Specification;
+use go_lookup::asked::Asked;
+use go_lookup::found::{Found, all_found, new_among};
+use go_lookup::look_up::look_up;
+use go_scopes::resolve::units_of;
 use go_tree::file::File;
 use go_tree::uses::Uses;
 use std::alloc::Global;
@@ -18,15 +30,10 @@ use std::alloc::Global;
 /// What the objects of a package need, at once or through others.
 #[derive(Debug, Drop)]
 pub struct Needs {
-    objects: usize,
-}
-
-/// Which specification declares an object, and the number of its name in it.
-#[derive(Clone, Copy, Debug)]
-pub struct Declaring {
-    /// The number of the specification.
-    pub specification: usize,
-    pub column: usize,
+    declaring: Vec<Declaring>,
+    owners: Vec<Owner>,
+    groups: Vec<Group>,
+    calls: Vec<Call>,
 }
 
 /// Whether an object passes a test with all that it needs: where it is needed in part, and in full.
@@ -34,6 +41,31 @@ pub struct Declaring {
 pub struct Passing {
     pub at_once: bool,
     pub in_full: bool,
+}
+
+/// What the objects of a package need with these declarations and names.
+fn needs_by(
+    alloc: Global,
+    uses: &Uses,
+    found: &[Found<'_>],
+    lookups: &[Asked<'_>],
+    specifications: &[Specification<'_>],
+) -> Result<Needs, Memory>
+    ensures { IfOk result (λ n. (p : Package) → p.uses ≡ uses.now → p.declared ≡ map found_view found.now → p.asked ≡ map asked_view lookups.now → TellsNeeds n p (seen_all specifications.now)) }
+{
+    let table = table_of(alloc, specifications)?;
+    let owned = owned_of(alloc, found)?;
+    let declaring = declaring_of(alloc, &table, uses.package_objects())?;
+    let owners = owners_of(alloc, &owned, &table, uses.package_objects())?;
+    let groups = groups_of(alloc, uses, &owned, specifications)?;
+    let all = all_of(alloc, &owners, &groups)?;
+    let calls = calls_of(alloc, uses, &owners, &all, lookups)?;
+    Ok(Needs {
+        declaring,
+        owners,
+        groups,
+        calls,
+    })
 }
 
 /// What the objects of a package need, whose names mean this and which has these specifications. The files are numbered from 0 by
@@ -51,17 +83,21 @@ pub fn needs_of(
     requires { length files.now ≤ 256 }
     ensures { IfOk result (λ n. TellsNeeds n (package_of (map source_of files.now) uses.now) (seen_all specifications.now)) }
 {
-    Err(Memory)
+    let units = units_of(alloc, files)?;
+    let all = all_found(alloc, &units)?;
+    let declared = new_among(alloc, &all)?;
+    let looked_up = look_up(alloc, &units, &declared)?;
+    needs_by(alloc, uses, &all, &looked_up.asked, specifications)
 }
 
 impl Needs {
     /// Which specification declares the object of this number, if there are so many objects.
     pub fn declaring(&self, number: usize) -> Option<Declaring>
-        ensures answers { (p : Package) (ds : List Specification) → TellsNeeds self.now p ds → is_some result ≡ nat_lt number (length p.uses.package_level) }
-        ensures specification { IfSome result (λ x. (p : Package) (ds : List Specification) (o : Outline) → TellsNeeds self.now p ds → slice_get (outlines p ds) number ≡ Some o → slice_get ds x.specification ≡ Some o.specification) }
-        ensures column { IfSome result (λ x. (p : Package) (ds : List Specification) (o : Outline) → TellsNeeds self.now p ds → slice_get (outlines p ds) number ≡ Some o → x.column ≡ o.column) }
+        ensures answers { (p : Package) (ds : List declarations.Specification) → TellsNeeds self.now p ds → is_some result ≡ nat_lt number (length p.uses.package_level) }
+        ensures specification { IfSome result (λ x. (p : Package) (ds : List declarations.Specification) (o : Outline) → TellsNeeds self.now p ds → slice_get (outlines p ds) number ≡ Some o → slice_get ds x.specification ≡ Some o.specification) }
+        ensures column { IfSome result (λ x. (p : Package) (ds : List declarations.Specification) (o : Outline) → TellsNeeds self.now p ds → slice_get (outlines p ds) number ≡ Some o → x.column ≡ o.column) }
     {
-        None
+        declaring_at(&self.declaring, number)
     }
 
     /// Of each object whether it passes a test with all that it needs, at once or through others. `tests` says which objects pass by
@@ -71,9 +107,11 @@ impl Needs {
     ///
     /// Want of memory.
     pub fn passing(&self, alloc: Global, tests: &[bool]) -> Result<Vec<Passing>, Memory>
-        ensures { IfOk result (λ v. (p : Package) (ds : List Specification) (ss : List State) (test : State → Bool) → TellsNeeds self.now p ds → length ss ≡ length p.uses.package_level → tests.now ≡ map test ss → ArePassing test (outlines p ds) ss v.items) }
+        ensures { IfOk result (λ v. (p : Package) (ds : List declarations.Specification) (ss : List State) (test : State → Bool) → TellsNeeds self.now p ds → length ss ≡ length p.uses.package_level → tests.now ≡ map test ss → ArePassing test (outlines p ds) ss v.items) }
     {
-        Err(Memory)
+        let fails = failing(alloc, tests)?;
+        let nearest = reached(alloc, &self.owners, &self.calls, &fails)?;
+        Ok(passings(alloc, &nearest, tests, &self.owners)?)
     }
 
     /// Whether the specification of this number needs a declaration with a fault, so that its own rule isn't judged. `faulty` says in
@@ -89,8 +127,23 @@ impl Needs {
         faulty: &[bool],
         assigning: &[bool],
     ) -> Result<bool, Memory>
-        ensures { IfOk result (λ b. (p : Package) (ds : List Specification) (ss : List State) (d : Specification) → TellsNeeds self.now p ds → length ss ≡ length p.uses.package_level → slice_get ds specification ≡ Some d → faulty.now ≡ map is_faulty ss → assigning.now ≡ map is_misassigned ss → b ≡ is_blocked p (outlines p ds) ss d) }
+        ensures { IfOk result (λ b. (p : Package) (ds : List declarations.Specification) (ss : List State) (d : declarations.Specification) → TellsNeeds self.now p ds → length ss ≡ length p.uses.package_level → slice_get ds specification ≡ Some d → faulty.now ≡ map is_faulty ss → assigning.now ≡ map is_misassigned ss → b ≡ is_blocked p (outlines p ds) ss d) }
     {
-        Err(Memory)
+        let Some(group) = group_at(&self.groups, specification) else {
+            return Ok(false);
+        };
+        let own = flags(alloc, &group.numbers, &self.owners)?;
+        let needing = reached(alloc, &self.owners, &self.calls, &own)?;
+        let failing = blocking(
+            alloc,
+            &needing,
+            &self.groups,
+            &own,
+            faulty,
+            assigning,
+            &self.declaring,
+        )?;
+        let nearest = reached(alloc, &self.owners, &self.calls, &failing)?;
+        Ok(any_column(&nearest, group))
     }
 }

@@ -15,6 +15,20 @@ use std::collections::HashMap;
 /// The specifications of declarations, by the numbers of their files and of their names' tokens.
 pub type Owned = HashMap<(usize, usize), Owner>;
 
+/// The number of the file of a declaration.
+fn file_of(d: &Found<'_>) -> usize
+    ensures { result ≡ d.now.file }
+{
+    d.file as usize
+}
+
+/// The number of the token of its name.
+fn name_of(d: &Found<'_>) -> usize
+    ensures { result ≡ d.now.declaration.name }
+{
+    d.declaration.name as usize
+}
+
 /// The specifications of declarations; of several at one name the first.
 pub fn owned_of(alloc: Global, found: &[Found<'_>]) -> Result<Owned, AllocError>
     ensures { IfOk result (λ m. KnowsOwners m (map found_view found.now)) }
@@ -22,7 +36,7 @@ pub fn owned_of(alloc: Global, found: &[Found<'_>]) -> Result<Owned, AllocError>
     let mut owned = HashMap::new(alloc);
     for number in (0..found.len()).rev() {
         let d = found[number];
-        owned.insert((d.file as usize, d.declaration.name as usize), owner_of(&d))?;
+        owned.insert((file_of(&d), name_of(&d)), owner_of(&d))?;
     }
     Ok(owned)
 }

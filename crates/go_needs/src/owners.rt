@@ -1,9 +1,10 @@
 //! The specifications that declarations have.
 
-ghost use Rattle.std.specs.Prelude.{◌≡◌, ℕ, List, IfOk, map};
+ghost use Rattle.std.specs.Prelude.{◌≡◌, ℕ, ◌&&◌, ◌||◌, nat_eq, IfOk, OnOk};
 ghost use Rattle.std.specs.HashSet as set;
 ghost use Rattle.go_lookup.specs.Tables.{same_spot};
 ghost use Rattle.go_lookup.specs.Views.{found_view};
+ghost use Rattle.go_tree.specs.Needs.{is_source};
 ghost use Rattle.go_needs.specs.Owners.{owner_of, same_source, same_owner, has_source};
 
 use go_lookup::found::Found;
@@ -52,15 +53,23 @@ pub fn same_owner(a: &Owner, b: &Owner) -> bool
     a.file == b.file && same_source(a.source, b.source) && a.column == b.column
 }
 
+/// Notes the specification of a declaration, if it has one.
+fn note_source(sources: &mut Sources, o: &Owner) -> Result<(), AllocError>
+    ensures { OnOk result ((n s : ℕ) → set.contains same_spot sources.new (n, s) ≡ ((nat_eq o.now.file n && is_source s o.now.source) || set.contains same_spot sources.old (n, s))) }
+{
+    if let Some(source) = o.source {
+        sources.insert((o.file, source))?;
+    }
+    Ok(())
+}
+
 /// The specifications that these have.
 pub fn sources_of(alloc: Global, owners: &[Owner]) -> Result<Sources, AllocError>
     ensures { IfOk result (λ m. (n s : ℕ) → set.contains same_spot m (n, s) ≡ has_source owners.now n s) }
 {
     let mut sources = HashSet::new(alloc);
     for o in owners {
-        if let Some(source) = o.source {
-            sources.insert((o.file, source))?;
-        }
+        note_source(&mut sources, o)?;
     }
     Ok(sources)
 }

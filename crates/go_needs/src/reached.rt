@@ -15,7 +15,6 @@ use std::alloc::Global;
 
 /// Where a declaration needs an object that fails, the map has a level in one of its parts. Where the levels that the search proposes
 /// aren't right the answer is want of memory, which doesn't arise.
-#[tactic(auto, using(crate::proofs::Settled::reached_so))]
 pub fn reached(
     alloc: Global,
     owners: &[Owner],

@@ -1,0 +1,5 @@
+use Rattle.std.proofs.Common.{◌≡◌, Some, arith}
+use Rattle.go_needs.proofs.owners.note_source.Goals as goal
+
+pub returns-in_ok-insert : goal.returns-in_ok-insert
+returns-in_ok-insert c n s = grind (arith, c.in_ok-insert.ensures.updates.0 (n, s), c.in-Some.is)
