@@ -1,5 +1,5 @@
 -- Objects that are equal but for the functions of locals mean the same where objects stand for the same.
-use Rattle.std.proofs.Common.{◌≡◌, ℕ, Bool, Option, Some, None, refl, ap, sym, ◌∙◌}
+use Rattle.std.proofs.Common.{◌≡◌, ℕ, Bool, Option, Some, None, refl, ap, sym, ◌∙◌, arith}
 use Rattle.go_tree.specs.declared.object.Object.{Object}
 use Rattle.go_tree.specs.declared.object.Object.TheVariants as object
 use Rattle.go_tree.specs.declared.object.Predeclared.{Predeclared}
@@ -7,12 +7,20 @@ use Rattle.go_rules.specs.Scopes.{Scope}
 use Rattle.go_package.specs.Bodies.{own_object}
 use Rattle.go_alike.specs.Scopes.{said, MeanSame, StandSame}
 
-number_of : Option Object → ℕ
+-- which of the five sorts of objects it is
+abbrev shape : Option Object → ℕ
+shape None = 0
+shape (Some object.Import) = 1
+shape (Some (object.Predeclared p)) = 2
+shape (Some (object.Package n)) = 3
+shape (Some (object.Local f n)) = 4
+
+abbrev number_of : Option Object → ℕ
 number_of (Some (object.Package n)) = n
 number_of (Some (object.Local f n)) = n
 number_of o = 0
 
-name_of : Predeclared → Option Object → Predeclared
+abbrev name_of : Predeclared → Option Object → Predeclared
 name_of d (Some (object.Predeclared p)) = p
 name_of d o = d
 
@@ -22,4 +30,23 @@ mean_same s t a (Some object.Import) (Some object.Import) e = tt
 mean_same s t a (Some (object.Predeclared m)) (Some (object.Predeclared n)) e = ap (name_of m) e
 mean_same s t a (Some (object.Package m)) (Some (object.Package n)) e = (λ need. a.sorts need (object.Package m) (object.Package n) e, a.referents n ∙ ap s.referents (ap number_of e))
 mean_same s t a (Some (object.Local f m)) (Some (object.Local g n)) e = (λ need. a.sorts need (object.Local f m) (object.Local g n) e, ap number_of e)
-mean_same s t a o q e = cc
+mean_same s t a None (Some object.Import) e = absurd (omega (arith, ap shape e))
+mean_same s t a None (Some (object.Predeclared n)) e = absurd (omega (arith, ap shape e))
+mean_same s t a None (Some (object.Package n)) e = absurd (omega (arith, ap shape e))
+mean_same s t a None (Some (object.Local g n)) e = absurd (omega (arith, ap shape e))
+mean_same s t a (Some object.Import) None e = absurd (omega (arith, ap shape e))
+mean_same s t a (Some object.Import) (Some (object.Predeclared n)) e = absurd (omega (arith, ap shape e))
+mean_same s t a (Some object.Import) (Some (object.Package n)) e = absurd (omega (arith, ap shape e))
+mean_same s t a (Some object.Import) (Some (object.Local g n)) e = absurd (omega (arith, ap shape e))
+mean_same s t a (Some (object.Predeclared m)) None e = absurd (omega (arith, ap shape e))
+mean_same s t a (Some (object.Predeclared m)) (Some object.Import) e = absurd (omega (arith, ap shape e))
+mean_same s t a (Some (object.Predeclared m)) (Some (object.Package n)) e = absurd (omega (arith, ap shape e))
+mean_same s t a (Some (object.Predeclared m)) (Some (object.Local g n)) e = absurd (omega (arith, ap shape e))
+mean_same s t a (Some (object.Package m)) None e = absurd (omega (arith, ap shape e))
+mean_same s t a (Some (object.Package m)) (Some object.Import) e = absurd (omega (arith, ap shape e))
+mean_same s t a (Some (object.Package m)) (Some (object.Predeclared n)) e = absurd (omega (arith, ap shape e))
+mean_same s t a (Some (object.Package m)) (Some (object.Local g n)) e = absurd (omega (arith, ap shape e))
+mean_same s t a (Some (object.Local f m)) None e = absurd (omega (arith, ap shape e))
+mean_same s t a (Some (object.Local f m)) (Some object.Import) e = absurd (omega (arith, ap shape e))
+mean_same s t a (Some (object.Local f m)) (Some (object.Predeclared n)) e = absurd (omega (arith, ap shape e))
+mean_same s t a (Some (object.Local f m)) (Some (object.Package n)) e = absurd (omega (arith, ap shape e))

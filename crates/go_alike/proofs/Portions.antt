@@ -11,7 +11,7 @@ use Rattle.go_types.specs.Relations.{Rights}
 use Rattle.go_typed.specs.Trees as sort
 use Rattle.go_rules.specs.Scopes.{Needed, Scope}
 use Rattle.go_rules.specs.Sorts.{Stands}
-use Rattle.go_package.specs.Bodies.{Surroundings, Portion, own_object, texts_from, objects_from, based_tree, portion_of, stands_among, text_there, scope_of, count_types, local_type, function_in, function_over, variable_of, variables_by}
+use Rattle.go_package.specs.Bodies.{Surroundings, Portion, own_object, texts_from, objects_from, based_tree, portion_of, stands_among, text_there, scope_of, count_types, local_type, function_in, function_with, typed_function, types_in, variable_of, variables_by}
 use Rattle.go_package.specs.Declarations.{Specification}
 use Rattle.go_package.specs.Sources.{Package, text_at}
 use Rattle.go_alike.specs.Portions.{width, SaysPortion, IsOver, IsWhole}
@@ -40,7 +40,7 @@ own_again (Some (object.Predeclared p)) = refl
 own_again (Some (object.Package n)) = refl
 own_again (Some (object.Local f n)) = refl
 
-stands_by : List Stands → Needed → Option Object → Stands
+abbrev stands_by : List Stands → Needed → Option Object → Stands
 stands_by xs need (Some o) = stands_among xs need o
 stands_by xs need None = sort.Unknown
 
@@ -83,3 +83,11 @@ module _ (p : Package) (a : Surroundings) (known : Rights) (d : Specification) (
 
   pub variable_same : IsWhole d → variable_of a known (portion_of p d) ≡ variables_by s (based_tree d.first d.tree)
   variable_same w = tree_same (based_tree d.first d.tree) w
+
+pub typed_same : (p : Package) (a : Surroundings) (rights : Rights) (number : ℕ) (d : Specification) (s : Scope) (x : Tree)
+    → SaysPortion p a (rights ++ replicate (count_types (types_in p number)) None) d s → IsWhole d → based_tree d.first d.tree ≡ Some x
+    → typed_function p a rights number d ≡ function_in s number (length (types_in p number)) (local_type (length rights) (types_in p number)) x
+typed_same p a rights number d s x e w h =
+    let which = types_in p number in
+    ap (λ o. function_with a rights number which (portion_of p d) o) h
+    ∙ portion_same p a (rights ++ replicate (count_types which) None) d s e number (length which) (local_type (length rights) which) x (subst (λ o. IsOver (width d) o) h w)

@@ -10,7 +10,7 @@ ghost use Rattle.go_stmts.specs.Bodies.{body_answer};
 ghost use Rattle.go_stmts.specs.Frames.{Frame};
 ghost use Rattle.go_stmts.specs.Reading.{reading};
 ghost use Rattle.go_package.specs.Answer.{specifications};
-ghost use Rattle.go_package.specs.Bodies.{Surroundings, based_tree, count_types, function_in, function_over, local_type, own_object, portion_of, those_of, variable_of, variables_by};
+ghost use Rattle.go_package.specs.Bodies.{Surroundings, based_tree, count_types, function_in, function_over, local_type, own_object, portion_of, those_of, typed_function, types_in, variable_of, variables_by};
 ghost use Rattle.go_package.specs.Declarations.{Specification};
 ghost use Rattle.go_package.specs.Sources.{Package, Source};
 ghost use Rattle.go_alike.specs.Frames.{MaybeTokens, SameFrames, SameReadings};
@@ -47,6 +47,9 @@ pub fn portions_say_what_scopes_say()
     ensures function { (p : Package) (a : Surroundings) (rights : Rights) (number : ℕ) (which : List Bool) (d : Specification) (s : Scope) (x : Tree) →
         SaysPortion p a (rights ++ replicate (count_types which) None) d s → IsOver (width d) (Some x) →
         function_over a rights number which (portion_of p d) x ≡ function_in s number (length which) (local_type (length rights) which) x }
+    ensures typed { (p : Package) (a : Surroundings) (rights : Rights) (number : ℕ) (d : Specification) (s : Scope) (x : Tree) →
+        SaysPortion p a (rights ++ replicate (count_types (types_in p number)) None) d s → IsWhole d → based_tree d.first d.tree ≡ Some x →
+        typed_function p a rights number d ≡ function_in s number (length (types_in p number)) (local_type (length rights) (types_in p number)) x }
     ensures variable { (p : Package) (a : Surroundings) (rights : Rights) (d : Specification) (s : Scope) →
         SaysPortion p a rights d s → IsWhole d → variable_of a rights (portion_of p d) ≡ variables_by s (based_tree d.first d.tree) }
 {}
