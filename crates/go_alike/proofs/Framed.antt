@@ -1,10 +1,10 @@
 -- What is known between statements, where tokens say and mean something else around it: what changes it does so in both alike.
-use Rattle.std.proofs.Common.{◌≡◌, ℕ, suc, Bool, true, false, if◌then◌else◌, List, [], ◌∷◌, ◌++◌, Option, Some, None, refl, ap, ◌∙◌, length}
+use Rattle.std.proofs.Common.{◌≡◌, ℕ, suc, Bool, true, if◌then◌else◌, List, [], ◌∷◌, Option, Some, None, refl, ap, ◌∙◌}
 use Rattle.std.specs.Option.{option_map}
 use Rattle.go_grammar.specs.declared.kind.Kind.{Kind}
 use Rattle.go_grammar.specs.declared.kind.Kind.TheVariants as kind
 use Rattle.go_grammar.specs.declared.kind.Sort.TheVariants as declaring
-use Rattle.go_grammar.specs.Trees.{Tree, node, Trees, none, more, skip}
+use Rattle.go_grammar.specs.Trees.{Tree, Trees, none, more}
 use Rattle.go_tree.specs.declared.object.Object.{Object}
 use Rattle.go_tree.specs.declared.object.Object.TheVariants as object
 use Rattle.go_types.specs.Trees.{TypeTree}
@@ -19,10 +19,10 @@ use Rattle.go_rules.specs.Tables.{Parts, made, on_two}
 use Rattle.go_rules.specs.TypeNodes.{part_type, entry_types}
 use Rattle.go_stmts.specs.Frames.{Frame, Locals, local_stands, looked_up, scope_of, rights_of, with_own_right}
 use Rattle.go_stmts.specs.Laying.{layout, local_named, type_number, type_name, type_sort}
-use Rattle.go_stmts.specs.Reading.{with_parameter, with_parameters, signature_results, behind_signature, in_function, in_switch, source_kept, in_constants, entering, entry_names, first_parts, with_type, beginning, declares_sort, is_new, declares_name, declares_all, part_source, right_side, back, leaving}
+use Rattle.go_stmts.specs.Reading.{with_parameter, with_parameters, signature_results, behind_signature, in_function, in_switch, in_constants, entering, entry_names, first_parts, with_type, beginning, declares_sort, is_new, declares_name, declares_all, part_source, right_side, back, leaving}
 use Rattle.go_stmts.specs.Rules.{type_failing, failing, own_faults, judges, taking, all_given, built_by, first_fault, late_limits}
 use Rattle.go_alike.specs.Frames.{MaybeTokens}
-use Rattle.go_alike.specs.Scopes.{Says, said, MeanSame, SaidSame, TokenHas, AllTokens, TokensIn}
+use Rattle.go_alike.specs.Scopes.{Says, said, MeanSame, SaidSame, TokenHas, TokensIn}
 use Rattle.go_alike.proofs.Said.{retold, declared_at, local_at}
 
 -- what surrounds it says and means this

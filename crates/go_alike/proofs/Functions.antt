@@ -1,16 +1,14 @@
 -- Functions and variables in scopes that say the same at their tokens.
-use Rattle.std.proofs.Common.{◌≡◌, ℕ, zero, suc, ◌+◌, ◌<◌, ◌≤◌, Bool, true, List, [], ◌∷◌, map, Option, Some, None, Result, refl, ap, sym, ◌∙◌, arith}
+use Rattle.std.proofs.Common.{◌≡◌, ℕ, zero, suc, ◌+◌, ◌<◌, Bool, true, [], ◌∷◌, map, Option, Some, None, refl, ap, ◌∙◌, arith}
 use Rattle.go_grammar.specs.Trees.{Tree, node, Trees, none, more, skip, last}
-use Rattle.go_rules.specs.declared.fault.TypeFault.{TypeFault}
 use Rattle.go_rules.specs.Faults.{judged, reported}
 use Rattle.go_rules.specs.Scopes.{Scope, free}
 use Rattle.go_rules.specs.Settling.{Part}
-use Rattle.go_typed.specs.Contents.{FuncContent}
 use Rattle.go_stmts.specs.Bodies.{numbers_from, start, token_locals, signature_in, signature_part, signature_of, function_read, answer_of, body_answer}
 use Rattle.go_stmts.specs.Frames.{Frame}
 use Rattle.go_stmts.specs.Laying.{local_named}
 use Rattle.go_stmts.specs.Reading.{Reading, read, reading}
-use Rattle.go_package.specs.Bodies.{Behind, behind_read, function_in, tree_read, variables_by}
+use Rattle.go_package.specs.Bodies.{behind_read, function_in, tree_read, variables_by}
 use Rattle.go_alike.specs.Frames.{MaybeTokens}
 use Rattle.go_alike.specs.Scopes.{Says, said, SaidSame, SaySame, AllTokens, TokensIn}
 use Rattle.go_alike.proofs.Framed.{framed, Fits}

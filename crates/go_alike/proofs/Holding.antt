@@ -1,5 +1,5 @@
 -- Nodes that hold names and expressions, in frames whose tokens say the same.
-use Rattle.std.proofs.Common.{◌≡◌, ℕ, suc, Bool, true, false, if◌then◌else◌, List, [], ◌∷◌, ◌++◌, Option, Some, None, refl, ap, ◌∙◌}
+use Rattle.std.proofs.Common.{◌≡◌, ℕ, Bool, if◌then◌else◌, [], ◌∷◌, ◌++◌, Option, Some, None, refl, ap, ◌∙◌}
 use Rattle.go_grammar.specs.declared.kind.Kind.{Kind}
 use Rattle.go_grammar.specs.declared.kind.Kind.TheVariants as kind
 use Rattle.go_grammar.specs.declared.kind.Sort.TheVariants as declaring
@@ -11,10 +11,10 @@ use Rattle.go_rules.specs.Tables.{Parts, made}
 use Rattle.go_rules.specs.Typing.{typing, faults}
 use Rattle.go_stmts.specs.Frames.{Frame, scope_of}
 use Rattle.go_stmts.specs.Laying.{told, layout}
-use Rattle.go_stmts.specs.Reading.{Found, is_list, is_declared_name, list_node, name_node, holding, holdings, held_faults, all_held_faults, repeated, repeated_faults, left_out, left_out_faults}
+use Rattle.go_stmts.specs.Reading.{is_list, is_declared_name, list_node, name_node, holding, holdings, held_faults, all_held_faults, repeated, repeated_faults, left_out, left_out_faults}
 use Rattle.go_alike.specs.Frames.{MaybeTokens}
 use Rattle.go_alike.specs.Scopes.{Says, said, SaidSame, TokenHas, AllTokens, TokensIn}
-use Rattle.go_alike.proofs.Framed.{framed, with_locals, said_with, Fits, name_same, layout_same}
+use Rattle.go_alike.proofs.Framed.{framed, with_locals, said_with, name_same, layout_same}
 use Rattle.go_alike.proofs.Typing as expressions
 
 module _ (p : ℕ → Bool) (m : Says) where

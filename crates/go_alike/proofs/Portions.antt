@@ -1,9 +1,9 @@
 -- A scope that says at the tokens of a declaration what its package says, and the scope of its portion.
-use Rattle.std.proofs.Common.{◌≡◌, ℕ, zero, suc, ◌+◌, ◌-◌, ◌<◌, ◌≤◌, ◌++◌, Bool, true, List, Option, Some, None, refl, ap, sym, ◌∙◌, subst, length, arith}
+use Rattle.std.proofs.Common.{◌≡◌, ℕ, zero, suc, ◌+◌, ◌<◌, ◌++◌, List, Option, Some, None, refl, ap, sym, ◌∙◌, subst, length, arith}
 use Rattle.std.proofs.lemmas.Bool.{ltb-true, lt-ltb}
 use Rattle.std.specs.Prelude.{nat_lt, replicate, slice_get}
 use Rattle.std.specs.Str.{chars}
-use Rattle.go_grammar.specs.Trees.{Tree, last}
+use Rattle.go_grammar.specs.Trees.{Tree}
 use Rattle.go_tree.specs.declared.object.Object.{Object}
 use Rattle.go_tree.specs.declared.object.Object.TheVariants as object
 use Rattle.go_tree.specs.Uses.{object_of, object_there}
@@ -11,11 +11,11 @@ use Rattle.go_types.specs.Relations.{Rights}
 use Rattle.go_typed.specs.Trees as sort
 use Rattle.go_rules.specs.Scopes.{Needed, Scope}
 use Rattle.go_rules.specs.Sorts.{Stands}
-use Rattle.go_package.specs.Bodies.{Surroundings, Portion, own_object, texts_from, objects_from, based_tree, portion_of, stands_among, text_there, scope_of, count_types, local_type, function_in, function_with, typed_function, types_in, variable_of, variables_by}
+use Rattle.go_package.specs.Bodies.{Surroundings, own_object, texts_from, objects_from, based_tree, portion_of, stands_among, text_there, scope_of, count_types, local_type, function_in, function_with, typed_function, types_in, variable_of, variables_by}
 use Rattle.go_package.specs.Declarations.{Specification}
 use Rattle.go_package.specs.Sources.{Package, text_at}
 use Rattle.go_alike.specs.Portions.{width, SaysPortion, IsOver, IsWhole}
-use Rattle.go_alike.specs.Scopes.{said, MeanSame, SaySame, SaidSame, StandSame}
+use Rattle.go_alike.specs.Scopes.{SaySame, StandSame}
 use Rattle.go_alike.proofs.Functions.{function_same, variables_same}
 use Rattle.go_alike.proofs.Objects.{mean_same}
 

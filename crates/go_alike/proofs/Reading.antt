@@ -1,5 +1,5 @@
 -- Statements, declarations and bodies in frames whose tokens say the same.
-use Rattle.std.proofs.Common.{◌≡◌, ℕ, Bool, true, false, if◌then◌else◌, List, [], ◌∷◌, ◌++◌, Option, Some, None, refl, ap, sym, ◌∙◌, subst}
+use Rattle.std.proofs.Common.{◌≡◌, ℕ, Bool, true, false, if◌then◌else◌, List, [], ◌∷◌, ◌++◌, Some, refl, ap, sym, ◌∙◌, subst}
 use Rattle.go_grammar.specs.declared.kind.Kind.{Kind}
 use Rattle.go_grammar.specs.Trees.{Tree, node, Trees, none, more, skip, kind_of}
 use Rattle.go_typed.specs.declared.form.Form.{Form}
@@ -9,7 +9,7 @@ use Rattle.go_rules.specs.Settling.{Part}
 use Rattle.go_rules.specs.Tables.{Parts}
 use Rattle.go_stmts.specs.Frames.{Frame}
 use Rattle.go_stmts.specs.Laying.{told, layout, form_by}
-use Rattle.go_stmts.specs.Reading.{Found, Reading, read, Readings, all_read, is_statement, completed, closed_on, closed_by, closed, after, reading, readings, holding, held_faults, beginning, entering, leaving, back, left_out, left_out_faults}
+use Rattle.go_stmts.specs.Reading.{Found, Reading, read, Readings, all_read, is_statement, completed, closed_on, closed_by, closed, after, reading, readings, holding, held_faults, beginning, entering, left_out, left_out_faults}
 use Rattle.go_stmts.specs.Rules.{own_faults, built_by}
 use Rattle.go_alike.specs.Frames.{SameFrames, SameReadings}
 use Rattle.go_alike.specs.Scopes.{Says, said, SaidSame, TokenHas, AllTokens, TokensIn}

@@ -1,5 +1,5 @@
 -- Expressions and types in scopes that say the same at their tokens.
-use Rattle.std.proofs.Common.{◌≡◌, ℕ, Bool, [], ◌∷◌, ◌++◌, Option, Some, None, refl, ap, ◌∙◌}
+use Rattle.std.proofs.Common.{◌≡◌, ℕ, Bool, [], ◌∷◌, ◌++◌, Some, None, refl, ap, ◌∙◌}
 use Rattle.go_grammar.specs.declared.kind.Kind.{Kind}
 use Rattle.go_grammar.specs.Trees.{Tree, node, Trees, none, more, skip, kind_of}
 use Rattle.go_rules.specs.Scopes.{Scope, Hint}
