@@ -1,5 +1,5 @@
 -- The trees of files are read by their own tokens.
-use Rattle.std.proofs.Common.{◌≡◌, ℕ, suc, ◌-◌, ◌<◌, ◌≤◌, Bool, true, false, if◌then◌else◌, List, [], ◌∷◌, ◌++◌, Option, None, arith}
+use Rattle.std.proofs.Common.{◌≡◌, ℕ, suc, ◌-◌, ◌<◌, ◌≤◌, Bool, true, List, [], ◌∷◌, ◌++◌, Option, None, arith}
 use Rattle.std.proofs.lemmas.Bool.{lt-ltb}
 use Rattle.std.specs.List.{AllByRecursion}
 use Rattle.std.specs.Prelude.{nat_lt}
@@ -28,6 +28,7 @@ use Rattle.go_package.specs.Declarations.{Specification, specification_by, speci
 use Rattle.go_package.specs.Sources.{Source}
 use Rattle.go_alike.specs.Portions.{IsWhole, IsDerived}
 use Rattle.go_alike.specs.Scopes.{TokenHas, AllTokens, TokensIn}
+use Rattle.go_alike.proofs.Marks.{branch}
 
 -- ---- nodes that have tokens, and parts that lie one behind the other
 
@@ -138,10 +139,6 @@ files_whole : (n : ℕ) (ss : List Source) → AllByRecursion IsDerived ss → A
 files_whole n [] h = tt
 files_whole n (s ∷ ss) h =
     append_all IsWhole (in_file n s.tree) (specifications (suc n) ss) (file_whole n s.tree (derives_laid (kinds s.tokens.tokens) category.File s.tree h.0.derives)) (files_whole (suc n) ss h.1)
-
-branch : {A : Type 0} (P : A → Type 0) (b : Bool) (x y : A) → P x → P y → P (if b then x else y)
-branch P true x y h g = h
-branch P false x y h g = g
 
 those_whole : (e : Entity) (ds : List Specification) → AreWhole ds → AreWhole (those_of e ds)
 those_whole e [] h = tt

@@ -19,7 +19,8 @@ use Rattle.go_rules.specs.Tables.{Parts, made, on_two}
 use Rattle.go_rules.specs.TypeNodes.{part_type, entry_types}
 use Rattle.go_stmts.specs.Frames.{Frame, Locals, local_stands, looked_up, scope_of, rights_of, with_own_right}
 use Rattle.go_stmts.specs.Laying.{layout, local_named, type_number, type_name, type_sort}
-use Rattle.go_stmts.specs.Reading.{with_parameter, with_parameters, signature_results, behind_signature, in_function, in_switch, in_constants, entering, entry_names, first_parts, with_type, beginning, declares_sort, is_new, declares_name, declares_all, part_source, right_side, back, leaving}
+use Rattle.go_stmts.specs.Reading.{with_parameter, with_parameters, signature_results, behind_signature, in_function, in_switch, in_constants, entering, entry_names, first_parts, with_type, beginning}
+use Rattle.go_stmts.specs.Reading.{declares_sort, is_new, declares_name, declares_all, part_source, right_side, back, leaving}
 use Rattle.go_stmts.specs.Rules.{type_failing, failing, own_faults, judges, taking, all_given, built_by, first_fault, late_limits}
 use Rattle.go_alike.specs.Frames.{MaybeTokens}
 use Rattle.go_alike.specs.Scopes.{Says, said, MeanSame, SaidSame, TokenHas, TokensIn}
@@ -153,13 +154,16 @@ module _ (p : ℕ → Bool) (m : Says) where
 
   -- ---- rules
 
-  late_same : (f : Frame) (n : Option ℕ) (x : Part) → first_fault (late_limits (rights_of (framed f m)) (rights_of (with_own_right n (part_type (Some x)) (framed f m))) x) ≡ first_fault (late_limits (rights_of f) (rights_of (with_own_right n (part_type (Some x)) f)) x)
+  abbrev late : Frame → Option ℕ → Part → List TypeFault
+  late f n x = first_fault (late_limits (rights_of f) (rights_of (with_own_right n (part_type (Some x)) f)) x)
+
+  late_same : (f : Frame) (n : Option ℕ) (x : Part) → late (framed f m) n x ≡ late f n x
   late_same f None x = refl
   late_same f (Some n) x = refl
 
   type_failing_same : (f : Frame) (i : ℕ) (x : Part) → SaidSame p (said f.around) m → p i ≡ true → type_failing (framed f m) i x ≡ type_failing f i x
   type_failing_same f i x a e =
-      ap (λ n. first_fault (late_limits (rights_of (framed f m)) (rights_of (with_own_right n (part_type (Some x)) (framed f m))) x)) (number_same f i a e) ∙ late_same f (type_number f i) x
+      ap (λ n. late (framed f m) n x) (number_same f i a e) ∙ late_same f (type_number f i) x
 
   types_failing_same : (f : Frame) (i : ℕ) (ys : Parts) → SaidSame p (said f.around) m → p i ≡ true → on_two [] (λ n x. type_failing (framed f m) i x) ys ≡ on_two [] (λ n x. type_failing f i x) ys
   types_failing_same f i (Some x ∷ Some y ∷ []) a e = type_failing_same f i y a e

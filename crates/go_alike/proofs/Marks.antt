@@ -7,18 +7,20 @@ use Rattle.go_types.specs.Trees.{TypeTree}
 use Rattle.go_types.specs.Relations.{Rights}
 use Rattle.go_typed.specs.declared.form.Form.{Form}
 use Rattle.go_typed.specs.declared.form.Form.TheVariants as form
-use Rattle.go_typed.specs.Trees.{Label, Typed, typed, Typeds, row, list_of, form_of, first_of, sort_of, parts_of}
+use Rattle.go_typed.specs.Trees.{Typed, typed, Typeds, row, list_of, form_of, first_of, sort_of, parts_of}
 use Rattle.go_typed.specs.Trees as sort
 use Rattle.go_rules.specs.declared.family.OpenKind.{OpenKind}
 use Rattle.go_rules.specs.Scopes.{Scope, Hint}
 use Rattle.go_rules.specs.Settling.{Part, Take, stay, default, as_type, settled, all_settled, defaulted, given}
 use Rattle.go_rules.specs.Sorts.{Stands, is_open, open_kind, default_type, named_type, retyped}
-use Rattle.go_rules.specs.Tables.{Parts, is_held, held, all_held, leaf, is_type, cut, first_cut, is_make_call, call_parts, has_no_low, bounds_of, bracketed_parts, is_package, selector_parts, behind_first, layout, callee_form, selector_form, bracketed_form, on_first, form_by, take_optional, all_given, takes, is_sound, own_faults, built_by, built, hint, part_scope}
+use Rattle.go_rules.specs.Tables.{Parts, is_held, held, all_held, leaf, is_type, cut, first_cut, is_make_call, call_parts, has_no_low, bounds_of, bracketed_parts, is_package, selector_parts}
+use Rattle.go_rules.specs.Tables.{behind_first, layout, callee_form, selector_form, bracketed_form, on_first, form_by, take_optional, all_given, takes, is_sound, own_faults, built_by, built, hint}
+use Rattle.go_rules.specs.Tables.{part_scope}
 use Rattle.go_rules.specs.TypeNodes.{Fields, fields_from, fields_of, is_field_name}
 use Rattle.go_rules.specs.Typing.{typing, typings}
 use Rattle.go_alike.specs.Scopes.{TokenHas, AllTokens, TokensIn}
 
-branch : {A : Type 0} (P : A → Type 0) (b : Bool) (x y : A) → P x → P y → P (if b then x else y)
+pub branch : {A : Type 0} (P : A → Type 0) (b : Bool) (x y : A) → P x → P y → P (if b then x else y)
 branch P true x y h g = h
 branch P false x y h g = g
 

@@ -9,7 +9,8 @@ use Rattle.go_rules.specs.Faults.{or_else}
 use Rattle.go_rules.specs.Indexes.{selector_sort}
 use Rattle.go_rules.specs.Names.{integer_failing, integer_constant, rune_constant, text_constant}
 use Rattle.go_rules.specs.Scopes.{Scope, Hint}
-use Rattle.go_rules.specs.Tables.{Parts, hint, part_scope, layout, on_one, key_form, selector_form, form_by, selector_rule, failing, sort_by, takes, all_given, is_judged, placing, own_faults, is_sound, made, built_by, built_on, built, found}
+use Rattle.go_rules.specs.Tables.{Parts, hint, part_scope, layout, on_one, key_form, selector_form, form_by, selector_rule, failing, sort_by, takes, all_given, is_judged, placing, own_faults}
+use Rattle.go_rules.specs.Tables.{is_sound, made, built_by, built_on, built, found}
 use Rattle.go_rules.specs.TypeNodes.{structure_of}
 use Rattle.go_alike.specs.Scopes.{Says, said, SaidSame, TokenHas}
 use Rattle.go_alike.proofs.Marks.{PartsMarked, layout_marked, fields_same}

@@ -11,7 +11,8 @@ use Rattle.go_types.specs.Relations.{Rights}
 use Rattle.go_typed.specs.Trees as sort
 use Rattle.go_rules.specs.Scopes.{Needed, Scope}
 use Rattle.go_rules.specs.Sorts.{Stands}
-use Rattle.go_package.specs.Bodies.{Surroundings, own_object, texts_from, objects_from, based_tree, portion_of, stands_among, text_there, scope_of, count_types, local_type, function_in, function_with, typed_function, types_in, variable_of, variables_by}
+use Rattle.go_package.specs.Bodies.{Surroundings, own_object, texts_from, objects_from, based_tree, portion_of, stands_among, text_there, scope_of, count_types, local_type, function_in, function_with}
+use Rattle.go_package.specs.Bodies.{typed_function, types_in, variable_of, variables_by}
 use Rattle.go_package.specs.Declarations.{Specification}
 use Rattle.go_package.specs.Sources.{Package, text_at}
 use Rattle.go_alike.specs.Portions.{width, SaysPortion, IsOver, IsWhole}

@@ -15,6 +15,7 @@ use Rattle.go_alike.specs.Frames.{SameFrames, SameReadings}
 use Rattle.go_alike.specs.Scopes.{Says, said, SaidSame, TokenHas, AllTokens, TokensIn}
 use Rattle.go_alike.proofs.Framed.{framed, Fits, layout_same, beginning_same, beginning_fits, entering_same, entering_fits, leaving_same, leaving_fits, faults_same, built_same}
 use Rattle.go_alike.proofs.Holding.{holding_same, held_same, left_out_same, left_out_faults_same}
+use Rattle.go_alike.proofs.Marks.{branch}
 use Rattle.go_alike.proofs.Said.{is_told}
 
 abbrev pub framed_reading : Says → Reading → Reading
@@ -22,10 +23,6 @@ framed_reading m (read x fs f) = read x fs (framed f m)
 
 abbrev framed_readings : Says → Readings → Readings
 framed_readings m (all_read xs fs f) = all_read xs fs (framed f m)
-
-branch : {A : Type 0} (P : A → Type 0) (b : Bool) (x y : A) → P x → P y → P (if b then x else y)
-branch P true x y h g = h
-branch P false x y h g = g
 
 -- both ways are the same
 either_way : (g : Reading → Reading) (b : Bool) (x y u v : Reading) → x ≡ g u → y ≡ g v → (if b then x else y) ≡ g (if b then u else v)
