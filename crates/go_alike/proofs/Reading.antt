@@ -118,15 +118,19 @@ module _ (p : ℕ → Bool) (m : Says) where
   -- ---- frames that are the same
 
   same_readings : (r : Reading) → ReadingFits r → SameReadings p r (framed_reading m r)
-  same_readings (read x fs f) a = (refl, refl, record {
-    around = record { rights = refl; iota = refl; needed = refl; limits = refl; tokens = a.said_so };
-    locals = refl;
-    types = refl;
-    source = refl;
-    repeats = a.repeats;
-    tag = refl;
-    results = refl;
-  })
+  same_readings (read x fs f) a = (
+    refl,
+    refl,
+    record {
+      around = record { rights = refl; iota = refl; needed = refl; limits = refl; tokens = a.said_so };
+      locals = refl;
+      types = refl;
+      source = refl;
+      repeats = a.repeats;
+      tag = refl;
+      results = refl;
+    },
+  )
 
   pub statement_so : (f : Frame) (h : Hint) (t : Tree) → Fits p m f → AllTokens p t → SameReadings p (reading f h t) (reading (framed f m) h t)
   statement_so f h t a w = subst (λ r. SameReadings p (reading f h t) r) (sym (reading_same f h t a w)) (same_readings (reading f h t) (reading_fits f h t a w))
