@@ -1,0 +1,4 @@
+mod Counting
+mod Running
+mod Sequences
+mod Programs

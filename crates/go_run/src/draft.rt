@@ -1,0 +1,8 @@
+//! Draft.
+
+ghost use Rattle.std.specs.Prelude.{◌≡◌, ℕ};
+
+pub fn draft()
+    ensures { (n : ℕ) → n ≡ n }
+{
+}
