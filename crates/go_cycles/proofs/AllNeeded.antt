@@ -128,7 +128,7 @@ each_known (y ∷ ys) xs = (known_all y ys (with_one y xs) (known_new y xs), eac
 there_one : (y : Needed) (zs : List Needed) → is_known y zs ≡ true → with_one y zs ≡ zs
 there_one y zs h = ap (λ b. if b then zs else zs ++ y ∷ []) h
 
-there_all : (ys zs : List Needed) → AllKnown ys zs → with_all ys zs ≡ zs
+pub there_all : (ys zs : List Needed) → AllKnown ys zs → with_all ys zs ≡ zs
 there_all [] zs h = refl
 there_all (y ∷ ys) zs h = ap (with_all ys) (there_one y zs h.0) ∙ there_all ys zs h.1
 
@@ -139,7 +139,7 @@ grown_if : (b : Bool) (y : Needed) (xs : List Needed) → (n : List Needed) × (
 grown_if true y xs = ([], sym (append-nil xs))
 grown_if false y xs = (y ∷ [], refl)
 
-grown : (ys xs : List Needed) → (n : List Needed) × (with_all ys xs ≡ xs ++ n)
+pub grown : (ys xs : List Needed) → (n : List Needed) × (with_all ys xs ≡ xs ++ n)
 grown [] xs = ([], sym (append-nil xs))
 grown (y ∷ ys) xs =
     let one = grown_if (is_known y xs) y xs in

@@ -7,9 +7,9 @@
 mod circle;
 mod columns;
 mod graph;
-mod needs;
+pub mod needs;
 pub mod order;
 mod ranks;
-mod rounds;
+pub mod rounds;
 mod search;
 mod walk;

@@ -1,6 +1,6 @@
 //! What a declaration needs, what this needs, and so on, by the rounds of the definition.
 
-ghost use Rattle.std.specs.Prelude.{◌≡◌, ◌∷◌, IfOk, OnOk, map, drop, []};
+ghost use Rattle.std.specs.Prelude.{◌≡◌, ◌∷◌, IfOk, OnOk, map, drop, [], false};
 ghost use Rattle.go_tree.specs.Needs.{needs, needs_of, is_among, is_known, with_one, with_all, all_needed, needs_itself};
 ghost use Rattle.go_lookup.specs.Views.{found_view, asked_view};
 ghost use Rattle.go_cycles.specs.Views.{needed_view};
@@ -11,7 +11,7 @@ use go_lookup::found::Found;
 use std::alloc::{AllocError, Global};
 
 /// Whether the declaration is among those that are needed.
-fn is_among(d: &Found<'_>, all: &[Needed<'_>]) -> bool
+pub fn is_among(d: &Found<'_>, all: &[Needed<'_>]) -> bool
     ensures { result ≡ is_among (found_view d.now) (map needed_view all.now) }
 {
     for x in all {
@@ -125,6 +125,25 @@ fn copy_from<'a>(
     Ok(copy)
 }
 
+/// What a declaration needs, what this needs, and so on, by way of at most `rounds` others.
+pub fn needed_through<'a>(
+    alloc: Global,
+    lookups: &[Asked<'a>],
+    rounds: usize,
+    d: &Found<'a>,
+) -> Result<Vec<Needed<'a>>, AllocError>
+    ensures { let asks = map asked_view lookups.now in
+        IfOk result (λ v. map needed_view v.items ≡ all_needed asks rounds (with_all (needs asks (record { it = found_view d.now; full = false })) [])) }
+{
+    let first = Needed {
+        found: *d,
+        full: false,
+    };
+    let mut start = Vec::new(alloc);
+    push_needs(&mut start, lookups, &first)?;
+    all_needed(alloc, lookups, rounds, &start)
+}
+
 /// Whether a declaration needs itself, by way of at most `rounds` others.
 pub fn needs_itself<'a>(
     alloc: Global,
@@ -134,12 +153,6 @@ pub fn needs_itself<'a>(
 ) -> Result<bool, AllocError>
     ensures { IfOk result (λ b. b ≡ needs_itself (map asked_view lookups.now) rounds (found_view d.now)) }
 {
-    let first = Needed {
-        found: *d,
-        full: false,
-    };
-    let mut start = Vec::new(alloc);
-    push_needs(&mut start, lookups, &first)?;
-    let all = all_needed(alloc, lookups, rounds, &start)?;
+    let all = needed_through(alloc, lookups, rounds, d)?;
     Ok(is_among(d, &all))
 }

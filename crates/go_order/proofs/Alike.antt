@@ -2,7 +2,7 @@
 use Rattle.std.proofs.Common.{◌≡◌, ◌∙◌, ℕ, Bool, true, false, ◌&&◌, ◌||◌, nat_eq, List, [], ◌∷◌, ap, sym, refl, arith}
 use Rattle.go_tree.specs.Declarations.{Found}
 use Rattle.go_tree.specs.Needs.{Needed, is_same, same_way, is_known}
-use Rattle.go_order.proofs.AllNeeded.{AllKnown}
+use Rattle.go_cycles.proofs.AllNeeded.{AllKnown}
 
 pub both_left : (b c : Bool) → (b && c) ≡ true → b ≡ true
 both_left true c e = refl

@@ -6,7 +6,7 @@ use Rattle.go_tree.specs.Lookups.{Asked}
 use Rattle.go_tree.specs.Needs.{Needed, is_known, with_one, with_all, needs, needs_of}
 use Rattle.go_cycles.specs.Columns.{IsSource}
 use Rattle.go_cycles.specs.Needs.{source_of, way_of, needed_in, needed_by}
-use Rattle.go_order.proofs.AllNeeded.{needs_some, needs_none, AllKnown}
+use Rattle.go_cycles.proofs.AllNeeded.{needs_some, needs_none, AllKnown}
 
 abbrev pub Each : (Needed → Type 0) → List Needed → Type 0
 Each P [] = Unit {0}

@@ -5,7 +5,7 @@ use Rattle.go_tree.specs.Lookups.{Asked}
 use Rattle.go_tree.specs.Needs.{Needed, is_same, same_way, is_among, is_known, with_all, needs, needs_of, all_needed, needs_itself}
 use Rattle.go_cycles.specs.Needs.{source_of, way_of, needed_by}
 use Rattle.go_order.specs.Closure.{rounds, closure, any_itself, IsDeclared, AreDeclared}
-use Rattle.go_order.proofs.AllNeeded.{needs_some, needs_none, or_last, or_more, both_true, itself, known_all, AllKnown, each_known, there_all, all_same, grown}
+use Rattle.go_cycles.proofs.AllNeeded.{needs_some, needs_none, or_last, or_more, both_true, itself, known_all, AllKnown, each_known, there_all, all_same, grown}
 use Rattle.go_order.proofs.Alike.{IsAlike, alike, known_alike, through}
 use Rattle.go_order.proofs.Each.{Each, each_all, needed_source_of, needs_called, round_called, IsCalled, all_known_append}
 

@@ -1,4 +1,3 @@
-mod AllNeeded
 mod Alike
 mod Each
 mod Enough

@@ -14,7 +14,7 @@ use Rattle.go_cycles.specs.Columns.{AreAlike}
 use Rattle.go_cycles.specs.Order.{needs_other, NeedsNone, StandInOrder}
 use Rattle.go_order.specs.Closure.{rounds, closure, any_itself, IsLike, AllLike, IsOneEach}
 use Rattle.go_order.specs.Placing.{NoneAmong, LastIsAmong, EndsAmong, IsPutBehind}
-use Rattle.go_order.proofs.AllNeeded.{drop_read}
+use Rattle.go_cycles.proofs.AllNeeded.{drop_read}
 use Rattle.go_order.proofs.Alike.{false_if}
 use Rattle.go_order.proofs.Enough.{closure_closed, closure_called, in_closure}
 use Rattle.go_order.proofs.Through.{needs_through}

@@ -8,7 +8,7 @@ use Rattle.go_tree.specs.Needs.{Needed, if_so, is_source, right_way, way_by, way
 use Rattle.go_cycles.specs.Columns.{AreAlike}
 use Rattle.go_cycles.specs.Needs.{source_of, way_of, needed_in, needed_by}
 use Rattle.go_order.specs.Closure.{IsLike}
-use Rattle.go_order.proofs.AllNeeded.{needs_some, needs_none, or_last, AllKnown}
+use Rattle.go_cycles.proofs.AllNeeded.{needs_some, needs_none, or_last, AllKnown}
 use Rattle.go_order.proofs.Alike.{both_left, both_right, same_file, same_itself, same_on, same_way_is}
 use Rattle.go_order.proofs.Each.{Each, each_append, each_all, needs_by, needed_way, needed_source_of, IsCalled, needs_called, round_called, all_known_left, all_known_right}
 

@@ -1,3 +1,2 @@
 pub mod Closure
 pub mod Placing
-pub mod Views

@@ -6,5 +6,4 @@
 
 mod closure;
 pub mod laws;
-mod needs;
 pub mod order;

@@ -5,11 +5,12 @@ ghost use Rattle.go_cycles.specs.Order.{IsOrder, StandInOrder};
 ghost use Rattle.go_lookup.specs.Views.{found_view, asked_view};
 ghost use Rattle.go_order.specs.Closure.{rounds, any_itself, IsOneEach};
 ghost use Rattle.go_order.specs.Placing.{NoneAmong, EndsAmong, IsPutBehind};
-ghost use Rattle.go_order.specs.Views.{needed_view};
+ghost use Rattle.go_cycles.specs.Views.{needed_view};
 
-use crate::closure::{closure, is_among};
-use crate::needs::Needed;
+use crate::closure::closure;
+use go_cycles::needs::Needed;
 use go_cycles::order::Order;
+use go_cycles::rounds::is_among;
 use go_lookup::asked::Asked;
 use go_lookup::found::Found;
 use std::alloc::{AllocError, Global};

@@ -23,3 +23,4 @@ pub mod Waiters
 pub mod Finds
 pub mod Awakening
 pub mod Watching
+pub mod FieldPlacing

@@ -3,6 +3,7 @@ pub mod Relations
 pub mod Tables
 pub mod Keys
 pub mod Shapes
+pub mod FieldPlaces
 pub mod Verdicts
 pub mod Changes
 pub mod Examples

@@ -1,19 +1,24 @@
 //! Shapes by number, each once.
-ghost use Rattle.std.specs.Prelude.{◌≡◌, ℕ, ◌<◌, ◌≤◌, [], Some, IfOk, OnErr, length, take, slice_get};
+ghost use Rattle.std.specs.Prelude.{◌≡◌, ℕ, ◌<◌, ◌≤◌, List, [], Some, IfOk, IfSome, OnErr, length, take, slice_get};
+ghost use Rattle.go_types.specs.declared.shape.Field.{Field};
+ghost use Rattle.go_types.specs.declared.shape.Shape.{Shape};
+ghost use Rattle.go_types.specs.declared.shape.Shape.TheVariants as shapes;
+ghost use Rattle.go_types.specs.FieldPlaces.{field_place};
 ghost use Rattle.go_types.specs.Shapes.{IsInterned, IsAdded};
 ghost use Rattle.go_types.specs.Keys.{key as shape_key};
 
 use crate::keys::key_of;
+use crate::placed::PlacedShape;
 use crate::shape::Shape;
 use go_base::Memory;
 use indexmap::IndexMap;
 use std::alloc::Global;
 use std::marker::Model;
 
-/// Shapes in order, each under its key.
+/// Shapes in order, each under its key and with the places of its fields.
 #[derive(Drop)]
 pub struct Index {
-    entries: IndexMap<Vec<u64>, Shape>,
+    entries: IndexMap<Vec<u64>, PlacedShape>,
 }
 
 impl Model for Index {
@@ -50,8 +55,24 @@ impl Index {
         requires { number < length self.now }
         ensures { slice_get self.now number ≡ Some result.now }
     {
+        self.placed(number).shape()
+    }
+
+    /// The number of the first field of a name in the shape of a number.
+    pub fn place(&self, number: usize, name: &[u8]) -> Option<usize>
+        requires { number < length self.now }
+        ensures place { (s : Shape) → slice_get self.now number ≡ Some s → result ≡ field_place s name.now }
+        ensures within { (fs : List Field) → slice_get self.now number ≡ Some (shapes.Struct fs) → IfSome result (λ n. n < length fs) }
+    {
+        self.placed(number).place(name)
+    }
+
+    fn placed(&self, number: usize) -> &PlacedShape
+        requires { number < length self.now }
+        ensures { slice_get self.now number ≡ Some result.now }
+    {
         match self.entries.get_index(number) {
-            Some((_, shape)) => shape,
+            Some((_, placed)) => placed,
             None => unreachable!(),
         }
     }
@@ -64,12 +85,12 @@ impl Index {
         let key = key_of(alloc, shape)?;
         match self.entries.get_index_of(&key) {
             Some(number) => Ok(number),
-            None => self.add(key, copy_of(shape)?),
+            None => self.add(key, copy_of(alloc, shape)?),
         }
     }
 
     /// Puts a shape that isn't there last.
-    fn add(&mut self, key: Vec<u64>, shape: Shape) -> Result<usize, Memory>
+    fn add(&mut self, key: Vec<u64>, shape: PlacedShape) -> Result<usize, Memory>
         requires key { key.items ≡ shape_key shape }
         requires absent { (j : ℕ) → slice_get self.old j ≡ Some shape → ⊥ }
         ensures number { IfOk result (IsAdded self.old self.new shape) }
@@ -88,8 +109,8 @@ impl Index {
     }
 }
 
-fn copy_of(shape: &Shape) -> Result<Shape, Memory>
+fn copy_of(alloc: Global, shape: &Shape) -> Result<PlacedShape, Memory>
     ensures { IfOk result (λ s. s ≡ shape.now) }
 {
-    Ok(shape.clone()?)
+    PlacedShape::of(alloc, shape.clone()?)
 }

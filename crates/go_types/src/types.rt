@@ -1,7 +1,9 @@
 //! The table of types.
-ghost use Rattle.std.specs.Prelude.{◌≡◌, ◌↔◌, ◌<◌, ◌≤◌, ◌^◌, ◌-◌, ◌++◌, ◌∷◌, ℕ, [], None, Some, IsTrue, IfOk, OnOk, OnErr, IfSome, IfNone, length, slice_get, count_by, take, min};
+ghost use Rattle.std.specs.Prelude.{List, ◌≡◌, ◌↔◌, ◌<◌, ◌≤◌, ◌^◌, ◌-◌, ◌++◌, ◌∷◌, ℕ, [], None, Some, IsTrue, IfOk, OnOk, OnErr, IfSome, IfNone, length, slice_get, count_by, take, min};
 ghost use Rattle.go_types.specs.declared.shape.Field.{Field};
 ghost use Rattle.go_types.specs.declared.shape.Shape.{Shape};
+ghost use Rattle.go_types.specs.declared.shape.Shape.TheVariants as shapes;
+ghost use Rattle.go_types.specs.FieldPlaces.{field_place};
 ghost use Rattle.go_types.specs.Trees.{Identical, is_named};
 ghost use Rattle.go_types.specs.Relations.{Underlying, Assignable, Comparable, Scalars};
 ghost use Rattle.go_types.specs.Tables.{Table, IsTable, HasShape, HasRightId, HasPartsBelow, WasDeclared, IsDefined, IsSettled, NoneContainsItself, is_declaration, type_of, rights_of};
@@ -84,6 +86,16 @@ impl Types {
         ensures { HasShape self.now a result.now }
     {
         self.shapes.get(a as usize)
+    }
+
+    /// The number of the first field of a name in the type `of`; `None` where it has no such field,
+    /// or is no struct (Go specification, "Struct types").
+    pub fn field_place(&self, of: TypeId, name: &[u8]) -> Option<usize>
+        requires { of < length self.now.shapes }
+        ensures place { (s : Shape) → HasShape self.now of s → result ≡ field_place s name.now }
+        ensures within { (fs : List Field) → HasShape self.now of (shapes.Struct fs) → IfSome result (λ n. n < length fs) }
+    {
+        self.shapes.place(of as usize, name)
     }
 
     /// Adds a new declared type that has no right side yet (Go specification, "Type declarations").

@@ -2,7 +2,7 @@ use Rattle.std.proofs.Common.{◌≡◌, ◌∙◌, ◌-◌, ◌∷◌, drop, ma
 use Rattle.go_lookup.specs.Views.{found_view}
 use Rattle.go_lookup.proofs.Tables.{drop-back}
 use Rattle.go_order.specs.Placing.{NoneAmong}
-use Rattle.go_order.specs.Views.{needed_view}
+use Rattle.go_cycles.specs.Views.{needed_view}
 use Rattle.go_order.proofs.Placed.{ends_at}
 use Rattle.go_order.proofs.order.place_behind.Goals as goal
 

@@ -2,7 +2,7 @@ use Rattle.std.proofs.Common.{◌≡◌, ◌∙◌, map, ap, sym}
 use Rattle.go_lookup.specs.Views.{found_view, asked_view}
 use Rattle.go_tree.specs.Needs.{is_among}
 use Rattle.go_order.specs.Closure.{closure}
-use Rattle.go_order.specs.Views.{needed_view}
+use Rattle.go_cycles.specs.Views.{needed_view}
 use Rattle.go_order.proofs.Placed.{round_order, round_all, round_free, round_itself}
 use Rattle.go_order.proofs.order.slow_order.Goals as goal
 
