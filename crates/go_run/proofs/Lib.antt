@@ -2,3 +2,4 @@ mod Counting
 mod Running
 mod Sequences
 mod Programs
+mod Endings

@@ -1,6 +1,7 @@
 -- What is run one after the other.
-use Rattle.std.proofs.Common.{◌≡◌, ◌<◌, ◌≤◌, ℕ, List, [], ◌∷◌, drop, length, refl, sym, ap, ◌∙◌, subst, arith, Result, Ok, Err}
-use Rattle.std.specs.Prelude.{Bool, true, false, ◌&&◌, map}
+use Rattle.std.proofs.Common.{◌≡◌, ◌<◌, ◌≤◌, ◌+◌, ℕ, List, [], ◌∷◌, drop, length, refl, sym, ap, ◌∙◌, subst, arith, Result, Ok, Err}
+use Rattle.std.specs.Prelude.{Bool, true, false, ◌&&◌, map, get_or}
+use Rattle.std.proofs.lemmas.List.{drop_more}
 use Rattle.std.specs.List.{list_all}
 use Rattle.go_typed.specs.declared.node.TypedNode.{TypedNode}
 use Rattle.go_typed.specs.Packages.{PackageView, Counts, is_below, is_known_tree, refers_to}
@@ -64,7 +65,14 @@ module _ (c c1 : ℕ → Machine → Outcome) (old m new : Machine) (le : m.turn
   earlier (Err exit.Undecided) h = earlier_on (Err exit.Undecided) h
   earlier (Err exit.Memory) h = tt
 
+-- the same computation
+pub same_ran : (c c1 : ℕ → Machine → Outcome) (old new : Machine) → ((n : ℕ) → c n old ≡ c1 n old) → (r : Result (Unit {0}) Exit) → IsRan c1 old r new → IsRan c old r new
+same_ran c c1 old new e r h = earlier c c1 old old new (omega arith) (λ n lt. e n) r h
+
 -- ---- trees
+
+pub at_front : (xs : List TypedNode) (i : ℕ) (x : TypedNode) → i < length xs → x ≡ get_or xs i x → drop i xs ≡ x ∷ drop (i + 1) xs
+at_front xs i x lt e = drop_more xs i x lt ∙ ap (λ (y : TypedNode). y ∷ drop (i + 1) xs) (sym e)
 
 -- What is left to do is these trees, in another state.
 pub record Left (p : PackageView) (all : List TypedNode) (old : Machine) (xs : List TypedNode) (m : Machine) : Type 0 where

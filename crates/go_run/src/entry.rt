@@ -1,6 +1,7 @@
 //! The function `main` of the package `main` (Go specification, "Program execution").
 
 ghost use Rattle.std.specs.Prelude.{◌≡◌};
+ghost use Rattle.go_tokens.specs.Spellings.{same_text};
 ghost use Rattle.go_tree.specs.Declarations.{is_function};
 ghost use Rattle.go_tree.specs.Uses.{functions_among};
 ghost use Rattle.go_run.specs.Entry.{text_in, text_at, is_main_name, is_main, is_main_package, main_among, main_number};
@@ -10,11 +11,18 @@ use go_tree::file::File;
 use go_tree::object::Declared;
 use go_typed::checked::Checked;
 
+/// Whether two texts are the same.
+fn same(a: &[u8], b: &[u8]) -> bool
+    ensures { result ≡ same_text a.now b.now }
+{
+    a == b
+}
+
 /// Whether it is the name `main`.
 fn is_main_name(name: &[u8]) -> bool
     ensures { result ≡ is_main_name name.now }
 {
-    name == b"main".as_slice()
+    same(name, b"main")
 }
 
 /// The bytes of a token of a file; none where there is no such token.

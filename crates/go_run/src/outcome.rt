@@ -4,6 +4,8 @@ ghost use Rattle.std.specs.Prelude.{◌≡◌, Ok};
 ghost use Rattle.go_base.specs.Gives.{Gives};
 ghost use Rattle.go_meaning.specs.Computations.{Outcome as Ending};
 ghost use Rattle.go_meaning.specs.Meaning.{run_of};
+ghost use Rattle.go_values.specs.Worlds.{world_view};
+ghost use Rattle.go_runs.specs.Machines.{IsLeft};
 ghost use Rattle.go_tasks.specs.Ends.{IsRun};
 ghost use Rattle.go_run.specs.declared.outcome.RunError.TheVariants as errors;
 ghost use Rattle.go_run.specs.Runs.{outcome_view, refusal};
@@ -66,7 +68,26 @@ impl<T: Drop> From<AllocFailed<T>> for RunError {
     }
 }
 
-/// What a run came to, by the answer of the machine: behind all tasks only a panic, and want of turns or depth, are no end.
+/// What a run came to that printed this, where nothing comes next behind all tasks: only a panic, and want of turns or depth,
+/// are no end.
+fn left(exit: &Exit, output: Vec<u8>) -> Result<Outcome, RunError>
+    ensures { (m : Machine) (o : Ending) → output.items ≡ (world_view m.world).output → IsLeft exit.now m o → Gives outcome_view refusal result (Ok (run_of o)) }
+{
+    match exit {
+        Exit::Panic(panic) => Ok(Outcome::Panicked {
+            panic: *panic,
+            output,
+        }),
+        Exit::Undecided => Ok(Outcome::Undecided { output }),
+        Exit::Memory => Err(RunError::Memory),
+        Exit::Return(_) => Ok(Outcome::Ended { output }),
+        Exit::Break => Ok(Outcome::Ended { output }),
+        Exit::Continue => Ok(Outcome::Ended { output }),
+        Exit::Fallthrough => Ok(Outcome::Ended { output }),
+    }
+}
+
+/// What a run came to, by the answer of the machine.
 ///
 /// # Errors
 ///
@@ -74,15 +95,13 @@ impl<T: Drop> From<AllocFailed<T>> for RunError {
 pub fn outcome_of(
     alloc: Global,
     machine: &Machine,
-    answer: Result<(), Exit>,
+    answer: &Result<(), Exit>,
 ) -> Result<Outcome, RunError>
-    ensures { (o : Ending) → IsRun answer machine.now o → Gives outcome_view refusal result (Ok (run_of o)) }
+    ensures { (o : Ending) → IsRun answer.now machine.now o → Gives outcome_view refusal result (Ok (run_of o)) }
 {
     let output = machine.world.output().to_vec(alloc)?;
     match answer {
-        Err(Exit::Panic(panic)) => Ok(Outcome::Panicked { panic, output }),
-        Err(Exit::Undecided) => Ok(Outcome::Undecided { output }),
-        Err(Exit::Memory) => Err(RunError::Memory),
-        _ => Ok(Outcome::Ended { output }),
+        Ok(()) => Ok(Outcome::Ended { output }),
+        Err(exit) => left(exit, output),
     }
 }

@@ -8,6 +8,7 @@ ghost use Rattle.go_run.specs.Runs.{Begins, is_variable, outcome_view, refusal, 
 use crate::entry::main_number;
 use crate::outcome::{Outcome, RunError, outcome_of};
 use crate::steps::{DEPTH, run_program};
+use go_base::Memory;
 use go_machine::engine::Engine;
 use go_runs::machine::Machine;
 use go_tree::context::Entity;
@@ -24,7 +25,6 @@ fn is_variable(declared: &Declared) -> bool
 }
 
 /// How many variables there are among these objects.
-#[tactic(auto, using(crate::proofs::Counting::counted_variables))]
 fn variable_count(objects: &[Declared]) -> usize
     ensures { result ≡ (counts_from no_counts objects.now).variables }
 {
@@ -47,11 +47,12 @@ fn first_machine(
     checked: &Checked,
     input: &[u8],
     turns: u64,
-) -> Result<Machine, RunError>
+) -> Result<Machine, Memory>
     ensures { IfOk result (λ m. Begins checked.now input.now turns m) }
 {
     let count = variable_count(checked.uses().package_objects());
-    let world = World::new(alloc, count, input.to_vec(alloc)?)?;
+    let bytes = input.to_vec(alloc)?;
+    let world = World::new(alloc, count, bytes)?;
     Ok(Machine {
         frame: Vec::new(alloc),
         world,
@@ -77,12 +78,13 @@ pub fn run(
     let Some(main) = main_number(checked) else {
         return Err(RunError::NoMain);
     };
+    let machine = first_machine(alloc, checked, input, turns)?;
     let mut engine = Engine {
         tasks: Vec::new(alloc),
         values: Vec::new(alloc),
-        machine: first_machine(alloc, checked, input, turns)?,
+        machine,
         depth: DEPTH,
     };
     let answer = run_program(&mut engine, alloc, checked, main);
-    outcome_of(alloc, &engine.machine, answer)
+    outcome_of(alloc, &engine.machine, &answer)
 }

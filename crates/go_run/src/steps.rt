@@ -108,8 +108,9 @@ fn run_main<'a>(
 {
     reset(engine);
     let _types = checked.types();
+    let function = function_at(checked, main);
     let operands = Vec::new(alloc);
-    let answer = call(engine, alloc, function_at(checked, main), operands);
+    let answer = call(engine, alloc, function, operands);
     if wants_memory(&answer) {
         return answer;
     }
