@@ -13,11 +13,11 @@ use Rattle.go_runs.specs.declared.machine.Machine.{Machine}
 use Rattle.go_runs.specs.Machines.{ends, IsLeft}
 use Rattle.go_tasks.specs.Ends.{IsRun}
 
-pub is_memory : Exit → Bool
+abbrev pub is_memory : Exit → Bool
 is_memory exit.Memory = true
 is_memory e = false
 
-pub run_left : Exit → List ℕ → Run
+abbrev pub run_left : Exit → List ℕ → Run
 run_left (exit.Panic k) out = Panicked (panic_view k) out
 run_left exit.Undecided out = Unfinished out
 run_left e out = Ended out

@@ -5,7 +5,6 @@
 //! depth, or that the package has no `main` to run.
 #![tactic(auto)]
 
-pub mod draft;
 pub mod entry;
 pub mod outcome;
 pub mod program;

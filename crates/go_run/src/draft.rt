@@ -1,8 +1,0 @@
-//! Draft.
-
-ghost use Rattle.std.specs.Prelude.{◌≡◌, ℕ};
-
-pub fn draft()
-    ensures { (n : ℕ) → n ≡ n }
-{
-}
