@@ -6,3 +6,4 @@ pub mod EntryTypes
 pub mod FieldRows
 pub mod Lengths
 pub mod Standings
+pub mod FieldPlacing

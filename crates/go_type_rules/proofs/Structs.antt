@@ -1,22 +1,14 @@
 -- The fields of struct types.
 use Rattle.std.proofs.Common.{◌≡◌, ℕ, zero, suc, ◌<◌, List, [], ◌∷◌, length, map, Option, Some, None, refl, ap, sym, ◌∙◌, arith}
-use Rattle.std.specs.Prelude.{◌&&◌, nat_eq, slice_get}
+use Rattle.std.specs.Prelude.{slice_get}
 use Rattle.std.specs.List.{AllByRecursion}
-use Rattle.std.specs.Cmp.Lexicographic.{pointwise}
 use Rattle.go_types.specs.declared.shape.Field.{Field}
 use Rattle.go_types.specs.Trees.{TypeTree, boolean, text, integer, array, slice, structure, function, declared, row}
-use Rattle.type_tests.specs.Identity.{same_name}
 use Rattle.go_types.specs.Tables.{Table, type_of}
 use Rattle.go_rules.specs.Indexes.{place_from, type_at, field_number, numbered_type, named_field}
 use Rattle.go_rules.specs.Calls.{row_length}
 use Rattle.go_rules.specs.Tables.{field_count}
 use Rattle.go_type_rules.specs.Structs.{struct_of, struct_seen}
-
-pub same_is : (xs ys : List ℕ) → same_name xs ys ≡ pointwise nat_eq xs ys
-same_is [] [] = refl
-same_is [] (y ∷ ys) = refl
-same_is (x ∷ xs) [] = refl
-same_is (x ∷ xs) (y ∷ ys) = ap (λ b. nat_eq x y && b) (same_is xs ys)
 
 -- what is asked of fields, a struct type alone has
 pub number_of_struct : (u : Option TypeTree) (name : List ℕ) → field_number u name ≡ field_number (struct_of u) name

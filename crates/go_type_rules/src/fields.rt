@@ -1,10 +1,10 @@
 //! Selectors, and the fields that keys of literals name.
-ghost use Rattle.std.specs.Prelude.{◌≡◌, ◌<◌, ◌^◌, IfOk, IfSome, length, map, unwrap_or};
+ghost use Rattle.std.specs.Prelude.{◌≡◌, ◌<◌, ◌^◌, Some, IfOk, IfSome, length, map, unwrap_or, slice_get};
 ghost use Rattle.std.specs.List.{AllByRecursion};
 ghost use Rattle.std.specs.Option.{option_map};
 ghost use Rattle.go_base.specs.Gives.{Gives};
+ghost use Rattle.go_types.specs.declared.shape.Field.{Field};
 ghost use Rattle.go_types.specs.Tables.{type_of, rights_of};
-ghost use Rattle.type_tests.specs.Identity.{same_name};
 ghost use Rattle.type_tests.specs.Tests.{underlying_of};
 ghost use Rattle.go_typed.specs.Trees.{sort_of};
 ghost use Rattle.go_typed.specs.Trees as sort;
@@ -13,7 +13,7 @@ ghost use Rattle.go_rules.specs.Faults.{least, judged};
 ghost use Rattle.go_rules.specs.Hints.{hint_seen, KnownHint};
 ghost use Rattle.go_rules.specs.Seen.{one_fault};
 ghost use Rattle.go_rules.specs.Sorts.{form_of_value};
-ghost use Rattle.go_rules.specs.Indexes.{place_from, field_number, named_field, selector_failing, selector_sort};
+ghost use Rattle.go_rules.specs.Indexes.{field_number, named_field, selector_failing, selector_sort};
 ghost use Rattle.go_rules.specs.Tables.{on_one, selector_rule, selector_form, field_count, key_in_struct, key_form};
 ghost use Rattle.go_type_rules.specs.Structs.{struct_of, struct_seen, member_count};
 
@@ -25,25 +25,18 @@ use go_typed::{Form, Referent, Sort, TypedNode};
 use go_types::{Field, Shape, TypeId, Types};
 use type_tests::underlying;
 
-/// Whether two names are the same.
-#[tactic(auto, using(crate::proofs::Structs::same_is))]
-fn same_name(one: &[u8], other: &[u8]) -> bool
-    ensures { result ≡ same_name one.now other.now }
+/// The number of the first field of a name in a struct type, if it has one (Go specification, "Struct types").
+pub fn place_of(types: &Types, of: TypeId, name: &[u8]) -> Option<usize>
+    requires { of < length types.now.shapes }
+    ensures number { result ≡ field_number (underlying_of (rights_of types.now) (type_of types.now.shapes of)) name.now }
+    ensures within { IfSome result (λ n. n < field_count (underlying_of (rights_of types.now) (type_of types.now.shapes of))) }
 {
-    one == other
-}
-
-/// The place of a name among the fields of a struct (Go specification, "Struct types").
-pub fn place_of(fields: &[Field], name: &[u8]) -> Option<usize>
-    ensures number { result ≡ place_from 0 (map (λ f. f.name) fields.now) name.now }
-    ensures within { IfSome result (λ n. n < length fields.now) }
-{
-    for (number, field) in fields.iter().enumerate() {
-        if same_name(field.name.as_slice(), name) {
-            return Some(number);
-        }
+    types.count();
+    if types.is_open(of) {
+        None
+    } else {
+        types.field_place(types.underlying(of), name)
     }
-    None
 }
 
 /// The fields of a struct type.
@@ -70,6 +63,26 @@ fn value_fields<'a>(types: &'a Types, operand: &Sort) -> Option<&'a [Field]>
     }
 }
 
+/// The number of the field of a value that has this name.
+fn value_place(types: &Types, name: &[u8], operand: &Sort) -> Option<usize>
+    requires { KnownSort (length types.now.shapes) operand.now }
+    ensures number { result ≡ field_number (form_of_value (rights_of types.now) (sort_seen types.now operand.now)) name.now }
+    ensures within { IfSome result (λ n. n < field_count (form_of_value (rights_of types.now) (sort_seen types.now operand.now))) }
+{
+    match own_type(types, operand) {
+        Some(of) => place_of(types, of, name),
+        None => None,
+    }
+}
+
+/// The type of the field of this number.
+fn type_at(fields: &[Field], number: usize) -> TypeId
+    requires { number < length fields.now }
+    ensures { (f : Field) × (slice_get fields.now number ≡ Some f) × (result ≡ f.ty) }
+{
+    fields[number].ty
+}
+
 /// The type of the field of a value that has this name.
 fn field_type(types: &Types, name: &[u8], operand: &Sort) -> Option<TypeId>
     requires { KnownSort (length types.now.shapes) operand.now }
@@ -79,8 +92,8 @@ fn field_type(types: &Types, name: &[u8], operand: &Sort) -> Option<TypeId>
     let Some(fields) = value_fields(types, operand) else {
         return None;
     };
-    match place_of(fields, name) {
-        Some(number) => Some(fields[number].ty),
+    match value_place(types, name, operand) {
+        Some(number) => Some(type_at(fields, number)),
         None => None,
     }
 }
@@ -137,10 +150,7 @@ fn selected(types: &Types, name: &[u8], operand: &Sort) -> u32
     requires few { field_count (form_of_value (rights_of types.now) (sort_seen types.now operand.now)) < 2 ^ 32 }
     ensures { result ≡ unwrap_or (field_number (form_of_value (rights_of types.now) (sort_seen types.now operand.now)) name.now) 0 }
 {
-    let Some(fields) = value_fields(types, operand) else {
-        return 0;
-    };
-    match place_of(fields, name) {
+    match value_place(types, name, operand) {
         Some(number) => number as u32,
         None => 0,
     }
@@ -164,11 +174,20 @@ fn key_number(types: &Types, of: TypeId, name: &[u8]) -> u32
     requires few { field_count (underlying_of (rights_of types.now) (type_of types.now.shapes of)) < 2 ^ 32 }
     ensures { let u = underlying_of (rights_of types.now) (type_of types.now.shapes of) in result ≡ unwrap_or (field_number u name.now) (field_count u) }
 {
-    let Some(fields) = struct_fields(types, of) else {
-        return 0;
-    };
-    match place_of(fields, name) {
+    match place_of(types, of, name) {
         Some(number) => number as u32,
-        None => fields.len() as u32,
+        None => fields_in(types, of),
+    }
+}
+
+/// How many fields a struct type has; other types have none.
+fn fields_in(types: &Types, of: TypeId) -> u32
+    requires of { of < length types.now.shapes }
+    requires few { field_count (underlying_of (rights_of types.now) (type_of types.now.shapes of)) < 2 ^ 32 }
+    ensures { result ≡ field_count (underlying_of (rights_of types.now) (type_of types.now.shapes of)) }
+{
+    match struct_fields(types, of) {
+        Some(fields) => fields.len() as u32,
+        None => 0,
     }
 }

@@ -1,20 +1,28 @@
-use Rattle.std.proofs.Common.{sym, length, get_or}
-use Rattle.std.proofs.lemmas.Option.{slice_get-get_or}
-use Rattle.go_types.specs.Tables.{rights_of}
+use Rattle.std.proofs.Common.{arith, sym, ap, ◌∙◌, subst, ◌<◌, length, Some}
+use Rattle.go_types.specs.Tables.{type_of, rights_of}
 use Rattle.go_typed.specs.Views.{sort_seen}
 use Rattle.go_rules.specs.Sorts.{form_of_value}
-use Rattle.go_type_rules.proofs.Structs.{named_is, below_at}
+use Rattle.go_type_rules.proofs.Structs.{count_is, number_is, named_is, below_at}
 use Rattle.go_type_rules.proofs.fields.field_type.Goals as goal
 
-pub returns-in-Some-place_of-clause-tree : goal.returns-in-Some-place_of-clause-tree
-returns-in-Some-place_of-clause-tree c =
+pub type_at-requires : goal.type_at-requires
+type_at-requires c =
     let t = c.args.types.now in
-    let fs = c.in-Some.fields.now in
-    let n = c.in-Some-place_of.number in
-    sym (named_is t (form_of_value (rights_of t) (sort_seen t c.args.operand.now)) fs c.in-Some.ensures.tree c.args.name.now n (get_or fs n c.index-fields-number.result) (sym c.in-Some-place_of.ensures.number) (slice_get-get_or fs n c.index-fields-number.result c.in-Some-place_of.ensures.within))
+    let size = count_is t (form_of_value (rights_of t) (sort_seen t c.args.operand.now)) c.in-Some.fields.now c.in-Some.ensures.tree in
+    omega (arith, size, c.in-Some-value_place.ensures.within)
 
-pub returns-in-Some-place_of-clause-known : goal.returns-in-Some-place_of-clause-known
-returns-in-Some-place_of-clause-known c =
+pub returns-in-Some-value_place-clause-tree : goal.returns-in-Some-value_place-clause-tree
+returns-in-Some-value_place-clause-tree c =
+    let t = c.args.types.now in
+    let u = form_of_value (rights_of t) (sort_seen t c.args.operand.now) in
     let fs = c.in-Some.fields.now in
-    let n = c.in-Some-place_of.number in
-    below_at (length c.args.types.now.shapes) fs n (get_or fs n c.index-fields-number.result) c.in-Some.ensures.known (slice_get-get_or fs n c.index-fields-number.result c.in-Some-place_of.ensures.within)
+    let n = c.in-Some-value_place.number in
+    let at = c.type_at.ensures in
+    let there = sym (number_is t u fs c.in-Some.ensures.tree c.args.name.now) ∙ sym c.in-Some-value_place.ensures.number in
+    ap (λ k. Some (type_of t.shapes k)) at.2 ∙ sym (named_is t u fs c.in-Some.ensures.tree c.args.name.now n at.0 there at.1)
+
+pub returns-in-Some-value_place-clause-known : goal.returns-in-Some-value_place-clause-known
+returns-in-Some-value_place-clause-known c =
+    let fs = c.in-Some.fields.now in
+    let at = c.type_at.ensures in
+    subst (λ k. k < length c.args.types.now.shapes) (sym at.2) (below_at (length c.args.types.now.shapes) fs c.in-Some-value_place.number at.0 c.in-Some.ensures.known at.1)
