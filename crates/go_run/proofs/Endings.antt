@@ -1,8 +1,6 @@
 -- What is said of a run by what is left of it.
-use Rattle.std.proofs.Common.{◌≡◌, ℕ, List, refl, sym, ap, ◌∙◌, Result, Ok, Err}
+use Rattle.std.proofs.Common.{◌≡◌, ℕ, List, sym, ap, ◌∙◌, Ok}
 use Rattle.std.specs.Prelude.{Bool, true, false}
-use Rattle.go_meaning.specs.Values as meant
-use Rattle.go_meaning.specs.Computations as meaning
 use Rattle.go_meaning.specs.Computations.{Outcome}
 use Rattle.go_meaning.specs.Meaning.{Run, Ended, Panicked, Unfinished, run_of}
 use Rattle.go_values.specs.Views.{panic_view}
@@ -10,7 +8,7 @@ use Rattle.go_values.specs.Worlds.{world_view}
 use Rattle.go_runs.specs.declared.exit.Exit.{Exit}
 use Rattle.go_runs.specs.declared.exit.Exit.TheVariants as exit
 use Rattle.go_runs.specs.declared.machine.Machine.{Machine}
-use Rattle.go_runs.specs.Machines.{ends, IsLeft}
+use Rattle.go_runs.specs.Machines.{IsLeft}
 use Rattle.go_tasks.specs.Ends.{IsRun}
 
 abbrev pub is_memory : Exit → Bool

@@ -1,7 +1,6 @@
 -- The number of `main` counts for the call of `main` alone.
 use Rattle.std.proofs.Common.{◌≡◌, ◌<◌, ℕ, zero, suc, List, [], ◌∷◌, refl, sym, ap, ◌∙◌, subst, arith, Option, Result, Ok, Err}
-use Rattle.std.specs.Prelude.{Bool, true, false, map, slice_get}
-use Rattle.std.specs.Option.{option_map}
+use Rattle.std.specs.Prelude.{map, slice_get}
 use Rattle.go_types.specs.Trees.{TypeTree}
 use Rattle.go_types.specs.Tables.{rights_of}
 use Rattle.go_typed.specs.Trees.{Typed}
@@ -10,7 +9,7 @@ use Rattle.go_typed.specs.Packages.{PackageView, counts_from, no_counts}
 use Rattle.go_typed.specs.Views.{seen}
 use Rattle.go_meaning.specs.Values as meant
 use Rattle.go_meaning.specs.Computations.{Comp, Outcome, then_do, in_order}
-use Rattle.go_meaning.specs.Meaning.{Code, Program, meaning, called, bounded, all_bounded, program, start, run_of, run}
+use Rattle.go_meaning.specs.Meaning.{Code, Program, meaning, called, bounded, all_bounded, program, start}
 use Rattle.go_values.specs.Views.{views}
 use Rattle.go_values.specs.Worlds.{world_view}
 use Rattle.go_runs.specs.declared.exit.Exit.{Exit}

@@ -1,37 +1,34 @@
 -- What trees and calls come to that are run alone.
-use Rattle.std.proofs.Common.{◌≡◌, ◌<◌, ◌≤◌, ℕ, suc, List, [], ◌∷◌, drop, length, refl, sym, ap, ◌∙◌, subst, arith, Option, Result, Ok, Err}
-use Rattle.std.specs.Prelude.{Bool, true, false, Vec, map, slice_get}
+use Rattle.std.proofs.Common.{◌≡◌, ◌<◌, ◌≤◌, ℕ, suc, List, [], length, sym, ap, ◌∙◌, subst, arith, Option, Result, Ok, Err}
+use Rattle.std.specs.Prelude.{true, false, slice_get}
 use Rattle.std.specs.Option.{option_map}
-use Rattle.std.specs.declared.alloc.Global.{Global}
 use Rattle.go_typed.specs.declared.node.TypedNode.{TypedNode}
 use Rattle.go_typed.specs.Funcs.{FuncView}
 use Rattle.go_typed.specs.Packages.{PackageView}
-use Rattle.go_typed.specs.Views.{Known, seen}
+use Rattle.go_typed.specs.Views.{seen}
 use Rattle.go_meaning.specs.Values as meant
-use Rattle.go_meaning.specs.Computations as meaning
-use Rattle.go_meaning.specs.Computations.{Comp, Outcome, Ends, Undecided, World, go_on, give, end_by, then_do, in_order}
-use Rattle.go_meaning.specs.Meaning.{bounded, all_bounded, called}
+use Rattle.go_meaning.specs.Computations.{Comp, Outcome, World}
+use Rattle.go_meaning.specs.Meaning.{bounded, called}
 use Rattle.go_meaning.proofs.Bound.{bound_does_not_show}
 use Rattle.go_values.specs.declared.value.Value.{Value}
-use Rattle.go_values.specs.Views.{views, panic_view}
+use Rattle.go_values.specs.Views.{views}
 use Rattle.go_values.specs.Worlds.{world_view}
 use Rattle.go_runs.specs.declared.exit.Exit.{Exit}
 use Rattle.go_runs.specs.declared.exit.Exit.TheVariants as exit
 use Rattle.go_runs.specs.declared.machine.Machine.{Machine}
-use Rattle.go_runs.specs.Machines.{outcome, ends, values_view, IsLeft}
+use Rattle.go_runs.specs.Machines.{outcome}
 use Rattle.go_runs.specs.Programs.{code_of, program_of, calls, doing}
 use Rattle.go_machine.specs.declared.task.Task.{Task}
 use Rattle.go_machine.specs.declared.task.What.TheVariants as what
 use Rattle.go_machine.specs.declared.engine.Engine.{Engine}
-use Rattle.go_machine.specs.Rests.{Rest, finish, then_rest}
+use Rattle.go_machine.specs.Rests.{Rest, finish}
 use Rattle.go_machine.specs.Tasks.{rest, task_rest, AreFit}
-use Rattle.go_machine.specs.Engines.{in_state, IsNext, Went, Goes, IsPushed}
+use Rattle.go_machine.specs.Engines.{in_state, IsNext, Goes, IsPushed}
 use Rattle.go_machine.proofs.Going.{pushed_state}
-use Rattle.go_calls.specs.Called.{IsKnownBody, calls_it}
-use Rattle.go_calls.proofs.Calling.{known_body}
-use Rattle.go_tasks.specs.Ends.{wants_memory, IsRun, Done, IsDone, RanOn, IsRan}
+use Rattle.go_calls.specs.Called.{calls_it}
+use Rattle.go_tasks.specs.Ends.{wants_memory, Done, IsDone, RanOn, IsRan}
 use Rattle.go_tasks.proofs.Carrying.{nothing_left, went_of}
-use Rattle.go_run.specs.Runs.{depth, tree_run, in_turn, trees_run, main_call, main_run, AreKnown}
+use Rattle.go_run.specs.Runs.{depth, tree_run, main_run}
 
 -- ---- what was done is what was run
 

@@ -1,27 +1,23 @@
 -- What is run one after the other.
 use Rattle.std.proofs.Common.{◌≡◌, ◌<◌, ◌≤◌, ◌+◌, ℕ, List, [], ◌∷◌, drop, length, refl, sym, ap, ◌∙◌, subst, arith, Result, Ok, Err}
-use Rattle.std.specs.Prelude.{Bool, true, false, ◌&&◌, map, get_or}
+use Rattle.std.specs.Prelude.{Bool, true, false, ◌&&◌, get_or}
 use Rattle.std.proofs.lemmas.List.{drop_more}
 use Rattle.std.specs.List.{list_all}
 use Rattle.go_typed.specs.declared.node.TypedNode.{TypedNode}
 use Rattle.go_typed.specs.Packages.{PackageView, Counts, is_below, is_known_tree, refers_to}
 use Rattle.go_typed.specs.Trees.{every, every_form}
-use Rattle.go_typed.specs.Views.{view, Known, seen}
+use Rattle.go_typed.specs.Views.{view, seen}
 use Rattle.go_meaning.specs.Values as meant
-use Rattle.go_meaning.specs.Computations as meaning
-use Rattle.go_meaning.specs.Computations.{Comp, Outcome, Ends, Undecided, World, go_on, give, end_by, then_do, in_order}
+use Rattle.go_meaning.specs.Computations.{Comp, Outcome, World, go_on, end_by, then_do, in_order}
 use Rattle.go_meaning.specs.Meaning.{bounded}
-use Rattle.go_values.specs.Views.{views}
-use Rattle.go_values.specs.Worlds.{world_view}
 use Rattle.go_runs.specs.declared.exit.Exit.{Exit}
 use Rattle.go_runs.specs.declared.exit.Exit.TheVariants as exit
 use Rattle.go_runs.specs.declared.machine.Machine.{Machine}
-use Rattle.go_runs.specs.Machines.{outcome, ends, IsLeft}
+use Rattle.go_runs.specs.Machines.{outcome, IsLeft}
 use Rattle.go_runs.specs.Programs.{program_of}
 use Rattle.go_calls.proofs.Calling.{known_tree}
 use Rattle.go_tasks.specs.Ends.{IsRun, RanOn, IsRan}
 use Rattle.go_run.specs.Runs.{depth, tree_run, in_turn, trees_run, AreKnown}
-use Rattle.go_run.proofs.Running.{ran_on}
 
 -- what isn't next stays so behind it
 left_on : (e : Exit) (m : Machine) (o : Outcome) (k : List meant.Value → List meant.Value → World → ℕ → Outcome) → IsLeft e m o → IsLeft e m (go_on o k)
@@ -116,6 +112,7 @@ and_second false b e = absurd cc
 
 pub known_nodes : (c : Counts) (k : ℕ) (xs : List TypedNode) → list_all (λ n. is_known_tree c k (view n)) xs ≡ true → AreKnown k xs
 known_nodes c k [] e = tt
-known_nodes c k (x ∷ xs) e =
-    (known_tree k (view x) (and_first (every (is_below k) (view x)) (every_form (refers_to c) (view x)) (and_first (is_known_tree c k (view x)) (list_all (λ n. is_known_tree c k (view n)) xs) e)),
-    known_nodes c k xs (and_second (is_known_tree c k (view x)) (list_all (λ n. is_known_tree c k (view n)) xs) e))
+known_nodes c k (x ∷ xs) e = (
+  known_tree k (view x) (and_first (every (is_below k) (view x)) (every_form (refers_to c) (view x)) (and_first (is_known_tree c k (view x)) (list_all (λ n. is_known_tree c k (view n)) xs) e)),
+  known_nodes c k xs (and_second (is_known_tree c k (view x)) (list_all (λ n. is_known_tree c k (view n)) xs) e),
+)

@@ -20,18 +20,11 @@ use thiserror::Error;
 /// How a run ends, with all that it printed.
 #[derive(Debug, Drop)]
 pub enum Outcome {
-    Ended {
-        output: Vec<u8>,
-    },
+    Ended { output: Vec<u8> },
     /// Go specification, "Run-time panics".
-    Panicked {
-        panic: Panic,
-        output: Vec<u8>,
-    },
+    Panicked { panic: Panic, output: Vec<u8> },
     /// The turns or the depth didn't do.
-    Undecided {
-        output: Vec<u8>,
-    },
+    Undecided { output: Vec<u8> },
 }
 
 /// Why nothing is run.

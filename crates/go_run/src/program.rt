@@ -1,9 +1,9 @@
 //! The run of a package.
 
-ghost use Rattle.std.specs.Prelude.{◌≡◌, IfOk};
+ghost use Rattle.std.specs.Prelude.{◌≡◌, Some, IfOk};
 ghost use Rattle.go_base.specs.Gives.{Gives};
 ghost use Rattle.go_typed.specs.Packages.{counts_from, no_counts};
-ghost use Rattle.go_run.specs.Runs.{Begins, is_variable, outcome_view, refusal, run_package};
+ghost use Rattle.go_run.specs.Runs.{Begins, is_variable, outcome_view, refusal, run_by, run_package};
 
 use crate::entry::main_number;
 use crate::outcome::{Outcome, RunError, outcome_of};
@@ -60,24 +60,20 @@ fn first_machine(
     })
 }
 
-/// Runs a package with this input and so many turns: its variables are initialised in the order of files and places, then
-/// `main` is called (Go specification, "Program initialization and execution"). A call spends a turn, and so does each turn of
-/// a loop; calls go no deeper than `DEPTH`.
+/// Runs a package whose function of this number is `main`.
 ///
 /// # Errors
 ///
-/// `NoMain` exactly where the package isn't named `main` or has no function `main`; also want of memory.
-pub fn run(
+/// Want of memory.
+fn run_from(
     alloc: Global,
     checked: &Checked,
     input: &[u8],
     turns: u64,
+    main: usize,
 ) -> Result<Outcome, RunError>
-    ensures { Gives outcome_view refusal result (run_package checked.now input.now turns) }
+    ensures { Gives outcome_view refusal result (run_by checked.now input.now turns (Some main)) }
 {
-    let Some(main) = main_number(checked) else {
-        return Err(RunError::NoMain);
-    };
     let machine = first_machine(alloc, checked, input, turns)?;
     let mut engine = Engine {
         tasks: Vec::new(alloc),
@@ -87,4 +83,20 @@ pub fn run(
     };
     let answer = run_program(&mut engine, alloc, checked, main);
     outcome_of(alloc, &engine.machine, &answer)
+}
+
+/// Runs a package with this input and so many turns: its variables are initialised in the order of files and places, then
+/// `main` is called (Go specification, "Program initialization and execution"). A call spends a turn, and so does each turn of
+/// a loop; calls go no deeper than `DEPTH`.
+///
+/// # Errors
+///
+/// `NoMain` exactly where the package isn't named `main` or has no function `main`; also want of memory.
+pub fn run(alloc: Global, checked: &Checked, input: &[u8], turns: u64) -> Result<Outcome, RunError>
+    ensures { Gives outcome_view refusal result (run_package checked.now input.now turns) }
+{
+    match main_number(checked) {
+        Some(main) => run_from(alloc, checked, input, turns, main),
+        None => Err(RunError::NoMain),
+    }
 }

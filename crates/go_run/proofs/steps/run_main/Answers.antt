@@ -1,4 +1,4 @@
-use Rattle.std.proofs.Common.{◌≡◌, List, [], drop, length, sym, ap, ◌∙◌}
+use Rattle.std.proofs.Common.{List, drop, sym, ap, ◌∙◌}
 use Rattle.std.specs.Option.{option_map}
 use Rattle.go_values.specs.declared.value.Value.{Value}
 use Rattle.go_values.specs.Views.{views}
@@ -7,8 +7,8 @@ use Rattle.go_run.specs.Runs.{main_run}
 use Rattle.go_run.proofs.Running.{Rested, main_fits, main_ran, ran_wanting}
 use Rattle.go_run.proofs.steps.run_main.Goals as goal
 
-pub run_tasks-requires-fit : goal.run_tasks-requires-fit
-run_tasks-requires-fit c =
+pub run_tasks-requires-clause-fit : goal.run_tasks-requires-clause-fit
+run_tasks-requires-clause-fit c =
     let p = c.args.checked.now in
     let old = c.args.engine.now.machine in
     let m = c.reset.new.engine in

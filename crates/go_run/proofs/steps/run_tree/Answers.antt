@@ -2,8 +2,8 @@ use Rattle.std.proofs.Common.{length}
 use Rattle.go_run.proofs.Running.{Rested, rested_fits, tree_ran}
 use Rattle.go_run.proofs.steps.run_tree.Goals as goal
 
-pub run_tasks-requires-fit : goal.run_tasks-requires-fit
-run_tasks-requires-fit c =
+pub run_tasks-requires-clause-fit : goal.run_tasks-requires-clause-fit
+run_tasks-requires-clause-fit c =
     let p = c.args.checked.now in
     let old = c.args.engine.now.machine in
     let m = c.reset.new.engine in
