@@ -72,7 +72,8 @@ module _ (p : PackageView) (main : ℕ) (input : List ℕ) (turns : ℕ) (m : Ma
   pub ran_whole : (r : Result (Unit {0}) Exit) (new : Machine) → IsRan (program_run p main) m r new → IsRun r new (program (program_of p main) (suc turns) depth [] (start (program_of p main) input) turns)
   ran_whole r new h = subst (IsRun r new) begun (is_run (program_run p main) m r new h (suc turns) (omega (arith, b.turns)))
 
-pub begins_so : (p : PackageView) (input bytes : List ℕ) (given count : ℕ) (ds : List Declared) (m : Machine) → views m.frame.items ≡ [] → bytes ≡ input → ds ≡ p.uses.package_level → count ≡ (counts_from no_counts ds).variables →
+pub begins_so : (p : PackageView) (input bytes : List ℕ) (given count : ℕ) (ds : List Declared) (m : Machine) →
+    views m.frame.items ≡ [] → bytes ≡ input → ds ≡ p.uses.package_level → count ≡ (counts_from no_counts ds).variables →
     ((P : Program) → P.count ≡ count → world_view m.world ≡ start P bytes) → m.turns ≡ given → Begins p input given m
 unfolding program_of
 begins_so p input bytes given count ds m ef eb ed ec w et = record {

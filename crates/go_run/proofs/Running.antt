@@ -73,7 +73,7 @@ module _ (c : ℕ → Machine → Outcome) (old : Machine) (r : Result (Unit {0}
       by_cases (Err (exit.Panic k)) e = absurd cc
       by_cases (Err exit.Undecided) e = absurd cc
 
-module _ (p : PackageView) (c : ℕ → Machine → Outcome) (old : Machine) (answer : Result (Unit {0}) Exit) (m : Engine) (new : Engine) (le : m.machine.turns ≤ old.turns) (h : (n : ℕ) → old.turns < n → IsNext p n answer m (c n old)) where
+module _ (p : PackageView) (c : ℕ → Machine → Outcome) (old : Machine) (answer : Result (Unit {0}) Exit) (m new : Engine) (le : m.machine.turns ≤ old.turns) (h : (n : ℕ) → old.turns < n → IsNext p n answer m (c n old)) where
   done_on : (r : Result (Unit {0}) Exit) → Done p m answer r new → RanOn c old r new.machine
   done_on r d = record { turns = omega (arith, d.turns, le); is = λ n lt. d.is n (c n old) (omega (arith, lt, le)) (h n lt) }
 
