@@ -10,7 +10,7 @@ mod clauses;
 mod cycles;
 mod duplicates;
 pub mod error;
-mod failure;
+pub mod failure;
 mod file_rule;
 pub mod laws;
 mod lookups;

@@ -1,0 +1,5 @@
+mod Mapped
+mod Masses
+mod Tested
+mod Places
+mod Packages

@@ -1,0 +1,11 @@
+pub mod Said
+pub mod Marks
+pub mod Nodes
+pub mod Typing
+pub mod Framed
+pub mod Holding
+pub mod Reading
+pub mod Objects
+pub mod Functions
+pub mod Portions
+pub mod Files

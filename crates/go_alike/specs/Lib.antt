@@ -1,0 +1,3 @@
+pub mod Scopes
+pub mod Frames
+pub mod Portions

@@ -1,0 +1,5 @@
+mod Counting
+mod Running
+mod Sequences
+mod Programs
+mod Endings
