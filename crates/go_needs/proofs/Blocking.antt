@@ -16,7 +16,7 @@ use Rattle.go_needs.specs.declared.groups.Group.{Group}
 use Rattle.go_needs.specs.declared.needs.Needs.{Needs}
 use Rattle.go_needs.specs.declared.owners.Owner.{Owner}
 use Rattle.go_needs.specs.Blocked.{any_below, any_by, any_column, any_there, flags_from, blocks_at, blocking}
-use Rattle.go_needs.specs.Groups.{Seen, group_view, group_in, roots}
+use Rattle.go_needs.specs.Groups.{Seen, group_view, group_in}
 use Rattle.go_needs.specs.Levels.{near, fails_at}
 use Rattle.go_needs.specs.Owners.{owner_of}
 use Rattle.go_needs.specs.Parts.{Place, same_place}
@@ -24,7 +24,7 @@ use Rattle.go_needs.specs.Passing.{is_faulty, is_misassigned}
 use Rattle.go_needs.specs.Reached.{AreCalls, IsOurs, TellFailing, Reaches}
 use Rattle.go_needs.specs.Tells.{TellsNeeds}
 use Rattle.go_needs.proofs.Knowing.{everything, with_number, declared_by, as_many_declaring, as_many_outlines}
-use Rattle.go_needs.proofs.Maps.{some_is, at_map, Made, made, At, item_at, below, from_one}
+use Rattle.go_needs.proofs.Maps.{some_is, item_at, from_one}
 use Rattle.go_needs.proofs.Ours.{root_ours}
 use Rattle.go_needs.proofs.Passes.{tested_at}
 
@@ -121,14 +121,14 @@ module _ (x : Needs) (p : Package) (ds : List Specification) (t : TellsNeeds x p
       let flag : fails_at flags n ≡ is_in own n = flags_at ns 0 n n x.owners.items (omega arith) b ∙ ap (λ ms. is_in ms n) same in
       blocking_at (hash.get same_place needing) x.groups.items flags (map is_faulty ss) (map is_misassigned ss) 0 n n x.declaring.items y.it (omega arith) y.there
       ∙ same_blocks (fails_at flags n) (is_in own n) (fails_at (map is_faulty ss) n) (is_faulty (state_of ss n)) (fails_at (map is_misassigned ss) n) (is_misassigned (state_of ss n))
-          (any_there (hash.get same_place needing) (slice_get x.groups.items y.it.specification)) (needs_one p own (slice_get (outlines p ds) n))
-          flag (tested_at is_faulty ss n low) (tested_at is_misassigned ss n low)
-          (needs_there needing own y.it.specification w.it r by.specification ∙ sym (ap (needs_one p own) w.there))
+      (any_there (hash.get same_place needing) (slice_get x.groups.items y.it.specification)) (needs_one p own (slice_get (outlines p ds) n))
+      flag (tested_at is_faulty ss n low) (tested_at is_misassigned ss n low)
+      (needs_there needing own y.it.specification w.it r by.specification ∙ sym (ap (needs_one p own) w.there))
 
   pub blocked_is : {S T : Type 0} (needing : HashMap Place ℕ S) (nearest : HashMap Place ℕ T) (ss : List State) (i : ℕ) (d : Specification) (g : Group)
       → ((q : Package) (all : List Owner) (f : ℕ → Bool) → AreCalls q x.owners.items all x.calls.items → TellFailing (length x.owners.items) (flags_from g.numbers.items 0 x.owners.items) f → Reaches needing q all f)
       → ((q : Package) (all : List Owner) (f : ℕ → Bool) → AreCalls q x.owners.items all x.calls.items
-          → TellFailing (length x.owners.items) (blocking (hash.get same_place needing) x.groups.items (flags_from g.numbers.items 0 x.owners.items) (map is_faulty ss) (map is_misassigned ss) 0 x.declaring.items) f → Reaches nearest q all f)
+      → TellFailing (length x.owners.items) (blocking (hash.get same_place needing) x.groups.items (flags_from g.numbers.items 0 x.owners.items) (map is_faulty ss) (map is_misassigned ss) 0 x.declaring.items) f → Reaches nearest q all f)
       → length ss ≡ length p.uses.package_level → slice_get ds i ≡ Some d → slice_get x.groups.items i ≡ Some g
       → any_column (hash.get same_place nearest) g ≡ is_blocked p (outlines p ds) ss d
   blocked_is needing nearest ss i d g first second l e h =

@@ -1,5 +1,5 @@
 -- What a declaration needs at once, by the names in the parts of its specification.
-use Rattle.std.proofs.Common.{◌≡◌, ◌∙◌, ℕ, Bool, true, false, ◌&&◌, nat_eq, List, [], ◌∷◌, ◌++◌, Option, Some, None, refl, ap, sym, subst, arith, inl, inr, ◌⊎◌}
+use Rattle.std.proofs.Common.{◌≡◌, ◌∙◌, ℕ, Bool, true, false, ◌&&◌, nat_eq, List, [], ◌∷◌, Option, Some, None, refl, ap, sym, subst, arith, inl, inr, ◌⊎◌}
 use Rattle.std.specs.Prelude.{slice_get}
 use Rattle.go_tree.specs.Declarations.{Found}
 use Rattle.go_tree.specs.Lookups.{Asked}
@@ -18,8 +18,8 @@ use Rattle.go_needs.specs.Levels.{level_of, nearer, here, nearest, near_in, near
 use Rattle.go_needs.specs.Owners.{owner_of, same_source, same_owner, has_source}
 use Rattle.go_needs.specs.Parts.{Place, full_place, partial_place, place_of}
 use Rattle.go_needs.specs.Reached.{IsOurs}
-use Rattle.go_needs.proofs.Standing.{both_left, both_right, same_number, so_holds, so_value, IsOwnPart, OwnPlace, way_place, counted, place_way}
-use Rattle.go_needs.proofs.Lowest.{left_none, right_none, one_some, here_itself, StandsHere, here_some, none_near, OwnLevel, some_near}
+use Rattle.go_needs.proofs.Standing.{both_left, both_right, same_number, so_holds, so_value, IsOwnPart, way_place, counted, place_way}
+use Rattle.go_needs.proofs.Lowest.{left_none, right_none, one_some, here_itself, here_some, none_near, some_near}
 
 -- ---- lists of needs
 

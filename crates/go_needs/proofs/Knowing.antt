@@ -1,5 +1,5 @@
 -- The objects of a package, by what is held of it.
-use Rattle.std.proofs.Common.{◌≡◌, ◌∙◌, ℕ, zero, suc, ◌<◌, ◌+◌, Bool, true, false, ◌&&◌, ◌||◌, not, List, [], ◌∷◌, ◌++◌, length, map, Option, Some, None, is_some, refl, ap, sym, subst, arith}
+use Rattle.std.proofs.Common.{◌≡◌, ◌∙◌, ℕ, Bool, true, false, List, ◌++◌, length, Option, Some, None, is_some, refl, ap, sym, arith}
 use Rattle.std.specs.Prelude.{slice_get}
 use Rattle.std.specs.Option.{option_map}
 use Rattle.std.specs.List.{list_any}
@@ -12,20 +12,19 @@ use Rattle.go_package.specs.Declarations.{Specification}
 use Rattle.go_package.specs.Knowledge.{Outline, declaring, outline_by, outlines}
 use Rattle.go_package.specs.Sources.{Package, declared_at, needed_by, needed_from, needed_at}
 use Rattle.go_needs.specs.declared.declaring.Declaring.{Declaring}
-use Rattle.go_needs.specs.declared.groups.Group.{Group}
 use Rattle.go_needs.specs.declared.needs.Needs.{Needs}
 use Rattle.go_needs.specs.declared.owners.Owner.{Owner}
 use Rattle.go_needs.specs.Declaring.{declaring_in}
-use Rattle.go_needs.specs.Groups.{group_view, group_in, roots}
+use Rattle.go_needs.specs.Groups.{roots}
 use Rattle.go_needs.specs.Levels.{near}
 use Rattle.go_needs.specs.Objects.{with_column, owner_in}
 use Rattle.go_needs.specs.Owners.{owner_of}
 use Rattle.go_needs.specs.Parts.{Place, same_place}
 use Rattle.go_needs.specs.Reached.{IsOurs, Reaches}
 use Rattle.go_needs.specs.Tells.{TellsNeeds}
-use Rattle.go_needs.proofs.Declares.{Declares, declares}
+use Rattle.go_needs.proofs.Declares.{declares}
 use Rattle.go_needs.proofs.Here.{ours_object}
-use Rattle.go_needs.proofs.Maps.{some_is, map_length, at_map, Made, from_one}
+use Rattle.go_needs.proofs.Maps.{some_is, map_length, at_map, from_one}
 
 -- the declaration with another column
 abbrev pub with_number : Found → ℕ → Found

@@ -1,5 +1,5 @@
 -- The lower of levels.
-use Rattle.std.proofs.Common.{◌≡◌, ◌∙◌, ℕ, Bool, true, false, min, nat_le, List, [], ◌∷◌, Option, Some, None, refl, ap, sym, arith, inl, inr, ◌⊎◌}
+use Rattle.std.proofs.Common.{◌≡◌, ◌∙◌, ℕ, Bool, true, false, min, nat_le, Option, Some, None, refl, ap, arith, inl, inr, ◌⊎◌}
 use Rattle.std.specs.Prelude.{if◌then◌else◌}
 use Rattle.go_needs.specs.declared.parts.Part.{Part}
 use Rattle.go_needs.specs.declared.parts.Part.TheVariants as part

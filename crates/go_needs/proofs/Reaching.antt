@@ -1,19 +1,17 @@
 -- Whether a declaration needs one that fails, by levels that are right.
-use Rattle.std.proofs.Common.{◌≡◌, ◌∙◌, ℕ, zero, suc, ◌<◌, ◌≤◌, ◌+◌, Bool, true, false, ◌&&◌, ◌||◌, not, nat_eq, nat_le, nat_lt, List, [], ◌∷◌, ◌++◌, length, Option, Some, None, is_some, refl, ap, sym, subst, arith, inl, inr, ◌⊎◌}
+use Rattle.std.proofs.Common.{◌≡◌, ◌∙◌, ℕ, zero, suc, ◌<◌, ◌≤◌, Bool, true, false, ◌&&◌, ◌||◌, nat_eq, List, [], ◌∷◌, ◌++◌, Option, Some, None, is_some, refl, ap, sym, subst, arith, inl, inr, ◌⊎◌}
 use Rattle.std.specs.Prelude.{if◌then◌else◌, slice_get}
 use Rattle.std.specs.List.{list_any}
-use Rattle.go_tree.specs.Declarations.{Found}
-use Rattle.go_tree.specs.Lookups.{Asked}
-use Rattle.go_tree.specs.Needs.{Needed, is_source, is_same, same_way, is_known, with_one, with_all, needs, needs_of, all_needed}
+use Rattle.go_tree.specs.Needs.{Needed, is_same, same_way, is_known, with_one, with_all, needs, needs_of, all_needed}
 use Rattle.go_package.specs.Sources.{Package, number_at, number_before, needed_numbers, rounds, needed_by}
 use Rattle.go_needs.specs.declared.levels.Levels.{Levels}
 use Rattle.go_needs.specs.declared.owners.Owner.{Owner}
 use Rattle.go_needs.specs.Calls.{calls_of, fits}
-use Rattle.go_needs.specs.Levels.{level_of, nearest, near, is_below, settled}
-use Rattle.go_needs.specs.Owners.{owner_of, has_source}
+use Rattle.go_needs.specs.Levels.{level_of, nearest, near, settled}
+use Rattle.go_needs.specs.Owners.{owner_of}
 use Rattle.go_needs.specs.Parts.{Place}
 use Rattle.go_needs.specs.Reached.{IsOurs}
-use Rattle.go_needs.proofs.Standing.{both_left, both_right, same_number, number_itself}
+use Rattle.go_needs.proofs.Standing.{both_left, both_right, same_number}
 use Rattle.go_needs.proofs.Here.{ours_object}
 use Rattle.go_needs.proofs.Called.{Each, One, Fits, Has, all_fit, all_none, one_some_level}
 

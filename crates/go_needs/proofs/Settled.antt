@@ -1,5 +1,5 @@
 -- Levels that are found right tell what declarations need.
-use Rattle.std.proofs.Common.{◌≡◌, ◌∙◌, ℕ, zero, suc, ◌<◌, ◌≤◌, ◌+◌, Bool, true, false, ◌&&◌, List, [], ◌∷◌, length, Option, Some, None, is_some, refl, ap, sym, subst, arith}
+use Rattle.std.proofs.Common.{◌≡◌, ◌∙◌, ℕ, zero, suc, ◌<◌, ◌≤◌, ◌+◌, Bool, true, false, List, [], ◌∷◌, length, Option, Some, None, is_some, refl, ap, sym, subst, arith}
 use Rattle.std.specs.Prelude.{slice_get}
 use Rattle.std.specs.HashMap.{HashMap}
 use Rattle.std.specs.HashMap as hash
@@ -10,7 +10,6 @@ use Rattle.go_needs.specs.declared.owners.Owner.{Owner}
 use Rattle.go_needs.specs.declared.parts.Part.TheVariants as part
 use Rattle.go_needs.specs.Calls.{calls_of}
 use Rattle.go_needs.specs.Levels.{level_of, nearer, nearest, near_in, near, settled, fails_at, is_settled, are_settled, KnowsNearest}
-use Rattle.go_needs.specs.Owners.{owner_of}
 use Rattle.go_needs.specs.Parts.{Place, same_place, own_part}
 use Rattle.go_needs.specs.Reached.{AreCalls, TellFailing, Reaches}
 use Rattle.go_needs.proofs.Standing.{both_left, both_right}
@@ -55,9 +54,9 @@ reached_so m p os all cs ls bs f r known are low a tell x our =
     ap is_some (near_same (hash.get same_place m) levels x.it.file x.it.it.source x.it.it.column x.full same)
     ∙ reaches p os all ls f r a.others a.fit a.among
     (λ n b o e.
-        let set = settled_so (hash.get same_place m) ls bs r n b o (settled_there (hash.get same_place m) ls bs r 0 n n os o (omega arith) e are) in
-        sym (ap (λ v. settled v (level_of ls n b) (near levels o b) r) (tell n (less os n o e)))
-        ∙ (sym (ap (λ v. settled (fails_at bs n) (level_of ls n b) v r) (near_same (hash.get same_place m) levels o.file o.source o.column b same)) ∙ set))
+    let set = settled_so (hash.get same_place m) ls bs r n b o (settled_there (hash.get same_place m) ls bs r 0 n n os o (omega arith) e are) in
+    sym (ap (λ v. settled v (level_of ls n b) (near levels o b) r) (tell n (less os n o e)))
+    ∙ (sym (ap (λ v. settled (fails_at bs n) (level_of ls n b) v r) (near_same (hash.get same_place m) levels o.file o.source o.column b same)) ∙ set))
     x our (omega (arith, low, a.as_many, many))
 
 -- the same of lists that are these

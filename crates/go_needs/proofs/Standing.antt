@@ -1,15 +1,15 @@
 -- The part in which a name stands tells which declarations need it.
-use Rattle.std.proofs.Common.{◌≡◌, ◌∙◌, ℕ, Bool, true, false, ◌&&◌, ◌||◌, nat_eq, List, [], ◌∷◌, Option, Some, None, refl, ap, sym, subst, arith, inl, inr, ◌⊎◌, unwrap_or}
+use Rattle.std.proofs.Common.{◌≡◌, ◌∙◌, ℕ, Bool, true, false, ◌&&◌, ◌||◌, nat_eq, List, Option, Some, refl, ap, subst, arith, inl, inr, ◌⊎◌, unwrap_or}
 use Rattle.go_tree.specs.declared.context.Site.{Site}
 use Rattle.go_tree.specs.declared.context.Site.TheVariants as site
 use Rattle.go_tree.specs.declared.context.Reach.TheVariants as reach
-use Rattle.go_tree.specs.Needs.{if_so, is_source, right_way, way_by}
+use Rattle.go_tree.specs.Needs.{if_so, right_way, way_by}
 use Rattle.go_needs.specs.Calls.{is_counted}
 use Rattle.go_needs.specs.declared.owners.Owner.{Owner}
 use Rattle.go_needs.specs.declared.parts.Part.{Part}
 use Rattle.go_needs.specs.declared.parts.Part.TheVariants as part
 use Rattle.go_needs.specs.Owners.{has_source}
-use Rattle.go_needs.specs.Parts.{Place, same_part, same_place, full_place, partial_place, place_of, own_part}
+use Rattle.go_needs.specs.Parts.{Place, same_part, same_place, place_of, own_part}
 
 pub both_left : (b c : Bool) → (b && c) ≡ true → b ≡ true
 both_left true c e = refl

@@ -1,5 +1,5 @@
 -- What is held of a package tells what its objects need.
-use Rattle.std.proofs.Common.{◌≡◌, ◌∙◌, ℕ, true, List, [], ◌∷◌, ◌++◌, map, length, max, Some, refl, ap, sym, subst}
+use Rattle.std.proofs.Common.{◌≡◌, ◌∙◌, ℕ, true, List, [], ◌∷◌, ◌++◌, map, length, max, Some, refl, ap, sym}
 use Rattle.std.specs.Option.{option_map}
 use Rattle.std.specs.HashMap.{HashMap}
 use Rattle.std.specs.HashMap as hash
@@ -20,7 +20,6 @@ use Rattle.go_needs.specs.Declaring.{KnowsDeclaring, declaring_by, declaring_in}
 use Rattle.go_needs.specs.Groups.{group_view, numbers_in, group_by, group_in, roots}
 use Rattle.go_needs.specs.Objects.{KnowsOwners, with_column, owner_by, owner_in}
 use Rattle.go_needs.specs.Owners.{owner_of}
-use Rattle.go_needs.specs.Reached.{AreCalls}
 use Rattle.go_needs.specs.Tells.{TellsNeeds}
 use Rattle.go_needs.proofs.Maps.{map_length, map_same}
 

@@ -1,5 +1,5 @@
 -- Which objects block the rule of a specification.
-use Rattle.std.specs.Prelude.{ℕ, zero, suc, Bool, true, false, ◌&&◌, ◌||◌, not, List, [], ◌∷◌, length, map, Option, Some, None, is_some, slice_get}
+use Rattle.std.specs.Prelude.{ℕ, zero, suc, Bool, true, false, ◌&&◌, ◌||◌, not, List, [], ◌∷◌, Option, Some, None, is_some, slice_get}
 use Rattle.go_package.specs.Verdicts.{is_in}
 use Rattle.go_needs.specs.declared.declaring.Declaring.{Declaring}
 use Rattle.go_needs.specs.declared.groups.Group.{Group}

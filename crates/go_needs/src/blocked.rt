@@ -145,9 +145,7 @@ pub fn blocking(
 {
     let mut all = Vec::new(alloc);
     for (number, x) in declaring.iter().enumerate() {
-        all.push(blocks_at(
-            needing, groups, own, faulty, assigning, number, x,
-        ))?;
+        all.push(blocks_at(needing, groups, own, faulty, assigning, number, x))?;
     }
     Ok(all)
 }

@@ -43,10 +43,7 @@ fn add_names(
 }
 
 /// What declares the names of specifications; of several the first one.
-pub fn table_of(
-    alloc: Global,
-    specifications: &[Specification<'_>],
-) -> Result<Table, AllocError>
+pub fn table_of(alloc: Global, specifications: &[Specification<'_>]) -> Result<Table, AllocError>
     ensures { IfOk result (λ m. KnowsDeclaring m (seen_all specifications.now)) }
 {
     let mut table = HashMap::new(alloc);

@@ -111,11 +111,7 @@ pub fn group_at<'a>(groups: &'a [Group], number: usize) -> Option<&'a Group>
 }
 
 /// The specifications of objects, and those as which first names are declared.
-pub fn all_of(
-    alloc: Global,
-    owners: &[Owner],
-    groups: &[Group],
-) -> Result<Vec<Owner>, AllocError>
+pub fn all_of(alloc: Global, owners: &[Owner], groups: &[Group]) -> Result<Vec<Owner>, AllocError>
     ensures { IfOk result (λ v. v.items ≡ owners.now ++ roots groups.now) }
 {
     let mut all = Vec::from_slice(alloc, owners)?;

@@ -34,11 +34,7 @@ fn level_at(nearest: &Nearest, place: Place) -> Option<usize>
 }
 
 /// Notes a level in a part, if there are both.
-fn note(
-    nearest: &mut Nearest,
-    place: Option<Place>,
-    level: Option<usize>,
-) -> Result<(), AllocError>
+fn note(nearest: &mut Nearest, place: Option<Place>, level: Option<usize>) -> Result<(), AllocError>
     ensures { OnOk result ((k : Place) → hash.get same_place nearest.new k ≡ nearer (here place k level) (hash.get same_place nearest.old k)) }
 {
     let Some(place) = place else {
@@ -76,13 +72,7 @@ pub fn nearest(alloc: Global, calls: &[Call], levels: &[Levels]) -> Result<Neare
 }
 
 /// The lowest level of what stands in the parts of a specification in which a declaration needs it.
-fn near_in(
-    nearest: &Nearest,
-    file: u32,
-    source: u32,
-    column: usize,
-    full: bool,
-) -> Option<usize>
+fn near_in(nearest: &Nearest, file: u32, source: u32, column: usize, full: bool) -> Option<usize>
     ensures { result ≡ near_in (hash.get same_place nearest.now) file (Some source) column full }
 {
     let spot = (file, source);

@@ -94,7 +94,8 @@ impl Search {
 
     /// Gives an object a level, if it has none.
     fn put(&mut self, step: Step, level: usize) -> Result<(), AllocError> {
-        if step.number < self.levels.len() && level_of(&self.levels, step.number, step.full).is_none()
+        if step.number < self.levels.len()
+            && level_of(&self.levels, step.number, step.full).is_none()
         {
             if step.full {
                 self.levels[step.number].fully = Some(level);
@@ -169,7 +170,13 @@ pub fn levels(
     }
     for (number, failing) in fails.iter().enumerate() {
         if *failing {
-            search.put(Step { number, full: false }, 0)?;
+            search.put(
+                Step {
+                    number,
+                    full: false,
+                },
+                0,
+            )?;
             search.put(Step { number, full: true }, 0)?;
         }
     }

@@ -1,4 +1,4 @@
-use Rattle.std.proofs.Common.{◌≡◌, ◌+◌, ◌∷◌, ◌++◌, ◌∙◌, [], suc, length, drop, ap, sym, arith, append_assoc, None, slice_index_or}
+use Rattle.std.proofs.Common.{◌≡◌, ◌+◌, ◌∷◌, ◌++◌, ◌∙◌, [], suc, drop, ap, sym, arith, append_assoc, None, slice_index_or}
 use Rattle.go_needs.specs.declared.owners.Owner.{Owner}
 use Rattle.go_package.specs.Verdicts.{is_in}
 use Rattle.go_needs.specs.Blocked.{flags_from}

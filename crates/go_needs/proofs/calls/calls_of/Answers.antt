@@ -1,4 +1,4 @@
-use Rattle.std.proofs.Common.{◌≡◌, ◌+◌, ◌∷◌, ◌++◌, ◌∙◌, ◌&&◌, ℕ, true, List, [], drop, map, ap, sym, arith, Some, None}
+use Rattle.std.proofs.Common.{◌≡◌, ◌+◌, ◌∷◌, ◌++◌, ◌∙◌, ◌&&◌, ℕ, true, drop, map, ap, sym, arith}
 use Rattle.std.specs.HashSet as set
 use Rattle.go_lookup.specs.Tables.{same_spot}
 use Rattle.go_lookup.specs.Views.{asked_view}

@@ -2,7 +2,7 @@ use Rattle.std.proofs.Common.{◌≡◌, ◌-◌, ◌∷◌, ◌∙◌, drop, ap
 use Rattle.std.specs.HashMap as hash
 use Rattle.go_lookup.specs.Tables.{same_spot}
 use Rattle.go_needs.specs.Declaring.{over_names}
-use Rattle.go_needs.proofs.Lists.{drop-one, drop-nothing}
+use Rattle.go_needs.proofs.Lists.{drop-one}
 use Rattle.go_needs.proofs.declaring.add_names.Goals as goal
 
 pub loop-column-preserved : goal.loop-column-preserved

@@ -1,7 +1,7 @@
-use Rattle.std.proofs.Common.{arith, ◌≡◌, ◌-◌, ◌∷◌, ◌∙◌, ap, map, drop}
+use Rattle.std.proofs.Common.{arith, ◌≡◌, ◌-◌, ◌∷◌, ap, drop}
 use Rattle.go_declarations.specs.Views.{seen_all}
 use Rattle.go_needs.specs.Declaring.{declaring_from}
-use Rattle.go_needs.proofs.Lists.{drop-back, drop-nothing}
+use Rattle.go_needs.proofs.Lists.{drop-back}
 use Rattle.go_needs.proofs.declaring.table_of.Goals as goal
 
 pub loop-number-preserved : goal.loop-number-preserved

@@ -1,4 +1,4 @@
-use Rattle.std.proofs.Common.{◌≡◌, ◌-◌, ◌∷◌, ◌∙◌, drop, ap, sym, arith, None, slice_index_or}
+use Rattle.std.proofs.Common.{◌≡◌, ◌-◌, ◌∷◌, drop, ap, arith, None, slice_index_or}
 use Rattle.go_needs.specs.declared.calls.Call.{Call}
 use Rattle.go_needs.specs.Levels.{nearest}
 use Rattle.go_needs.proofs.Lists.{drop-one}

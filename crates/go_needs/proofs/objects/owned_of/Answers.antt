@@ -1,4 +1,4 @@
-use Rattle.std.proofs.Common.{arith, ◌≡◌, ◌-◌, ◌&&◌, ◌∷◌, ◌∙◌, ap, map, drop, nat_eq}
+use Rattle.std.proofs.Common.{arith, ◌≡◌, ◌-◌, ◌∷◌, ◌∙◌, ap, map, drop}
 use Rattle.std.specs.Option.{option_map}
 use Rattle.go_lookup.specs.Views.{found_view}
 use Rattle.go_package.specs.Sources.{declared_at}

@@ -1,4 +1,4 @@
-use Rattle.std.proofs.Common.{◌≡◌, Some, arith}
+use Rattle.std.proofs.Common.{arith}
 use Rattle.go_needs.proofs.owners.note_source.Goals as goal
 
 pub returns-in_ok-insert : goal.returns-in_ok-insert

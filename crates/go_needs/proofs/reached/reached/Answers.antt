@@ -1,4 +1,4 @@
-use Rattle.std.proofs.Common.{rules, ◌≡◌, ◌∙◌, ◌+◌, ◌≤◌, true, length, sym, ap, arith}
+use Rattle.std.proofs.Common.{rules, ◌≡◌, ◌+◌, ◌≤◌, true, length}
 use Rattle.std.specs.HashMap as hash
 use Rattle.go_needs.specs.Levels.{are_settled, KnowsNearest}
 use Rattle.go_needs.specs.Parts.{same_place}

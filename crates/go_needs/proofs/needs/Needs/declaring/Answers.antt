@@ -1,4 +1,4 @@
-use Rattle.std.proofs.Common.{◌≡◌, ◌∙◌, Some, sym, ap, subst, IfSome}
+use Rattle.std.proofs.Common.{◌∙◌, sym, ap}
 use Rattle.std.specs.Prelude.{slice_get}
 use Rattle.go_needs.proofs.Knowing.{declared_by}
 use Rattle.go_needs.proofs.Maps.{if_there}
