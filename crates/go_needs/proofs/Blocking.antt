@@ -43,7 +43,8 @@ flags_at ns n k m [] w l = absurd (omega (arith, l))
 flags_at ns n zero m (o ∷ os) w l = let number : n ≡ m = omega (arith, w) in ap (is_in ns) number
 flags_at ns n (suc k) m (o ∷ os) w l = flags_at ns (suc n) k m os (omega (arith, w)) (omega (arith, l))
 
-blocking_at : (g : Place → Option ℕ) (gs : List Group) (own bs cs : List Bool) (n k m : ℕ) (xs : List Declaring) (x : Declaring) → m ≡ n + k → slice_get xs k ≡ Some x → fails_at (blocking g gs own bs cs n xs) k ≡ blocks_at g gs own bs cs m x
+blocking_at : (g : Place → Option ℕ) (gs : List Group) (own bs cs : List Bool) (n k m : ℕ) (xs : List Declaring) (x : Declaring) → m ≡ n + k → slice_get xs k ≡ Some x
+    → fails_at (blocking g gs own bs cs n xs) k ≡ blocks_at g gs own bs cs m x
 blocking_at g gs own bs cs n k m [] x w e = absurd (grind (arith, e))
 blocking_at g gs own bs cs n zero m (y ∷ ys) x w e = let number : n ≡ m = omega (arith, w) in ap (λ j. blocks_at g gs own bs cs j y) number ∙ ap (blocks_at g gs own bs cs m) (some_is y x e)
 blocking_at g gs own bs cs n (suc k) m (y ∷ ys) x w e = blocking_at g gs own bs cs (suc n) k m ys x (omega (arith, w)) e
@@ -57,7 +58,8 @@ none_needed p d f (suc k) e =
     ∙ (ap (λ b. b || list_any f (needed_at p d.file (first_name d.names) k false)) (none_needed p d f k e) ∙ ap (λ o. list_any f (needed_from p k false o)) e)
 
 module _ {S : Type 0} (m : HashMap Place ℕ S) (p : Package) (all : List Owner) (f : ℕ → Bool) (r : Reaches m p all f) where
-  some_needed : (d : Specification) (fd : Found) (k : ℕ) → declared_at d.file (first_name d.names) p.declared ≡ Some fd → IsOurs all fd.file fd.it.source → any_below (hash.get same_place m) (owner_of fd) k ≡ list_any f (needed_columns p d k)
+  some_needed : (d : Specification) (fd : Found) (k : ℕ) → declared_at d.file (first_name d.names) p.declared ≡ Some fd → IsOurs all fd.file fd.it.source
+      → any_below (hash.get same_place m) (owner_of fd) k ≡ list_any f (needed_columns p d k)
   some_needed d fd zero e our = refl
   some_needed d fd (suc k) e our =
       let x : Needed = record { it = with_number fd k; full = false } in

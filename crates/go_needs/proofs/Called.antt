@@ -147,7 +147,8 @@ module _ (p : Package) (os all : List Owner) where
 
     rest_none : (o : Option Call) (cs : List Call) (k : Place) → nearest ls (with_call o cs) k ≡ None → nearest ls cs k ≡ None
     rest_none None cs k e = e
-    rest_none (Some c) cs k e = right_none (here c.partial k (level_of ls c.number false)) (nearest ls cs k) (right_none (here c.full k (level_of ls c.number true)) (nearer (here c.partial k (level_of ls c.number false)) (nearest ls cs k)) e)
+    rest_none (Some c) cs k e = right_none (here c.partial k (level_of ls c.number false)) (nearest ls cs k)
+        (right_none (here c.full k (level_of ls c.number true)) (nearer (here c.partial k (level_of ls c.number false)) (nearest ls cs k)) e)
 
     abbrev place_by : Bool → Call → Option Place
     place_by true c = c.full

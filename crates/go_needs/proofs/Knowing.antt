@@ -36,7 +36,8 @@ pub record Holds (p : Package) (ds : List Specification) (d : Declared) (o : Own
   pub there : declared_at d.file d.name p.declared ≡ Some found
   pub own : owner_of (with_number found (declaring ds d.file d.name).1) ≡ o
 
-holds_by : (p : Package) (ds : List Specification) (d : Declared) (o : Owner) (f : Option Found) (x : Option Declaring) → declared_at d.file d.name p.declared ≡ f → declaring_in ds d ≡ x → with_column (option_map owner_of f) x ≡ Some o → Holds p ds d o
+holds_by : (p : Package) (ds : List Specification) (d : Declared) (o : Owner) (f : Option Found) (x : Option Declaring) → declared_at d.file d.name p.declared ≡ f → declaring_in ds d ≡ x
+    → with_column (option_map owner_of f) x ≡ Some o → Holds p ds d o
 holds_by p ds d o None x fe xe e = absurd (grind (arith, e))
 holds_by p ds d o (Some f) None fe xe e = absurd (grind (arith, e))
 holds_by p ds d o (Some f) (Some x) fe xe e =

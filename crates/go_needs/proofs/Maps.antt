@@ -10,10 +10,6 @@ pub map_same : {A B : Type 0} (f g : A → B) (xs : List A) → ((x : A) → f x
 map_same f g [] e = refl
 map_same f g (x ∷ xs) e = ap (λ y. y ∷ map f xs) (e x) ∙ ap (λ ys. g x ∷ ys) (map_same f g xs e)
 
-pub map_map : {A B C : Type 0} (f : B → C) (g : A → B) (xs : List A) → map f (map g xs) ≡ map (λ x. f (g x)) xs
-map_map f g [] = refl
-map_map f g (x ∷ xs) = ap (λ ys. f (g x) ∷ ys) (map_map f g xs)
-
 pub some_is : {A : Type 0} (x y : A) → ◌≡◌ {A = Option A} (Some x) (Some y) → x ≡ y
 some_is x y e = grind (arith, e)
 

@@ -69,7 +69,8 @@ place_same n s p j t q e d h = grind (arith, e, d, h)
 pub place_sound : (a b : Place) → same_place a b ≡ true → a ≡ b
 place_sound a b e =
     let spot = both_left (nat_eq a.0.0 b.0.0 && nat_eq a.0.1 b.0.1) (same_part a.1 b.1) e in
-    place_same a.0.0 a.0.1 a.1 b.0.0 b.0.1 b.1 (both_left (nat_eq a.0.0 b.0.0) (nat_eq a.0.1 b.0.1) spot) (both_right (nat_eq a.0.0 b.0.0) (nat_eq a.0.1 b.0.1) spot) (part_sound a.1 b.1 (both_right (nat_eq a.0.0 b.0.0 && nat_eq a.0.1 b.0.1) (same_part a.1 b.1) e))
+    place_same a.0.0 a.0.1 a.1 b.0.0 b.0.1 b.1 (both_left (nat_eq a.0.0 b.0.0) (nat_eq a.0.1 b.0.1) spot) (both_right (nat_eq a.0.0 b.0.0) (nat_eq a.0.1 b.0.1) spot)
+    (part_sound a.1 b.1 (both_right (nat_eq a.0.0 b.0.0 && nat_eq a.0.1 b.0.1) (same_part a.1 b.1) e))
 
 pub place_itself : (a : Place) → same_place a a ≡ true
 place_itself a = ap (λ b. (b && nat_eq a.0.1 a.0.1) && same_part a.1 a.1) (number_itself a.0.0) ∙ (ap (λ b. b && same_part a.1 a.1) (number_itself a.0.1) ∙ part_itself a.1)
@@ -92,7 +93,12 @@ pub way_place : (n s c : ℕ) (f : Bool) (st : Site) (g : Bool) → way_by (Some
 way_place n s c f site.Elsewhere g e = absurd (grind (arith, e))
 way_place n s c f (site.Type t) true e = record { part = part.Always; own = inl refl; is = at_part n t s part.Always (own_source t s (Some true) true e) }
 way_place n s c f (site.Type t) false e = absurd (grind (arith, e))
-way_place n s c f (site.Value t column true) true e = record { part = part.Always; own = inl refl; is = at_part n t s part.Always (same_number t s (both_left (nat_eq t s) (nat_eq column c || true) (so_holds (nat_eq t s && (nat_eq column c || true)) (Some true) true e))) }
+way_place n s c f (site.Value t column true) true e = record {
+  part = part.Always;
+  own = inl refl;
+  is = at_part n t s part.Always (same_number t s
+      (both_left (nat_eq t s) (nat_eq column c || true) (so_holds (nat_eq t s && (nat_eq column c || true)) (Some true) true e)));
+}
 way_place n s c f (site.Value t column true) false e = absurd (grind (arith, e))
 way_place n s c f (site.Value t column false) true e =
     let b = so_holds (nat_eq t s && (nat_eq column c || false)) (Some true) true e in

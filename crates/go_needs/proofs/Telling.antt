@@ -46,7 +46,8 @@ tells n p m w ds u fs asks pu pf pa kd ko hd ho hg hc hf =
     let owned : (k t : ℕ) → hash.get same_spot m (k, t) ≡ option_map owner_of (declared_at k t p.declared) = λ k t. ko k t ∙ ap (λ l. option_map owner_of (declared_at k t l)) (sym pf) in
     let owners : map Some os ≡ map (owner_in p.declared ds) p.uses.package_level =
     ho ∙ (ap (λ v. map (owner_by m w) v.package_level) (sym pu)
-    ∙ map_same (owner_by m w) (owner_in p.declared ds) p.uses.package_level (λ d. ap (λ o. with_column o (declaring_by w d)) (owned d.file d.name) ∙ ap (with_column (option_map owner_of (declared_at d.file d.name p.declared))) (kd d.file d.name))) in
+    ∙ map_same (owner_by m w) (owner_in p.declared ds) p.uses.package_level (λ d. ap (λ o. with_column o (declaring_by w d)) (owned d.file d.name)
+    ∙ ap (with_column (option_map owner_of (declared_at d.file d.name p.declared))) (kd d.file d.name))) in
     record {
       declaring = hd ∙ (ap (λ v. map (declaring_by w) v.package_level) (sym pu) ∙ map_same (declaring_by w) (declaring_in ds) p.uses.package_level (λ d. kd d.file d.name));
       owners = owners;

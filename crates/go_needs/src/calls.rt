@@ -30,7 +30,7 @@ pub struct Call {
     pub partial: Option<Place>,
 }
 
-/// The specification in which a name stands, if it is one of these.
+/// Whether a name stands in one of these specifications.
 fn is_counted(sources: &Sources, file: u32, site: Site) -> bool
     ensures { (all : List owner.Owner) → ((n s : ℕ) → set.contains same_spot sources.now (n, s) ≡ has_source all n s) → result ≡ is_counted all file site }
 {

@@ -53,7 +53,8 @@ fn note(nearest: &mut Nearest, place: Option<Place>, level: Option<usize>) -> Re
 
 /// Notes the levels of what a name calls for.
 fn add(nearest: &mut Nearest, levels: &[Levels], call: &Call) -> Result<(), AllocError>
-    ensures { OnOk result ((k : Place) → hash.get same_place nearest.new k ≡ nearer (here call.now.full k (level_of levels.now call.now.number true)) (nearer (here call.now.partial k (level_of levels.now call.now.number false)) (hash.get same_place nearest.old k))) }
+    ensures { OnOk result ((k : Place) → hash.get same_place nearest.new k
+        ≡ nearer (here call.now.full k (level_of levels.now call.now.number true)) (nearer (here call.now.partial k (level_of levels.now call.now.number false)) (hash.get same_place nearest.old k))) }
 {
     note(nearest, call.partial, level_of(levels, call.number, false))?;
     note(nearest, call.full, level_of(levels, call.number, true))

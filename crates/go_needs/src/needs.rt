@@ -94,8 +94,10 @@ impl Needs {
     /// Which specification declares the object of this number, if there are so many objects.
     pub fn declaring(&self, number: usize) -> Option<Declaring>
         ensures answers { (p : Package) (ds : List declarations.Specification) → TellsNeeds self.now p ds → is_some result ≡ nat_lt number (length p.uses.package_level) }
-        ensures specification { IfSome result (λ x. (p : Package) (ds : List declarations.Specification) (o : Outline) → TellsNeeds self.now p ds → slice_get (outlines p ds) number ≡ Some o → slice_get ds x.specification ≡ Some o.specification) }
-        ensures column { IfSome result (λ x. (p : Package) (ds : List declarations.Specification) (o : Outline) → TellsNeeds self.now p ds → slice_get (outlines p ds) number ≡ Some o → x.column ≡ o.column) }
+        ensures specification { IfSome result (λ x. (p : Package) (ds : List declarations.Specification) (o : Outline) → TellsNeeds self.now p ds →
+            slice_get (outlines p ds) number ≡ Some o → slice_get ds x.specification ≡ Some o.specification) }
+        ensures column { IfSome result (λ x. (p : Package) (ds : List declarations.Specification) (o : Outline) → TellsNeeds self.now p ds →
+            slice_get (outlines p ds) number ≡ Some o → x.column ≡ o.column) }
     {
         declaring_at(&self.declaring, number)
     }
@@ -107,7 +109,8 @@ impl Needs {
     ///
     /// Want of memory.
     pub fn passing(&self, alloc: Global, tests: &[bool]) -> Result<Vec<Passing>, Memory>
-        ensures { IfOk result (λ v. (p : Package) (ds : List declarations.Specification) (ss : List State) (test : State → Bool) → TellsNeeds self.now p ds → length ss ≡ length p.uses.package_level → tests.now ≡ map test ss → ArePassing test (outlines p ds) ss v.items) }
+        ensures { IfOk result (λ v. (p : Package) (ds : List declarations.Specification) (ss : List State) (test : State → Bool) → TellsNeeds self.now p ds →
+            length ss ≡ length p.uses.package_level → tests.now ≡ map test ss → ArePassing test (outlines p ds) ss v.items) }
     {
         let fails = failing(alloc, tests)?;
         let nearest = reached(alloc, &self.owners, &self.calls, &fails)?;
@@ -127,7 +130,8 @@ impl Needs {
         faulty: &[bool],
         assigning: &[bool],
     ) -> Result<bool, Memory>
-        ensures { IfOk result (λ b. (p : Package) (ds : List declarations.Specification) (ss : List State) (d : declarations.Specification) → TellsNeeds self.now p ds → length ss ≡ length p.uses.package_level → slice_get ds specification ≡ Some d → faulty.now ≡ map is_faulty ss → assigning.now ≡ map is_misassigned ss → b ≡ is_blocked p (outlines p ds) ss d) }
+        ensures { IfOk result (λ b. (p : Package) (ds : List declarations.Specification) (ss : List State) (d : declarations.Specification) → TellsNeeds self.now p ds →
+            length ss ≡ length p.uses.package_level → slice_get ds specification ≡ Some d → faulty.now ≡ map is_faulty ss → assigning.now ≡ map is_misassigned ss → b ≡ is_blocked p (outlines p ds) ss d) }
     {
         let Some(group) = group_at(&self.groups, specification) else {
             return Ok(false);

@@ -10,7 +10,8 @@ pub loop-number-preserved : goal.loop-number-preserved
 loop-number-preserved c = λ n t.
     let number = c.loop-number.number in
     let d = c.index-found-number.result in
-    let back : drop (number - 1) c.args.found.now ≡ d ∷ drop number c.args.found.now = drop-back c.args.found.now number (number - 1) d (omega (arith, c.loop-number-test.true)) (omega (arith, c.loop-number-test.true, c.loop-number.auto.number)) c.index-found-number.is in
+    let back : drop (number - 1) c.args.found.now ≡ d ∷ drop number c.args.found.now =
+    drop-back c.args.found.now number (number - 1) d (omega (arith, c.loop-number-test.true)) (omega (arith, c.loop-number-test.true, c.loop-number.auto.number)) c.index-found-number.is in
     let front = ap (λ l. option_map owner_of (declared_at n t (map found_view l))) back in
     grind (arith, c.in_ok-insert.ensures.updates.0 (n, t), c.loop-number.invariant n t, c.owner_of.ensures, c.file_of.ensures, c.name_of.ensures, front)
 

@@ -22,6 +22,9 @@ returns c p ds ss d t l e fe ae =
     ∙ (ap (λ b. blocking (hash.get same_place m) self.groups.items (flags_from g.numbers.items 0 self.owners.items) b c.args.assigning.now 0 self.declaring.items) fe
     ∙ ap (λ b. blocking (hash.get same_place m) self.groups.items (flags_from g.numbers.items 0 self.owners.items) (map is_faulty ss) b 0 self.declaring.items) ae)) in
     c.any_column.ensures ∙ blocked_is self p ds t m n ss c.args.specification d g
-    (reach_on m self.owners.items c.deref-4.result.now self.calls.items c.deref-5.result.now (flags_from g.numbers.items 0 self.owners.items) c.deref-6.result.now c.deref-4.ensures.value c.deref-5.ensures.value (c.deref-6.ensures.value ∙ own) c.in_ok-needing.ensures)
-    (reach_on n self.owners.items c.deref-10.result.now self.calls.items c.deref-11.result.now (blocking (hash.get same_place m) self.groups.items (flags_from g.numbers.items 0 self.owners.items) (map is_faulty ss) (map is_misassigned ss) 0 self.declaring.items) c.deref-12.result.now c.deref-10.ensures.value c.deref-11.ensures.value (c.deref-12.ensures.value ∙ same) c.in_ok-nearest.ensures)
+    (reach_on m self.owners.items c.deref-4.result.now self.calls.items c.deref-5.result.now (flags_from g.numbers.items 0 self.owners.items) c.deref-6.result.now
+    c.deref-4.ensures.value c.deref-5.ensures.value (c.deref-6.ensures.value ∙ own) c.in_ok-needing.ensures)
+    (reach_on n self.owners.items c.deref-10.result.now self.calls.items c.deref-11.result.now
+    (blocking (hash.get same_place m) self.groups.items (flags_from g.numbers.items 0 self.owners.items) (map is_faulty ss) (map is_misassigned ss) 0 self.declaring.items) c.deref-12.result.now
+    c.deref-10.ensures.value c.deref-11.ensures.value (c.deref-12.ensures.value ∙ same) c.in_ok-nearest.ensures)
     l e there

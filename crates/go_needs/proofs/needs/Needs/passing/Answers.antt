@@ -17,5 +17,6 @@ returns c p ds ss test t l e =
     let out : c.in_ok-passings.field-0.items ≡ passings (hash.get same_place m) c.args.tests.now 0 self.owners.items = search rules in
     subst (ArePassing test (outlines p ds) ss) (sym (out ∙ ap (λ bs. passings (hash.get same_place m) bs 0 self.owners.items) e))
     (passing_is self m p ds ss test
-    (reach_on m self.owners.items c.deref.result.now self.calls.items c.deref-2.result.now (map not (map test ss)) c.deref-3.result.now c.deref.ensures.value c.deref-2.ensures.value (c.deref-3.ensures.value ∙ failing) c.in_ok-nearest.ensures)
+    (reach_on m self.owners.items c.deref.result.now self.calls.items c.deref-2.result.now (map not (map test ss)) c.deref-3.result.now
+    c.deref.ensures.value c.deref-2.ensures.value (c.deref-3.ensures.value ∙ failing) c.in_ok-nearest.ensures)
     t l)
