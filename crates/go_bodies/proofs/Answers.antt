@@ -1,8 +1,9 @@
 -- What is answered of what the walk leaves.
-use Rattle.std.proofs.Common.{◌≡◌, ℕ, List, Option, Result, Ok, Err, refl, ap, sym, subst, ◌∙◌}
+use Rattle.std.proofs.Common.{◌≡◌, ℕ, List, [], length, Option, Result, Ok, Err, refl, ap, sym, subst, ◌∙◌}
 use Rattle.go_base.specs.Gives.{Gives}
 use Rattle.go_grammar.specs.Trees.{Tree, last}
-use Rattle.go_types.specs.Tables.{Table}
+use Rattle.go_types.specs.Tables.{Table, IsTable}
+use Rattle.type_tests.specs.Extends.{Grows}
 use Rattle.go_typed.specs.declared.node.TypedNode.{TypedNode}
 use Rattle.go_typed.specs.declared.sort.Sort as program
 use Rattle.go_typed.specs.Contents.{FuncContent}
@@ -19,7 +20,8 @@ use Rattle.go_body_frames.specs.declared.state.Surroundings.{Surroundings}
 use Rattle.go_body_frames.specs.declared.state.State.{State}
 use Rattle.go_walk.specs.Walks.{IsReading, ShowsReading, found_in, tree_in, frame_in}
 use Rattle.go_bodies.specs.declared.body.Walked.{Walked}
-use Rattle.go_bodies.specs.Bodies.{IsWalked, ShowsWalked}
+use Rattle.go_bodies.specs.Bodies.{scope_around, function_scope, KnownObjects, IsWalked, ShowsWalked, variables_answer}
+use Rattle.go_bodies.proofs.Around.{alone_is}
 
 -- ---- the walk from the start
 
@@ -32,7 +34,27 @@ module _ (t : Table) (o : Surroundings) (k : State) (x : program.Sort) (rs : Lis
       told (errors.Fault f) h = h
 
   pub walked_ok : (n : TypedNode) → ShowsReading t o k x rs n r → ShowsWalked t (record { root = n; locals = k.locals }) r
-  walked_ok n h = record { sound = h.sound; tree = h.tree; locals = h.behind.locals }
+  walked_ok n h = record { sound = h.sound; tree = h.tree; locals = h.behind.locals; rights = ap (λ (s : Scope). s.rights) h.behind.names }
+
+-- ---- variables
+
+-- from the scope around the body, where there are no types of its own
+pub walked_there : (old new : Table) (ok : IsTable old) (g : Grows old new) (o : Surroundings) → KnownObjects (length old.shapes) o.env.now → o.types.now ≡ [] → (t : Table) (a : Result Walked TypeError) (x y : Tree) → y ≡ x
+    → IsWalked t a (reading (start (scope_around new o) 0 (λ n. n)) free y) → IsWalked t a (reading (start (function_scope old o.tokens.now o.uses.now o.env.now o.base []) 0 (λ n. n)) free x)
+walked_there old new ok g o objects none t a x y is h =
+    subst (λ s. IsWalked t a (reading (start s 0 (λ n. n)) free x)) (alone_is old new ok g.extends o objects g.rights)
+    (subst (λ z. IsWalked t a (reading (start (scope_around new o) 0 (λ n. n)) free z)) is h)
+
+module _ (t : Table) (r : Reading) where
+  pub variables_err : (e : TypeError) (a : Result TypedNode TypeError) → IsWalked t (Err e) r → a ≡ Err e → Gives (seen t) refusal_of a (variables_answer r)
+  variables_err e a h is = subst (λ z. Gives (seen t) refusal_of z (variables_answer r)) (sym is) (told e h)
+    where
+      told : (e : TypeError) → IsWalked t (Err e) r → Gives (seen t) refusal_of (Err e) (variables_answer r)
+      told errors.Memory h = tt
+      told (errors.Fault g) h = ap (λ z. judged z (tree_in r)) h
+
+  pub variables_ok : (w : Walked) → ShowsWalked t w r → variables_answer r ≡ Ok (seen t w.root)
+  variables_ok w h = ap (λ z. judged z (tree_in r)) h.sound ∙ ap Ok (sym h.tree)
 
 -- ---- the function
 

@@ -1,7 +1,8 @@
 -- The scope around a body in a table with more types.
-use Rattle.std.proofs.Common.{◌≡◌, ℕ, ◌<◌, List, [], ◌∷◌, ◌++◌, length, replicate, Bool, Option, Some, None, refl, ap, sym, ◌∙◌, arith}
+use Rattle.std.proofs.Common.{◌≡◌, ℕ, zero, suc, ◌<◌, List, [], ◌∷◌, ◌++◌, length, replicate, Bool, Option, Some, None, refl, ap, sym, subst, ◌∙◌, arith}
+use Rattle.std.specs.Prelude.{slice_get}
 use Rattle.std.specs.Option.{option_map}
-use Rattle.std.proofs.lemmas.List.{length-map}
+use Rattle.std.proofs.lemmas.List.{append-nil, length-map}
 use Rattle.go_types.specs.Relations.{Rights}
 use Rattle.go_types.specs.Tables.{Table, IsTable, type_of, rights_of}
 use Rattle.type_tests.specs.Extends.{Extends}
@@ -17,6 +18,13 @@ use Rattle.go_package.specs.Bodies.{count_types}
 use Rattle.go_body_frames.specs.declared.state.Surroundings.{Surroundings}
 use Rattle.go_body_frames.specs.State.{KnownSurroundings}
 use Rattle.go_bodies.specs.Bodies.{scope_around, function_scope, KnownObjects, AreOwn, AreNumbered}
+
+nothing_there : (n i : ℕ) → (let xs : List (Option ℕ) = [] in slice_get xs n ≡ Some (Some i)) → ⊥
+nothing_there zero i e = cc
+nothing_there (suc n) i e = cc
+
+pub alone_numbered : (t : Table) (o : Surroundings) (own : ℕ → ℕ) → o.types.now ≡ [] → AreNumbered t o own
+alone_numbered t o own none n i is = absurd (nothing_there n i (subst (λ xs. slice_get xs n ≡ Some (Some i)) none is))
 
 module _ (old new : Table) (ok : IsTable old) (e : Extends old new) (o : Surroundings) where
   abbrev with_objects : Rights → List Stands → Scope
@@ -43,6 +51,17 @@ module _ (old new : Table) (ok : IsTable old) (e : Extends old new) (o : Surroun
       objects = λ j y is. sort_more below y (objects j y is);
       types = λ n i is. (own n i is).0;
     }
+
+    -- where there are none
+    pub alone_known : o.types.now ≡ [] → AreBasics new o.basics → KnownSurroundings new o
+    alone_known none basics = record {
+      basics = basics;
+      objects = λ j y is. sort_more below y (objects j y is);
+      types = λ n i is. absurd (nothing_there n i (subst (λ xs. slice_get xs n ≡ Some (Some i)) none is));
+    }
+
+    pub alone_is : rights_of new ≡ rights_of old → scope_around new o ≡ function_scope old o.tokens.now o.uses.now o.env.now o.base []
+    alone_is same = around_is [] (rights_of new) (sym (append-nil (rights_of new))) same
 
   pub numbered_stays : KnownSurroundings old o → (own : ℕ → ℕ) → AreNumbered old o own → AreNumbered new o own
   numbered_stays h own has n i is = tree_stays old new ok e i (h.types n i is) ∙ has n i is

@@ -13,7 +13,9 @@ use Rattle.go_typed.specs.Trees.{Sort, SortHas}
 use Rattle.go_typed.specs.Views.{seen, Known}
 use Rattle.go_rules.specs.declared.fault.TypeError.{TypeError}
 use Rattle.go_rules.specs.declared.fault.TypeError.TheVariants as errors
-use Rattle.go_rules.specs.Faults.{reported}
+use Rattle.go_rules.specs.declared.fault.TypeFault.{TypeFault}
+use Rattle.go_rules.specs.Faults.{judged, reported}
+use Rattle.go_rules.specs.Settling.{Part}
 use Rattle.go_rules.specs.Scopes.{Scope, in_full}
 use Rattle.go_type_rules.specs.Naming.{sort_of_object, objects_seen, referent_in}
 use Rattle.go_stmts.specs.Reading.{Reading}
@@ -80,11 +82,12 @@ AreNumbered t o own = (n i : ℕ) → slice_get o.types.now n ≡ Some (Some i) 
 
 -- ---- what the walk leaves
 
--- No rule fails, and the tree and the locals are what is read.
+-- No rule fails, and the tree, the locals and the right sides of the table are what is read.
 pub record ShowsWalked (t : Table) (w : Walked) (r : Reading) : Type 0 where
   pub sound : reported (found_in r) ≡ None
   pub tree : seen t w.root ≡ tree_in r
   pub locals : (frame_in r).locals ≡ locals_in t w.locals
+  pub rights : (frame_in r).around.rights ≡ rights_of t
 
 -- So it is, or the fault is the reported one.
 abbrev pub IsWalked : Table → Result Walked TypeError → Reading → Type 0
@@ -103,3 +106,9 @@ pub record KnownFunction (n : ℕ) (f : FuncView) : Type 0 where
   pub signature : f.signature < n
   pub locals : AllByRecursion (λ x. SortHas (λ i. i < n) x) f.locals
   pub tree : Known n f.root
+
+-- ---- variables
+
+-- the typed tree of a specification of variables, or the fault that is reported of it
+abbrev pub variables_answer : Reading → Result Part TypeFault
+variables_answer r = judged (reported (found_in r)) (tree_in r)

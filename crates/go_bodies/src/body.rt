@@ -1,8 +1,8 @@
 //! Function declarations with their types (Go specification: Function declarations).
-ghost use Rattle.std.specs.Prelude.{◌≡◌, ℕ, IfOk, length};
+ghost use Rattle.std.specs.Prelude.{◌≡◌, ℕ, IfOk, OnOk, length};
 ghost use Rattle.go_base.specs.Gives.{Gives};
 ghost use Rattle.go_tree.specs.Views.{view};
-ghost use Rattle.go_types.specs.Tables.{type_of};
+ghost use Rattle.go_types.specs.Tables.{type_of, rights_of};
 ghost use Rattle.type_tests.specs.Extends.{Extends};
 ghost use Rattle.go_typed.specs.Contents.{func_content};
 ghost use Rattle.go_rules.specs.Faults.{refusal_of};
@@ -12,6 +12,7 @@ ghost use Rattle.go_stmts.specs.Bodies.{based, start, body_answer, body_answer_a
 ghost use Rattle.go_stmts.specs.Reading.{reading};
 ghost use Rattle.go_package.specs.Bodies.{which_types, local_type};
 ghost use Rattle.go_body_frames.specs.State.{text_of, KnownSurroundings};
+ghost use Rattle.go_walk.specs.Walks.{frame_in};
 ghost use Rattle.go_bodies.specs.Bodies.{scope_around, text_from, function_scope, KnownObjects, KnownFunction, AreNumbered, IsWalked, KnownWalked};
 
 use crate::content::{function_of, no_locals};
@@ -37,8 +38,8 @@ pub(crate) struct Walked {
     pub(crate) locals: Locals,
 }
 
-/// The walk over a function of so many locals, from its start.
-fn walk_function(
+/// The walk over a function of so many locals, or over a specification of variables, from its start.
+pub(crate) fn walk_function(
     alloc: Global,
     types: &mut Types,
     surroundings: &Surroundings<'_>,
@@ -98,6 +99,8 @@ pub fn type_function(
     ensures extends { Extends types.old types.new }
     ensures exact { (own : ℕ → ℕ) → AreNumbered types.old surroundings.now own →
         Gives (func_content (type_of types.new.shapes)) refusal_of result (body_answer (scope_around types.old surroundings.now) number count own (view function.now)) }
+    ensures rights { (own : ℕ → ℕ) → AreNumbered types.old surroundings.now own →
+        OnOk result (rights_of types.new ≡ (frame_in (reading (start (scope_around types.old surroundings.now) count own) free (view function.now))).around.rights) }
     ensures known { IfOk result (KnownFunction (length types.new.shapes)) }
 {
     types.count();
@@ -123,8 +126,8 @@ pub fn type_function(
 /// then the least code (Go specification: Function declarations, Blocks).
 ///
 /// The tokens are those of the file, of which `uses` says what each means; `env` says what the objects of the package stand for. The
-/// function's own types get the next numbers of declared types, in the order of its locals. Whatever is answered, the table of types only
-/// grows.
+/// function's own types get the next numbers of declared types, in the order of its locals, and behind the body the table has the right
+/// sides that are read of it. Whatever is answered, the table of types only grows.
 ///
 /// # Errors
 ///
@@ -146,6 +149,8 @@ pub fn type_body(
     ensures extends { Extends types.old types.new }
     ensures exact { let bs = which_types locals.now in let s = function_scope types.old tokens.now uses.now env.now base bs in let own = local_type (length types.old.rights) bs in
         Gives (func_content (type_of types.new.shapes)) refusal_of result (body_answer_at base s number (length locals.now) own (view function.now)) }
+    ensures rights { let bs = which_types locals.now in let s = function_scope types.old tokens.now uses.now env.now base bs in let own = local_type (length types.old.rights) bs in
+        OnOk result (rights_of types.new ≡ (frame_in (reading (start s (length locals.now) own) free (based base (view function.now)))).around.rights) }
     ensures known { IfOk result (KnownFunction (length types.new.shapes)) }
 {
     types.count();

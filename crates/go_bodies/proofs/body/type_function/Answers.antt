@@ -1,4 +1,4 @@
-use Rattle.std.proofs.Common.{rules, refl, ◌∙◌, [], ◌∷◌}
+use Rattle.std.proofs.Common.{rules, refl, sym, ◌∙◌, [], ◌∷◌}
 use Rattle.go_tree.specs.Views.{view}
 use Rattle.go_types.specs.Tables.{type_of}
 use Rattle.go_typed.specs.Contents.{func_content}
@@ -55,3 +55,14 @@ returns-clause-exact c own numbered =
     answered_ok new s (scope_around mid o) same c.args.number c.args.count own tree _ w (func_content (type_of new.shapes) c.in_ok-typed.typed) _ _
     (c.in_ok-typed.ensures.exact s (frame_in (reading (start s c.args.count own) free tree)) refl w.locals) c.last.ensures
     (signature_stays mid new c.count-2.ensures.table c.walk_function.ensures.extends o c.in_ok-signature.signature c.in_ok-signature.ensures.known ∙ c.in_ok-signature.ensures.tree)
+
+pub returns-clause-rights : goal.returns-clause-rights
+returns-clause-rights c own numbered =
+    let old = c.args.types.now in
+    let mid = c.signature-signature.new.types in
+    let new = c.walk_function.new.types in
+    let o = c.args.surroundings.now in
+    let g = c.signature-signature.ensures.grows in
+    let same = around_stays old mid c.count.ensures.table g.extends o c.requires.known.objects g.rights in
+    let w = shown_there new (scope_around old o) (scope_around mid o) same c.args.number c.args.count own (view c.args.function.now) _ (c.in_ok-root.ensures.exact own (numbered_stays old mid c.count.ensures.table g.extends o c.requires.known own numbered)) in
+    sym w.rights

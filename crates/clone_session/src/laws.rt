@@ -1,0 +1,30 @@
+//! Laws of the present package of a session.
+
+ghost use Rattle.std.specs.Prelude.{◌≡◌, List, nat_eq};
+ghost use Rattle.go_base.specs.declared.bytes.FileText.{FileText as Text};
+ghost use Rattle.go_types.specs.Tables.{IsTable};
+ghost use Rattle.go_typed.specs.Contents.{Content};
+ghost use Rattle.go_typed.specs.Packages.{PackageView as Package};
+ghost use Rattle.go_package.specs.Checked.{IsChecked, IsCheckedPackage, texts_of};
+ghost use Rattle.clone_window.specs.declared.bounds.Bounds.{Bounds as Limits};
+ghost use Rattle.clone_same.specs.Bodies.{bodies_of};
+ghost use Rattle.clone_classes.specs.Listing.{listing};
+ghost use Rattle.clone_replies.specs.Classes.{classes_in, listed_package};
+ghost use Rattle.clone_replies.specs.Listing.{listing_by, listing_reply};
+
+use clone_replies::laws::listings_are_of_the_types;
+use go_grammar::laws::one_tree_of_a_file;
+use go_package::laws::packages_have_one_answer;
+use go_tokens::laws::one_lexing;
+
+/// The clone classes and the listing of a package that the program holds are those that follow from its bytes alone.
+pub fn listings_follow_from_the_texts()
+    ensures classes { (bounds : Limits) (p : Package) (c : Content) → IsCheckedPackage p → IsTable p.types → IsChecked (texts_of p) c → listing nat_eq bounds (bodies_of p.functions) ≡ classes_in bounds c }
+    ensures listing { (bounds : Limits) (p : Package) (c : Content) → IsCheckedPackage p → IsTable p.types → IsChecked (texts_of p) c → listing_by nat_eq bounds (listed_package p) ≡ listing_reply bounds c }
+    ensures one { (bounds : Limits) (texts : List Text) (c d : Content) → IsChecked texts c → IsChecked texts d → listing_reply bounds c ≡ listing_reply bounds d }
+{
+    listings_are_of_the_types();
+    packages_have_one_answer();
+    one_lexing();
+    one_tree_of_a_file();
+}

@@ -1,0 +1,307 @@
+//! A session.
+
+ghost use Rattle.std.specs.Prelude.{◌≡◌, ◌≤◌, ◌<◌, ◌-◌, Some, None, IsSome, IsSomeAnd, IfSome, IfNone, IfOk, IfErr, OnOk, OnErr, is_some, length, map, min, take, drop, nat_eq, slice_get};
+ghost use Rattle.std.specs.Option.{option_map};
+ghost use Rattle.go_base.specs.Gives.{Gives};
+ghost use Rattle.go_base.specs.Package.{IsPackage};
+ghost use Rattle.edit_apply.specs.Edited.{bytes_under};
+ghost use Rattle.edit_apply.specs.Answers.{edit_refusal, edit_answer, add_answer, remove_answer};
+ghost use Rattle.go_scopes.specs.Views.{failure_of};
+ghost use Rattle.go_typed.specs.Contents.{Content as Whole};
+ghost use Rattle.go_package.specs.Checked.{IsChecked, IsCheckedPackage, IsGood, IsReported, texts_of};
+ghost use Rattle.clone_same.specs.Bodies.{bodies_of};
+ghost use Rattle.clone_classes.specs.Listing.{listing, members_of};
+ghost use Rattle.clone_texts.specs.Replies.{TextReply, IsOther};
+ghost use Rattle.clone_window.specs.declared.bounds.Bounds.{Bounds as Limits};
+ghost use Rattle.clone_replies.specs.Classes.{classes_in};
+ghost use Rattle.clone_replies.specs.Listing.{listing_reply};
+ghost use Rattle.clone_session.specs.Session.{IsGoodVerdict, fault_in};
+ghost use Rattle.clone_session.specs.declared.verdict.Verdict.TheVariants as verdict;
+
+use crate::check::Check;
+use crate::laws::listings_follow_from_the_texts;
+use crate::verdict::{Verdict, verdict_of};
+use clone_classes::pairwise::pairwise;
+use clone_replies::class_reply;
+use clone_script::Command;
+use clone_texts::{answer, file_at};
+use edit_apply::{EditError, Texts};
+use go_base::{Bytes, Fault, FileText, Memory, Name, Steps};
+use go_typed::checked::Checked;
+use go_typed::window::Class;
+use std::alloc::Global;
+use std::marker::{Brand, Model, PhantomData};
+use std::sync::ledger::{Blank, Ledger};
+
+/// A session: the present texts of a package, and what the check says of them, where it was asked since they changed.
+#[derive(Drop)]
+pub struct Session<C> {
+    alloc: Global,
+    texts: Texts,
+    min: u32,
+    mass: u32,
+    verdict: Option<Verdict>,
+    check: PhantomData<C>,
+}
+
+impl<C> Model for Session<C> {
+    ghost use Rattle.std.specs.Coded.{codes};
+    ghost use Rattle.std.specs.Prelude.{IfSome};
+    ghost use Rattle.go_tree.specs.contracts.node.Node as n;
+    ghost use Rattle.go_typed.specs.contracts.node.TypedNode as e;
+    ghost use Rattle.clone_session.specs.Session.{SessionView, AreBounds, IsOf};
+
+    ghost Value = { SessionView };
+
+    ghost coded = { Prim.hlevel (codes, n.the_row.coded, e.the_row.coded) };
+
+    ghost view = { λ s. record { texts = s.texts; bounds = record { fewest = s.min; least = s.mass }; verdict = s.verdict } };
+
+    ghost invariant = { λ s. AreBounds (record { fewest = s.min; least = s.mass }) × IfSome s.verdict (IsOf s.texts) };
+}
+
+impl<C: Check> Session<C> {
+    /// A session that begins with these files. Windows have from `min` to 32 statements and at least this mass.
+    ///
+    /// # Errors
+    ///
+    /// Want of memory.
+    pub fn load(alloc: Global, files: Vec<FileText>, min: u32, mass: u32) -> Result<Self, Memory>
+        requires package { IsPackage files.items }
+        requires some { 1 ≤ min }
+        requires at_most { min ≤ 32 }
+        requires heavy { 1 ≤ mass }
+        requires light { mass ≤ 1000 }
+        ensures { IfOk result (λ s. s ≡ record { texts = files.items; bounds = record { fewest = min; least = mass }; verdict = None }) }
+    {
+        Ok(Session {
+            alloc,
+            texts: Texts::load(alloc, files)?,
+            min,
+            mass,
+            verdict: None,
+            check: PhantomData,
+        })
+    }
+
+    /// Puts new bytes in the place of those from `start` to before `end` of the file of a name.
+    ///
+    /// # Errors
+    ///
+    /// The first refusal that applies. Then all is as it was.
+    pub fn edit(&mut self, name: &Name, start: u32, end: u32, new: &[u8]) -> Result<(), EditError>
+        ensures answer { Gives (λ _. self.new.texts) edit_refusal result (edit_answer self.old.texts name.now start end new.now) }
+        ensures stale { OnOk result (self.new ≡ record self.old { texts = self.new.texts; verdict = None }) }
+        ensures err { OnErr result (self.new ≡ self.old) }
+    {
+        self.texts.edit(name, start, end, new)?;
+        self.verdict = None;
+        Ok(())
+    }
+
+    /// Takes in a file of a new name.
+    ///
+    /// # Errors
+    ///
+    /// The first refusal that applies. Then all is as it was.
+    pub fn add(&mut self, name: &Name, bytes: &[u8]) -> Result<(), EditError>
+        ensures answer { Gives (λ _. self.new.texts) edit_refusal result (add_answer self.old.texts name.now bytes.now) }
+        ensures stale { OnOk result (self.new ≡ record self.old { texts = self.new.texts; verdict = None }) }
+        ensures err { OnErr result (self.new ≡ self.old) }
+    {
+        self.texts.add(name, bytes)?;
+        self.verdict = None;
+        Ok(())
+    }
+
+    /// Takes out the file of a name.
+    ///
+    /// # Errors
+    ///
+    /// `NoFile` where the name isn't held. Then all is as it was.
+    pub fn remove(&mut self, name: &Name) -> Result<(), EditError>
+        ensures answer { Gives (λ _. self.new.texts) edit_refusal result (remove_answer self.old.texts name.now) }
+        ensures only { IfErr result (λ e. e ≡ EditError.NoFile) }
+        ensures stale { OnOk result (self.new ≡ record self.old { texts = self.new.texts; verdict = None }) }
+        ensures err { OnErr result (self.new ≡ self.old) }
+    {
+        self.texts.remove(name)?;
+        self.verdict = None;
+        Ok(())
+    }
+
+    /// Brings what is known up to the present texts.
+    ///
+    /// # Errors
+    ///
+    /// Want of memory. Then the texts are as before, and the next call works anew from them.
+    pub fn refresh<L: Ledger>(&mut self, _steps: &mut Steps<L>) -> Result<(), Memory>
+        ensures kept { self.new ≡ record self.old { verdict = self.new.verdict } }
+        ensures fresh { OnOk result (IsSome self.new.verdict) }
+        ensures anew { OnErr result (self.new.verdict ≡ None) }
+    {
+        if self.is_fresh() {
+            return Ok(());
+        }
+        let verdict = verdict_of::<C>(self.alloc, &self.texts)?;
+        self.verdict = Some(verdict);
+        Ok(())
+    }
+
+    /// Whether what is known is of the present texts: the last `refresh` was done, and nothing changed since.
+    pub fn is_fresh(&self) -> bool
+        ensures { result ≡ is_some self.now.verdict }
+    {
+        self.verdict.is_some()
+    }
+
+    /// The fault that is reported of the present package; none exactly where it type-checks.
+    pub fn fault(&self) -> Option<Fault>
+        requires { IsSome self.now.verdict }
+        ensures value { result ≡ fault_in self.now.verdict }
+        ensures good { IfNone result (IsGood self.now.texts) }
+        ensures reported { IfSome result (λ fault. IsReported self.now.texts (failure_of fault)) }
+    {
+        match &self.verdict {
+            Some(Verdict::Faulty(fault)) => Some(*fault),
+            _ => None,
+        }
+    }
+
+    /// The present package with its types.
+    pub fn checked(&self) -> &Checked
+        requires { IsGoodVerdict self.now.verdict }
+        ensures package { self.now.verdict ≡ Some (verdict.Good result.now) }
+        ensures checked { IsCheckedPackage result.now }
+        ensures texts { texts_of result.now ≡ self.now.texts }
+    {
+        match &self.verdict {
+            Some(Verdict::Good(package)) => package.package(),
+            _ => unreachable!(),
+        }
+    }
+
+    /// The clone classes of the present package.
+    ///
+    /// # Errors
+    ///
+    /// Want of memory.
+    pub fn classes(&self) -> Result<Vec<Class>, Memory>
+        requires { IsGoodVerdict self.now.verdict }
+        ensures { IfOk result (λ cs. (c : Whole) → IsChecked self.now.texts c → members_of cs.items ≡ classes_in self.now.bounds c) }
+    {
+        classes_of::<Brand>(
+            self.alloc,
+            self.checked(),
+            self.min,
+            self.mass,
+            Blank::new(3),
+        )
+    }
+
+    /// The listing of the clone classes of the present package.
+    ///
+    /// # Errors
+    ///
+    /// Want of memory.
+    pub fn listing(&self) -> Result<Bytes, Memory>
+        requires { IsGoodVerdict self.now.verdict }
+        ensures { IfOk result (λ reply. (c : Whole) → IsChecked self.now.texts c → reply ≡ listing_reply self.now.bounds c) }
+    {
+        let classes = self.classes()?;
+        listing_of(self.alloc, self.checked(), &classes)
+    }
+
+    /// The reply to a command that reads or changes the texts, and none to a command of another sort.
+    ///
+    /// # Errors
+    ///
+    /// Want of memory. Then the texts are as they were.
+    pub fn answer(&mut self, command: &Command) -> Result<Option<Bytes>, Memory>
+        ensures reply { IfOk result (λ answer. IfSome answer (λ reply. TextReply self.old.texts command.now reply self.new.texts)) }
+        ensures other { IfOk result (λ answer. IfNone answer (IsOther command.now × (self.new.texts ≡ self.old.texts))) }
+        ensures bounds { self.new.bounds ≡ self.old.bounds }
+        ensures err { OnErr result (self.new.texts ≡ self.old.texts) }
+    {
+        self.verdict = None;
+        answer(self.alloc, &mut self.texts, command)
+    }
+
+    /// A copy of the file with this number, in the order of the names.
+    ///
+    /// # Errors
+    ///
+    /// Want of memory.
+    pub fn file_at(&self, file: u32) -> Result<FileText, Memory>
+        requires { file < length self.now.texts }
+        ensures { IfOk result (λ copy. slice_get self.now.texts file ≡ Some copy) }
+    {
+        file_at(self.alloc, &self.texts, file)
+    }
+
+    /// How many files there are.
+    pub fn files(&self) -> u32
+        ensures { result ≡ length self.now.texts }
+    {
+        self.texts.files()
+    }
+
+    /// The name of the file with this number, in the order of names.
+    pub fn name_at(&self, file: u32) -> &Name
+        requires { file < length self.now.texts }
+        ensures { option_map (λ f. f.name) (slice_get self.now.texts file) ≡ Some result.now }
+    {
+        self.texts.name_at(file)
+    }
+
+    /// How many bytes the file of a name has.
+    pub fn length(&self, name: &Name) -> Option<u32>
+        ensures { result ≡ option_map length (bytes_under self.now.texts name.now) }
+    {
+        self.texts.length(name)
+    }
+
+    /// Moves bytes of the file of a name, from an offset on, to the front of the buffer, as many as fit, and answers how many.
+    pub fn text_at(&self, name: &Name, from: u32, buf: &mut [u8]) -> usize
+        requires { IsSomeAnd (bytes_under self.now.texts name.now) (λ bytes. from ≤ length bytes) }
+        ensures count { IfSome (bytes_under self.now.texts name.now) (λ bytes. result ≡ min (length buf.old) (length bytes - from)) }
+        ensures copied { IfSome (bytes_under self.now.texts name.now) (λ bytes. take result buf.new ≡ take result (drop from bytes)) }
+        ensures kept { drop result buf.new ≡ drop result buf.old }
+    {
+        self.texts.text_at(name, from, buf)
+    }
+}
+
+/// The clone classes of a package that type-checks, found under a counter of their own.
+fn classes_of<L: Ledger>(
+    alloc: Global,
+    checked: &Checked,
+    min: u32,
+    mass: u32,
+    blank: Blank,
+) -> Result<Vec<Class>, Memory>
+    requires name { blank.name ≡ L.name }
+    requires parts { blank.parts ≡ L.parts }
+    requires room { 3 ≤ blank.parts }
+    requires some { 1 ≤ min }
+    requires at_most { min ≤ 32 }
+    requires heavy { 1 ≤ mass }
+    requires light { mass ≤ 1000 }
+    requires checked { IsCheckedPackage checked.now }
+    ensures { IfOk result (λ cs. (c : Whole) → IsChecked (texts_of checked.now) c → members_of cs.items ≡ classes_in (record { fewest = min; least = mass }) c) }
+{
+    listings_follow_from_the_texts();
+    let _count = checked.types().count();
+    let mut steps = Steps::<L>::new(blank);
+    pairwise(alloc, checked, min, mass, &mut steps)
+}
+
+/// The listing of the clone classes of a package that type-checks.
+fn listing_of(alloc: Global, checked: &Checked, classes: &[Class]) -> Result<Bytes, Memory>
+    requires { IsCheckedPackage checked.now }
+    ensures { IfOk result (λ reply. (bounds : Limits) (c : Whole) → IsChecked (texts_of checked.now) c → members_of classes.now ≡ classes_in bounds c → reply ≡ listing_reply bounds c) }
+{
+    listings_follow_from_the_texts();
+    let _count = checked.types().count();
+    class_reply(alloc, checked, classes)
+}

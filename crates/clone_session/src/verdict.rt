@@ -1,0 +1,40 @@
+//! What the check says of a package.
+
+ghost use Rattle.std.specs.Prelude.{IfOk};
+ghost use Rattle.clone_session.specs.Session.{IsOf};
+
+use crate::check::Check;
+use crate::copy::copied;
+use edit_apply::Texts;
+use go_base::{Fault, Memory};
+use go_checked::CheckedPackage;
+use go_reading::CheckError;
+use std::alloc::Global;
+
+/// What the check says of a package.
+#[derive(Drop)]
+pub enum Verdict {
+    /// It type-checks, and with its types it is this.
+    Good(CheckedPackage),
+    /// It doesn't, and this fault is reported.
+    Faulty(Fault),
+}
+
+/// What the check says of the present texts.
+///
+/// # Errors
+///
+/// Want of memory.
+pub fn verdict_of<C: Check>(alloc: Global, texts: &Texts) -> Result<Verdict, Memory>
+    ensures { IfOk result (IsOf texts.now) }
+{
+    let files = copied(alloc, texts)?;
+    match C::check(alloc, &files) {
+        Ok(package) => {
+            let _checked = package.package();
+            Ok(Verdict::Good(package))
+        }
+        Err(CheckError::Fault(fault)) => Ok(Verdict::Faulty(fault)),
+        Err(CheckError::Memory) => Err(Memory),
+    }
+}

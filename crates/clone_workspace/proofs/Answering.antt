@@ -1,0 +1,25 @@
+-- What was answered is the reply of the definition.
+use Rattle.std.proofs.Common.{◌≡◌, sym, subst, ℕ, List}
+use Rattle.go_base.specs.declared.bytes.FileText.{FileText}
+use Rattle.clone_script.specs.declared.command.Command.{Command}
+use Rattle.clone_script.specs.declared.command.Command.TheVariants as command
+use Rattle.clone_server.specs.Session.{Settings}
+use Rattle.clone_texts.specs.Replies.{TextReply}
+use Rattle.clone_workspace.specs.Answers.{Answers, PackageReply, IsListing, IsUntold, bounds_of}
+
+pub of-text : (s : Settings) (texts : List FileText) (c : Command) (reply : List ℕ) (after : List FileText) → TextReply texts c reply after → Answers s texts c reply after
+of-text s texts (command.Edit name start end text) reply after h = h
+of-text s texts (command.Add name text) reply after h = h
+of-text s texts (command.Remove name) reply after h = h
+of-text s texts (command.Show name) reply after h = h
+of-text s texts command.Classes reply after h = absurd h
+of-text s texts command.Stat reply after h = absurd h
+of-text s texts command.Save reply after h = absurd h
+of-text s texts command.Quit reply after h = absurd h
+
+pub of-classes : (s : Settings) (texts : List FileText) (c : Command) (reply : List ℕ) (after : List FileText) → c ≡ command.Classes →
+    PackageReply (IsListing (bounds_of s)) texts reply → after ≡ texts → Answers s texts c reply after
+of-classes s texts c reply after e h k = subst (λ x. Answers s texts x reply after) (sym e) (h, k)
+
+pub of-stat : (s : Settings) (texts : List FileText) (c : Command) (reply : List ℕ) (after : List FileText) → c ≡ command.Stat → PackageReply IsUntold texts reply → after ≡ texts → Answers s texts c reply after
+of-stat s texts c reply after e h k = subst (λ x. Answers s texts x reply after) (sym e) (h, k)

@@ -1,0 +1,15 @@
+use Rattle.std.proofs.Common.{ap}
+use Rattle.std.proofs.lemmas.Result.{IfOk-weaker}
+use Rattle.clone_workspace.specs.Answers.{settings_of}
+use Rattle.clone_workspace.proofs.Answering.{of-classes, of-stat}
+use Rattle.clone_workspace.proofs.answers.answer.Goals as goal
+
+pub returns-in-Classes-clause-reply : goal.returns-in-Classes-clause-reply
+returns-in-Classes-clause-reply g c =
+    let s = c.args.session.now in
+    IfOk-weaker c.classes.result _ _ (λ reply h. of-classes (settings_of s.bounds) s.texts c.args.command.now reply c.classes.new.session.texts c.in-Classes.is h (ap (λ x. x.texts) c.classes.ensures.kept)) c.classes.ensures.reply
+
+pub returns-in-Stat-clause-reply : goal.returns-in-Stat-clause-reply
+returns-in-Stat-clause-reply g c =
+    let s = c.args.session.now in
+    IfOk-weaker c.stat.result _ _ (λ reply h. of-stat (settings_of s.bounds) s.texts c.args.command.now reply c.stat.new.session.texts c.in-Stat.is h (ap (λ x. x.texts) c.stat.ensures.kept)) c.stat.ensures.reply
