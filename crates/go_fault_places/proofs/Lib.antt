@@ -1,0 +1,4 @@
+pub mod Parts
+pub mod Rules
+pub mod Calls
+pub mod Typings

@@ -1,0 +1,92 @@
+//! The scope of a specification.
+ghost use Rattle.std.specs.Prelude.{◌≡◌, ℕ, [], Bool, List, IfOk, IfSome};
+ghost use Rattle.go_types.specs.Tables.{Table, rights_of};
+ghost use Rattle.go_type_rules.specs.Naming.{names, text_in, need_seen, KnownScope};
+ghost use Rattle.go_package.specs.Declarations as declarations;
+ghost use Rattle.go_package.specs.Knowledge as knowledge;
+ghost use Rattle.go_package.specs.Knowledge.{State, need_in, scope_where};
+ghost use Rattle.go_package.specs.Sources.{tokens_in, text_at};
+ghost use Rattle.go_tokens.specs.Tokens.{IsTokenList};
+ghost use Rattle.go_judging.specs.declared.world.World.{World};
+ghost use Rattle.go_judging.specs.World.{package_in, outlines_in, Fits, StandsFor, KnownStandings};
+
+use crate::world::World;
+use go_base::Memory;
+use go_rules::Basics;
+use go_tokens::tokens::Tokens;
+use go_tree::context::Entity;
+use go_tree::uses::Uses;
+use go_type_rules::{Needed, Scope, Standing};
+use go_typed::{Env, Locals};
+use std::alloc::Global;
+
+/// The tokens of the file of this number, if there are so many and it has this number itself.
+pub fn tokens_of<'a>(world: &World<'a>, file: usize) -> Option<&'a Tokens>
+    ensures tokens { IfSome result (λ t. t.now ≡ tokens_in (package_in world.now) file) }
+    ensures number { IfSome result (λ t. t.now.file ≡ file) }
+    ensures list { IfSome result (λ t. IsTokenList t.now) }
+{
+    let tokens = world.files.get(file)?.tokens();
+    tokens.count();
+    if tokens.file() as usize == file {
+        Some(tokens)
+    } else {
+        None
+    }
+}
+
+/// No locals, where `iota` has this value.
+///
+/// # Errors
+///
+/// Want of memory.
+pub fn locals_at(alloc: Global, iota: usize) -> Result<Locals, Memory>
+    ensures { IfOk result (λ l. l ≡ record { sorts = []; iota = iota }) }
+{
+    let Ok(iota) = u32::try_from(iota) else {
+        return Err(Memory);
+    };
+    Ok(Locals::new(Vec::new(alloc), iota))
+}
+
+/// How a specification needs what it names.
+fn need_in(entity: Entity) -> Needed
+    ensures { need_seen result ≡ need_in entity }
+{
+    match entity {
+        Entity::Type => Needed::AtOnce,
+        _ => Needed::InFull,
+    }
+}
+
+/// The scope of a specification, in which the objects stand for this.
+pub fn scope_in<'b>(
+    uses: &'b Uses,
+    env: &'b Env,
+    tokens: &'b Tokens,
+    locals: &'b Locals,
+    told: &'b [Standing],
+    basics: Basics,
+    entity: Entity,
+    limits: bool,
+) -> Scope<'b>
+    ensures is { (w : World) (t : Table) (test : State → Bool) (ss : List State) (d : declarations.Specification) → uses.now ≡ w.uses.now → env.now ≡ w.env.now → Fits t w → StandsFor t w test told.now ss
+        → rights_of t ≡ knowledge.rights_of (package_in w) ss → tokens.now ≡ tokens_in (package_in w) d.file → tokens.now.file ≡ d.file
+        → locals.now ≡ record { sorts = []; iota = d.iota } → entity ≡ d.entity
+        → names t result ≡ scope_where test limits (package_in w) (outlines_in w) ss d }
+    ensures known { (w : World) (t : Table) (n : ℕ) → env.now ≡ w.env.now → Fits t w → locals.now.sorts ≡ [] → KnownStandings n told.now → KnownScope n result }
+    ensures texts { (w : World) (file : ℕ) → tokens.now ≡ tokens_in (package_in w) file → text_in result ≡ text_at (package_in w) file }
+    ensures basics { result.basics ≡ basics }
+{
+    Scope {
+        tokens,
+        uses,
+        env,
+        locals,
+        basics,
+        told,
+        needed: need_in(entity),
+        limits,
+        base: 0,
+    }
+}
