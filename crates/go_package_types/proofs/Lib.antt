@@ -1,0 +1,10 @@
+pub mod Whole
+pub mod Kept
+pub mod Merged
+pub mod Read
+pub mod Noted
+pub mod Declaring
+pub mod Environments
+pub mod Standing
+pub mod Faulty
+pub mod Starting

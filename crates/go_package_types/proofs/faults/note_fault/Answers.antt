@@ -1,0 +1,29 @@
+use Rattle.std.proofs.Common.{◌≡◌, Some, refl, ap, sym, ◌∙◌}
+use Rattle.std.specs.Option.{option_map}
+use Rattle.go_tree.specs.Failures.{least_from}
+use Rattle.go_lookup.proofs.Told.{get_some}
+use Rattle.go_scopes.specs.Views.{failure_of}
+use Rattle.go_package.specs.Answer.{failures_at}
+use Rattle.go_package.specs.Declarations.{Specification}
+use Rattle.go_package.specs.Verdicts.{specification_faults}
+use Rattle.go_declarations.specs.Views.{specification_view}
+use Rattle.go_judging.specs.World.{package_in, outlines_in}
+use Rattle.go_judging.proofs.Judged.{seen_at}
+use Rattle.go_package_types.specs.Places.{stands}
+use Rattle.go_package_types.proofs.Faulty.{each_there}
+use Rattle.go_package_types.proofs.Noted.{noted}
+use Rattle.go_package_types.proofs.faults.note_fault.Goals as goal
+
+pub returns-then-specification_stands-clause-fault : goal.returns-then-specification_stands-clause-fault
+returns-then-specification_stands-clause-fault c = λ ss d h at.
+    let w = c.args.world.now in
+    let p = package_in w in
+    let os = outlines_in w in
+    let s = c.in-Some.specification.now in
+    let v = specification_view s in
+    let ts = c.in-Some-tokens_of.tokens.now in
+    let found = option_map failure_of c.args.found in
+    let is : v ≡ d = seen_at specification_view w.specifications.now c.args.number s d (get_some w.specifications.now c.args.number s c.in-Some.ensures.lookup.3.0 ∙ ap (λ x. Some x) (sym c.in-Some.ensures.lookup.1)) at in
+    noted p v.file ts c.in-Some-tokens_of.ensures.tokens c.in-Some-tokens_of.ensures.number c.in-Some-tokens_of.ensures.list (specification_faults p os ss v) found (option_map failure_of c.merged.result) c.in_ok-fault.fault
+    (each_there p os ss v (stands ts) (c.if-specification_stands.ensures refl)) (c.in_ok-fault.ensures.fault ss h) c.merged.ensures
+    ∙ ap (λ (x : Specification). least_from found (failures_at p x.file (specification_faults p os ss x))) is

@@ -1,0 +1,17 @@
+-- What the program knows of the objects of a package where their rules are judged.
+use Rattle.std.specs.Prelude.{◌≡◌, List, length, map}
+use Rattle.go_types.specs.Tables.{Table, rights_of}
+use Rattle.go_package.specs.Knowledge.{State}
+use Rattle.go_package.specs.Knowledge as knowledge
+use Rattle.go_needs.specs.Passing.{is_faulty, is_misassigned}
+use Rattle.go_judging.specs.declared.world.World.{World}
+use Rattle.go_judging.specs.World.{package_in, StandsFor}
+use Rattle.go_package_types.specs.declared.faults.Known.{Known}
+
+-- It is known of these states: what the objects stand for, and where rules fail.
+pub record Tells (t : Table) (w : World) (k : Known) (ss : List State) : Type 0 where
+  pub stands : StandsFor t w knowledge.is_sound k.sound.now ss
+  pub rights : rights_of t ≡ knowledge.rights_of (package_in w) ss
+  pub faulty : k.faulty.now ≡ map is_faulty ss
+  pub assigning : k.assigning.now ≡ map is_misassigned ss
+  pub as_many : length ss ≡ length w.uses.now.package_level

@@ -1,0 +1,39 @@
+//! The earlier of two faults.
+ghost use Rattle.std.specs.Prelude.{◌≡◌};
+ghost use Rattle.std.specs.Option.{option_map};
+ghost use Rattle.go_tree.specs.Failures.{is_earlier, earlier};
+ghost use Rattle.go_scopes.specs.Views.{failure_of};
+
+use go_base::Fault;
+
+/// Whether the first is reported before the second.
+fn is_earlier(a: Fault, b: Fault) -> bool
+    ensures { result ≡ is_earlier (failure_of a) (failure_of b) }
+{
+    let (p, q) = (a.span, b.span);
+    if p.file != q.file {
+        p.file < q.file
+    } else if p.start != q.start {
+        p.start < q.start
+    } else if p.end != q.end {
+        p.end < q.end
+    } else {
+        a.code.number() < b.code.number()
+    }
+}
+
+/// The earlier of a fault that may be there and another one.
+pub fn earlier(found: Option<Fault>, other: Fault) -> Option<Fault>
+    ensures { option_map failure_of result ≡ earlier (option_map failure_of found) (failure_of other) }
+{
+    match found {
+        None => Some(other),
+        Some(fault) => {
+            if is_earlier(other, fault) {
+                Some(other)
+            } else {
+                Some(fault)
+            }
+        }
+    }
+}

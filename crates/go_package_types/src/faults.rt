@@ -1,0 +1,179 @@
+//! The fault of the declarations of a package that is reported.
+ghost use Rattle.std.specs.Prelude.{◌≡◌, ◌<◌, ℕ, List, Some, None, IfOk, length, map, slice_get};
+ghost use Rattle.std.specs.Option.{option_map};
+ghost use Rattle.go_tree.specs.Failures.{least, least_from};
+ghost use Rattle.go_types.specs.Tables.{rights_of};
+ghost use Rattle.type_tests.specs.Extends.{Grows};
+ghost use Rattle.go_rules.specs.Faults as faults;
+ghost use Rattle.go_scopes.specs.Views.{failure_of};
+ghost use Rattle.go_package.specs.Answer.{all_failures, mains_from, failures_at};
+ghost use Rattle.go_package.specs.Declarations as declarations;
+ghost use Rattle.go_package.specs.Knowledge as knowledge;
+ghost use Rattle.go_package.specs.Knowledge.{State, free_scope};
+ghost use Rattle.go_package.specs.Sources.{text_at};
+ghost use Rattle.go_package.specs.Verdicts.{specification_faults};
+ghost use Rattle.go_declarations.specs.Reads.{SpecificationRead};
+ghost use Rattle.go_declarations.specs.Views.{specification_view};
+ghost use Rattle.go_specifications.specs.Whole.{failing_as_whole};
+ghost use Rattle.go_judging.specs.World.{package_in, outlines_in, specifications_in, Fits, KnownStandings};
+ghost use Rattle.go_package_types.specs.Known.{Tells};
+ghost use Rattle.go_package_types.specs.Merged as merging;
+
+use crate::earliest::earlier;
+use crate::stands::specification_stands;
+use go_base::{Fault, Memory};
+use go_declarations::Specification;
+use go_judging::World;
+use go_judging::scope::{locals_at, scope_in, tokens_of};
+use go_lookup::unit::bytes_of;
+use go_rules::TypeFault;
+use go_specifications::specification_fault;
+use go_tokens::tokens::Tokens;
+use go_type_rules::Standing;
+use go_types::Types;
+use std::alloc::Global;
+
+/// What is known of the objects: what they stand for where they are free of faults, in which of them a rule fails in their types and
+/// expressions, and at which at their own assignments.
+#[derive(Clone, Copy)]
+pub struct Known<'a> {
+    pub sound: &'a [Standing],
+    pub faulty: &'a [bool],
+    pub assigning: &'a [bool],
+}
+
+/// The least of the rules that fail at a specification, where it is blocked or isn't.
+fn fault_as(
+    alloc: Global,
+    types: &mut Types,
+    world: &World<'_>,
+    known: &Known<'_>,
+    specification: &Specification<'_>,
+    blocked: bool,
+) -> Result<Option<TypeFault>, Memory>
+    requires fits { Fits types.old world.now }
+    requires known { KnownStandings (length types.old.shapes) known.now.sound.now }
+    requires literals { let d = specification_view specification.now in SpecificationRead (text_at (package_in world.now) d.file) d }
+    ensures grows { Grows types.old types.new }
+    ensures fault { let d = specification_view specification.now in (ss : List State) → Tells types.old world.now known.now ss
+        → IfOk result (λ o. o ≡ faults.least (failing_as_whole blocked (free_scope (package_in world.now) (outlines_in world.now) ss d) d)) }
+{
+    types.count();
+    let Some(tokens) = tokens_of(world, specification.file) else {
+        return Err(Memory);
+    };
+    let locals = locals_at(alloc, specification.iota)?;
+    let scope = scope_in(
+        world.uses,
+        world.env,
+        tokens,
+        &locals,
+        known.sound,
+        world.basics,
+        specification.entity,
+        true,
+    );
+    specification_fault(alloc, types, &scope, specification, blocked)
+}
+
+/// The least of the rules that fail at the specification of this number. Whether another one's fault blocks it is asked where its own
+/// rule alone fails.
+fn fault_of(
+    alloc: Global,
+    types: &mut Types,
+    world: &World<'_>,
+    known: &Known<'_>,
+    number: usize,
+    specification: &Specification<'_>,
+) -> Result<Option<TypeFault>, Memory>
+    requires fits { Fits types.old world.now }
+    requires known { KnownStandings (length types.old.shapes) known.now.sound.now }
+    requires literals { let d = specification_view specification.now in SpecificationRead (text_at (package_in world.now) d.file) d }
+    requires number { slice_get (specifications_in world.now) number ≡ Some (specification_view specification.now) }
+    ensures grows { Grows types.old types.new }
+    ensures fault { (ss : List State) → Tells types.old world.now known.now ss → IfOk result (λ o. o ≡ faults.least (specification_faults (package_in world.now) (outlines_in world.now) ss (specification_view specification.now))) }
+{
+    types.count();
+    let Some(fault) = fault_as(alloc, types, world, known, specification, false)? else {
+        return Ok(None);
+    };
+    let inner = fault_as(alloc, types, world, known, specification, true)?;
+    if inner.is_some() {
+        return Ok(inner);
+    }
+    if world
+        .needs
+        .is_blocked(alloc, number, known.faulty, known.assigning)?
+    {
+        Ok(None)
+    } else {
+        Ok(Some(fault))
+    }
+}
+
+/// The earlier of a fault that may be there and one of a file, by its tokens.
+fn merged(found: Option<Fault>, tokens: &Tokens, fault: Option<TypeFault>) -> Option<Fault>
+    ensures { option_map failure_of result ≡ merging.merged (option_map failure_of found) (option_map (merging.failure_in tokens.now) fault) }
+{
+    match fault {
+        None => found,
+        Some(fault) => earlier(
+            found,
+            Fault {
+                code: fault.code,
+                span: bytes_of(tokens.file(), tokens, fault.first, fault.last),
+            },
+        ),
+    }
+}
+
+/// The least of a fault that may be there and those of the specification of this number.
+fn note_fault(
+    alloc: Global,
+    types: &mut Types,
+    world: &World<'_>,
+    known: &Known<'_>,
+    number: usize,
+    found: Option<Fault>,
+) -> Result<Option<Fault>, Memory>
+    requires fits { Fits types.old world.now }
+    requires known { KnownStandings (length types.old.shapes) known.now.sound.now }
+    ensures grows { Grows types.old types.new }
+    ensures fault { let p = package_in world.now in let os = outlines_in world.now in (ss : List State) (d : declarations.Specification) → Tells types.old world.now known.now ss → slice_get (specifications_in world.now) number ≡ Some d
+        → IfOk result (λ o. option_map failure_of o ≡ least_from (option_map failure_of found) (failures_at p d.file (specification_faults p os ss d))) }
+{
+    types.count();
+    let Some(specification) = world.specifications.get(number) else {
+        return Err(Memory);
+    };
+    let fault = fault_of(alloc, types, world, known, number, specification)?;
+    let Some(tokens) = tokens_of(world, specification.file) else {
+        return Err(Memory);
+    };
+    if specification_stands(tokens, specification) {
+        Ok(merged(found, tokens, fault))
+    } else {
+        Err(Memory)
+    }
+}
+
+/// The least fault of the specifications of a package.
+pub fn specifications_fault(
+    alloc: Global,
+    types: &mut Types,
+    world: &World<'_>,
+    known: &Known<'_>,
+) -> Result<Option<Fault>, Memory>
+    requires fits { Fits types.old world.now }
+    requires known { KnownStandings (length types.old.shapes) known.now.sound.now }
+    ensures grows { Grows types.old types.new }
+    ensures fault { let p = package_in world.now in let os = outlines_in world.now in (ss : List State) → Tells types.old world.now known.now ss
+        → IfOk result (λ o. least_from (option_map failure_of o) (mains_from p os ss 0 p.uses.package_level) ≡ least (all_failures p os ss (specifications_in world.now))) }
+{
+    types.count();
+    let mut found = None;
+    for number in 0..world.specifications.len() {
+        found = note_fault(alloc, types, world, known, number, found)?;
+    }
+    Ok(found)
+}

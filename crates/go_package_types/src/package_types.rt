@@ -1,0 +1,100 @@
+//! The declarations of a package, typed.
+ghost use Rattle.std.specs.Prelude.{◌≡◌, ◌≤◌, true, None, [], IfOk, length, map};
+ghost use Rattle.std.specs.List.{list_all};
+ghost use Rattle.go_base.specs.Gives.{Gives};
+ghost use Rattle.go_tree.specs.Faults.{reported};
+ghost use Rattle.go_tree.specs.Uses as names;
+ghost use Rattle.go_scopes.specs.Resolve.{units_of};
+ghost use Rattle.type_tests.specs.Extends.{Extends};
+ghost use Rattle.go_typed.specs.Packages.{referents, is_there};
+ghost use Rattle.go_contexts.specs.Expressions.{failure_named};
+ghost use Rattle.go_types.specs.Tables.{rights_of};
+ghost use Rattle.go_package.specs.Answer.{answer_with, package_answer};
+ghost use Rattle.go_package.specs.Sources.{source_of};
+ghost use Rattle.go_judging.specs.World.{package_in, outlines_in, specifications_in, Fits};
+ghost use Rattle.go_package_types.specs.Numbers.{open_rights};
+ghost use Rattle.go_package_types.specs.Answers.{AreLexedFiles, environment_seen, KnownObjects};
+
+use crate::answer::answer;
+use crate::declare::{declare_types, referents};
+use go_contexts::TypeError;
+use go_contexts::laws::literals_read;
+use go_declarations::laws::literals_of_specifications_are_read;
+use go_declarations::specifications;
+use go_judging::{World, first, rounds};
+use go_needs::needs_of;
+use go_tree::file::File;
+use go_tree::uses::Uses;
+use go_type_rules::predeclared::basics;
+use go_typed::Env;
+use go_types::Types;
+use std::alloc::Global;
+
+/// What the objects of a package stand for, whose declared types have no right sides yet; or the fault that is reported.
+///
+/// # Errors
+///
+/// The fault, or want of memory.
+fn judged(alloc: Global, types: &mut Types, world: &World<'_>) -> Result<Env, TypeError>
+    requires fits { Fits types.old world.now }
+    requires fresh { rights_of types.old ≡ open_rights world.now.uses.now.package_level }
+    ensures extends { Extends types.old types.new }
+    ensures exact { Gives (environment_seen types.new) failure_named result (answer_with (package_in world.now) (specifications_in world.now) (outlines_in world.now)) }
+    ensures defined { IfOk result (λ _. list_all is_there types.new.rights ≡ true) }
+    ensures referents { IfOk result (λ e. e.referents ≡ referents world.now.uses.now.package_level) }
+    ensures known { IfOk result (KnownObjects (length types.new.shapes)) }
+{
+    types.count();
+    let start = first(alloc, types, world)?;
+    let all = rounds(alloc, types, world, start)?;
+    answer(alloc, types, world, &all)
+}
+
+/// The types, constants, variables and functions of a package, by what its names mean (Go specification, "Constant declarations",
+/// "Type declarations", "Variable declarations", "Function declarations"). Its declared types are added to the table in the order of
+/// files and places, which has none before; each has its right side afterwards.
+///
+/// # Errors
+///
+/// `Fault` where a rule fails in the declarations: of all that fail the one at the least place, and of several there that with the
+/// least code. `Memory` where memory ran out.
+pub fn type_package(
+    alloc: Global,
+    files: &[File],
+    uses: &Uses,
+    types: &mut Types,
+) -> Result<Env, TypeError>
+    requires few { length files.now ≤ 256 }
+    requires lexed { AreLexedFiles 0 files.now }
+    requires sound { reported (units_of files.now) ≡ None }
+    requires uses { uses.now ≡ names.uses (units_of files.now) }
+    requires fresh { types.old.rights ≡ [] }
+    ensures extends { Extends types.old types.new }
+    ensures exact { Gives (environment_seen types.new) failure_named result (package_answer (map source_of files.now) uses.now) }
+    ensures defined { IfOk result (λ _. list_all is_there types.new.rights ≡ true) }
+    ensures referents { IfOk result (λ e. e.referents ≡ referents uses.now.package_level) }
+    ensures known { IfOk result (KnownObjects (length types.new.shapes)) }
+{
+    types.count();
+    literals_read();
+    literals_of_specifications_are_read();
+    let specifications = specifications(alloc, files)?;
+    let needs = needs_of(alloc, files, uses, &specifications)?;
+    let objects = uses.package_objects();
+    let numbers = referents(alloc, objects)?;
+    let nothing = Vec::new(alloc);
+    let counted = Env::new(nothing, numbers);
+    let named = declare_types(alloc, types, objects)?;
+    types.count();
+    let basics = basics(alloc, types)?;
+    let world = World {
+        files,
+        uses,
+        specifications: &specifications,
+        needs: &needs,
+        env: &counted,
+        named: &named,
+        basics,
+    };
+    judged(alloc, types, &world)
+}
