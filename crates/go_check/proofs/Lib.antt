@@ -1,0 +1,4 @@
+pub mod FilesRead
+pub mod Following
+pub mod Parts
+pub mod RightSides
