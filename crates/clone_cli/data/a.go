@@ -1,13 +1,13 @@
-package p
+package main
 
-func f() {
-	a := 1
-	b := a + 2
-	a = b
+func f(a int) int {
+	b := a + 1
+	b = b * 2
+	return b
 }
 
-func g() {
-	x := 3
-	y := x + 4
-	x = y
+func g(x int) int {
+	y := x + 5
+	y = y * 2
+	return y
 }

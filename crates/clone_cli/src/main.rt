@@ -1,8 +1,8 @@
-//! The program `goclone DIR`. All that it does is `run` of clone_serve.
+//! The program `goclone [--min N] [--mass N] DIR`. All that it does is `run` of clone_program.
 #![tactic(auto)]
 
 use std::process::ExitCode;
 
 fn main(rt: HostRuntime) -> ExitCode {
-    clone_serve::run(rt)
+    clone_program::run(rt)
 }

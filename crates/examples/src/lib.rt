@@ -1,5 +1,4 @@
-//! Worked examples, run through the public calls of the lowest crates, of the types, the script and the program's present
-//! language.
+//! Worked examples, run through the public calls of the lowest crates, of the types and the script.
 //!
 //! Each crate's contract says what its calls answer; the tests here compare a few answers with values from outside, and call
 //! what takes memory where there is enough of it. They stand in a crate of their own, since the check of a crate with tests
@@ -10,8 +9,6 @@
 mod calls;
 #[cfg(test)]
 mod folders;
-#[cfg(test)]
-mod program;
 #[cfg(test)]
 mod script;
 #[cfg(test)]

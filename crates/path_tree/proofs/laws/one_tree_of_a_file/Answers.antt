@@ -1,5 +1,0 @@
-use Rattle.path_tree.proofs.Unique.{one_file}
-use Rattle.path_tree.proofs.laws.one_tree_of_a_file.Goals as goal
-
-pub returns : goal.returns
-returns c = one_file

@@ -1,0 +1,7 @@
+//! Worked sessions of the program, over folders, scripts and sinks in memory.
+//!
+//! The tests stand in a crate of their own, since the check of a crate with tests proves it twice.
+#![tactic(auto)]
+
+#[cfg(test)]
+mod rows;

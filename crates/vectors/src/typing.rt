@@ -1,0 +1,61 @@
+//! The table `typing`: a number, the files in hexadecimal digits, divided by blanks, and `ok` or the fault of the whole check.
+use crate::sessions::Session;
+use crate::tables::Table;
+use go_base::Memory;
+use std::alloc::Global;
+
+pub struct Typing;
+
+impl Table for Typing {
+    fn name(&self) -> &'static str {
+        "typing"
+    }
+
+    fn difference(&self, alloc: Global, fields: &[&str]) -> Result<Option<String>, Memory> {
+        let [_, texts, wanted, ..] = fields else {
+            return Ok(Some(String::from_str(alloc, "not three fields")?));
+        };
+        let folder = folder_of(alloc, texts)?;
+        let session = Session {
+            words: "--min 32 --mass 1000 d",
+            failing: "-",
+            folder: folder.as_str(),
+            script: Vec::from_slice(alloc, b"classes\n")?,
+        };
+        let ended = session.ended(alloc)?;
+        let said = match std::str::from_utf8(&ended.written) {
+            Ok(reply) => says(alloc, reply, wanted)?,
+            Err(_) => false,
+        };
+        if said {
+            Ok(None)
+        } else {
+            Ok(Some(ended.shown(alloc)?))
+        }
+    }
+}
+
+/// The files with names by their numbers.
+fn folder_of(alloc: Global, texts: &str) -> Result<String, Memory> {
+    let mut folder = String::new(alloc);
+    for (number, text) in texts.split(' ').enumerate() {
+        if number > 0 {
+            folder.push_str(" ")?;
+        }
+        let file = format!(in alloc; "f{number:03}.go={text}")?;
+        folder.push_str(file.as_str())?;
+    }
+    Ok(folder)
+}
+
+/// Whether a reply says what is wanted: no fault, or one with this code at this place.
+fn says(alloc: Global, reply: &str, wanted: &str) -> Result<bool, Memory> {
+    let parts: Vec<&str> = wanted.split(' ').collect(alloc)?;
+    let [_, code, file, span] = parts.as_slice() else {
+        return Ok(wanted == "ok" && reply.starts_with("classes "));
+    };
+    let number = file.parse::<u32>().unwrap_or(0);
+    let head = format!(in alloc; "fault {code} ")?;
+    let place = format!(in alloc; " f{number:03}.go:{span}\n")?;
+    Ok(reply.starts_with(head.as_str()) && reply.ends_with(place.as_str()))
+}
