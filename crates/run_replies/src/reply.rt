@@ -51,8 +51,12 @@ fn outcome_reply(alloc: Global, outcome: &Outcome) -> Result<Bytes, Memory>
     }
 }
 
-/// The reply to what `run` answered.
-fn reply_to(alloc: Global, answer: &Result<Outcome, RunError>) -> Result<Bytes, Memory>
+/// The reply to what a run answered.
+///
+/// # Errors
+///
+/// Want of memory.
+pub fn reply_to(alloc: Global, answer: &Result<Outcome, RunError>) -> Result<Bytes, Memory>
     ensures { (a : Result Run Refusal) → Gives outcome_view refusal answer.now a → IfOk result (λ reply. reply ≡ run_words a) }
 {
     match answer {
