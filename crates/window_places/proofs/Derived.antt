@@ -1,5 +1,5 @@
 -- Syntax trees whose parts lie one behind the other: derivations are such.
-use Rattle.std.proofs.Common.{◌≡◌, ℕ, suc, ◌+◌, ◌<◌, ◌≤◌, inl, inr, Bool, true, List, ◌∷◌, refl, sym, ap, subst, arith}
+use Rattle.std.proofs.Common.{◌≡◌, ℕ, suc, ◌+◌, ◌<◌, true, List, ◌∷◌, refl, subst, arith}
 use Rattle.go_tokens.specs.declared.token.TokenKind.{TokenKind}
 use Rattle.go_grammar.specs.declared.kind.Category.{Category}
 use Rattle.go_grammar.specs.declared.kind.Category.TheVariants as category

@@ -11,23 +11,20 @@ use Rattle.go_grammar.specs.declared.kind.Sort.TheVariants as declaring
 use Rattle.go_grammar.specs.Trees.{Tree, node, Trees, none, more, skip, kind_of, first, last}
 use Rattle.go_tokens.specs.Tokens.{kinds}
 use Rattle.go_tree.specs.declared.context.Entity.TheVariants as entity
-use Rattle.go_tree.specs.Failures.{Failure}
 use Rattle.go_tree.specs.File.{FileTree}
-use Rattle.go_tree.specs.Uses.{UsesView}
 use Rattle.go_tree.specs.Views.{Tiles, view}
 use Rattle.go_types.specs.Relations.{Rights}
 use Rattle.go_typed.specs.Contents.{Content, FuncContent}
 use Rattle.go_rules.specs.declared.fault.TypeFault.{TypeFault}
 use Rattle.go_rules.specs.Faults.{judged, reported}
 use Rattle.go_rules.specs.Scopes.{Scope, free}
-use Rattle.go_rules.specs.Settling.{Part}
 use Rattle.go_stmts.specs.Bodies.{based, all_based, start, signature_of, function_read}
 use Rattle.go_stmts.specs.Reading.{Reading, read, reading}
-use Rattle.go_package.specs.Answer.{Environment, package_answer, specifications}
-use Rattle.go_package.specs.Bodies.{Behind, Functions, Surroundings, count_types, local_type, based_tree, behind_read, function_in, function_of, function_over, function_with, functions_from, is_this, placed, portion_of, scope_of, those_of, tree_read, typed_function, types_in, with_function}
-use Rattle.go_package.specs.Checked.{AreRead, IsChecked, IsRead, Typing, bodies_answer, content_of, files_answer, names_answer, names_of, sources_answer, surroundings_of}
+use Rattle.go_package.specs.Answer.{package_answer, specifications}
+use Rattle.go_package.specs.Bodies.{Behind, Functions, Surroundings, count_types, local_type, based_tree, behind_read, function_in, function_over, function_with, functions_from, is_this, placed, portion_of, scope_of, those_of, tree_read, typed_function, types_in, with_function}
+use Rattle.go_package.specs.Checked.{AreRead, IsChecked, Typing, bodies_answer, content_of, names_answer, names_of, sources_answer, surroundings_of}
 use Rattle.go_package.specs.Declarations.{Specification, declaration, declarations, declared, grouped, in_file, source_behind, specification_of}
-use Rattle.go_package.specs.Sources.{Package, Source, package_of, source_of, unit_of}
+use Rattle.go_package.specs.Sources.{Package, package_of, source_of, unit_of}
 use Rattle.window_places.proofs.Derived.{ahead, AreStatements, IsClause, Set, AllSet, derives-set}
 use Rattle.window_places.proofs.Nested.{Nested}
 use Rattle.window_places.proofs.Ranks.{all-both}

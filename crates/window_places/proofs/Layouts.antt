@@ -1,20 +1,19 @@
 -- Parts of statements lie one behind the other as they are laid out too.
-use Rattle.std.proofs.Common.{◌≡◌, ◌∙◌, ℕ, zero, suc, ◌<◌, ◌≤◌, inl, inr, Bool, true, false, if◌then◌else◌, List, [], ◌∷◌, ◌++◌, length, map, take, Option, Some, None, refl, sym, ap, subst, arith}
+use Rattle.std.proofs.Common.{◌≡◌, ℕ, zero, suc, ◌≤◌, inl, inr, Bool, true, false, if◌then◌else◌, [], ◌∷◌, ◌++◌, take, Option, Some, None, refl, sym, subst, arith}
 use Rattle.go_grammar.specs.declared.kind.Kind.{Kind}
 use Rattle.go_grammar.specs.declared.kind.Kind.TheVariants as kind
 use Rattle.go_grammar.specs.declared.kind.Sort.TheVariants as declaring
 use Rattle.go_types.specs.Trees.{TypeTree}
-use Rattle.go_typed.specs.declared.form.Form.{Form}
 use Rattle.go_typed.specs.declared.form.Form.TheVariants as form
 use Rattle.go_typed.specs.Forms.{is_statement_list, values_count}
-use Rattle.go_typed.specs.Trees.{Typed, typed, Typeds, none, more, skip, row, list_of, first_of, last_of, form_of, sort_of, parts_of}
+use Rattle.go_typed.specs.Trees.{typed, Typeds, none, more, skip, row, list_of, first_of, last_of, form_of, sort_of, parts_of}
 use Rattle.go_rules.specs.Settling.{Part}
-use Rattle.go_rules.specs.Tables.{Parts, is_held, held, all_held, is_type, leaf, cut, first_cut, behind_first}
+use Rattle.go_rules.specs.Tables.{Parts, is_held, held, all_held, is_type, leaf, first_cut, behind_first}
 use Rattle.go_stmts.specs.Frames.{Frame}
-use Rattle.go_stmts.specs.Laying.{type_name, is_values, typed_or_not, specification_parts, names_count, specified_names, all_names, is_group, specifications, header_parts, if_parts, switch_parts, loop_header, for_parts, without_absent, layout}
+use Rattle.go_stmts.specs.Laying.{is_values, typed_or_not, specification_parts, names_count, specified_names, all_names, is_group, specifications, header_parts, if_parts, switch_parts, loop_header, for_parts, without_absent, layout}
 use Rattle.go_stmts.specs.Reading.{is_statement}
-use Rattle.window_places.proofs.Nested.{choice, Flat, AllFlat, Nested, Within, Row, Listed, within-first, within-grows, within-last, within-nested, is-within, within-wider, row-flat, row-wider, same-row}
-use Rattle.window_places.proofs.Typings.{PartFlat, EachFlat, flat-row, flat-list, flat-parts, flat-behind, either-flat, held-flat, leaf-flat, declared-plain}
+use Rattle.window_places.proofs.Nested.{choice, Flat, Within, Row, Listed, within-first, within-grows, within-last, within-nested, is-within, within-wider, row-flat, row-wider, same-row}
+use Rattle.window_places.proofs.Typings.{EachFlat, flat-row, flat-list, flat-parts, held-flat, leaf-flat, declared-plain}
 
 -- the parts that have statement lists lie in the range, one behind the other
 abbrev pub Lie : ℕ → ℕ → Parts → Type 0

@@ -1,7 +1,6 @@
 -- Typed trees whose parts lie one behind the other: each statement behind the first token of its list, and behind the statement
 -- in front of it.
-use Rattle.std.proofs.Common.{◌≡◌, ◌∙◌, ℕ, zero, suc, ◌<◌, ◌≤◌, ◌⊎◌, inl, inr, Bool, true, false, List, [], ◌∷◌, Option, Some, None, refl, sym, ap, subst, arith}
-use Rattle.go_typed.specs.declared.form.Form.{Form}
+use Rattle.std.proofs.Common.{◌≡◌, ◌∙◌, ℕ, zero, suc, ◌<◌, ◌≤◌, ◌⊎◌, inl, inr, Bool, true, false, refl, sym, ap, subst, arith}
 use Rattle.go_typed.specs.Forms.{is_statement_list, values_count}
 use Rattle.go_typed.specs.Trees.{Label, Nothing, Typed, typed, Typeds, none, more, skip, first_of, last_of, mapped, all_mapped, row, list_of}
 

@@ -1,18 +1,17 @@
 -- The windows of all functions of a package, one function behind the other.
-use Rattle.std.proofs.Common.{◌≡◌, ◌∙◌, ℕ, suc, ◌+◌, ◌<◌, ◌≤◌, List, [], ◌∷◌, ◌++◌, map, Option, Some, None, slice_get, refl, sym, ap, subst, arith}
+use Rattle.std.proofs.Common.{◌≡◌, ◌∙◌, ℕ, suc, ◌+◌, ◌≤◌, List, [], ◌∷◌, map, Some, slice_get, refl, sym, ap, subst, arith}
 use Rattle.std.specs.List.{AllByRecursion}
-use Rattle.std.specs.declared.cmp.Ordering.TheVariants.{Less}
 use Rattle.go_types.specs.Tables.{type_of}
 use Rattle.go_types.specs.Trees.{TypeTree}
 use Rattle.type_tests.specs.Renaming.{renamed}
 use Rattle.go_typed.specs.declared.window.Window.{Window}
-use Rattle.go_typed.specs.Contents.{FuncContent, content, func_content, func_renamed}
+use Rattle.go_typed.specs.Contents.{FuncContent, func_content, func_renamed}
 use Rattle.go_typed.specs.Funcs.{FuncView, tree_of}
 use Rattle.go_typed.specs.Packages.{PackageView}
 use Rattle.go_typed.specs.Trees.{first_of, last_of, mapped}
 use Rattle.clone_window.specs.declared.bounds.Bounds.{Bounds}
 use Rattle.clone_window.specs.Windows.{window_statements, windows}
-use Rattle.clone_same.specs.Bodies.{Body, bodies_of, body_of, statements_at}
+use Rattle.clone_same.specs.Bodies.{Body, bodies_of, statements_at}
 use Rattle.clone_classes.specs.declared.place.Place.{Place}
 use Rattle.clone_classes.specs.Choices.{place_of, place_over}
 use Rattle.clone_classes.specs.Listing.{windows_of_all}

@@ -15,17 +15,17 @@ use Rattle.go_typed.specs.Trees.{Typed, typed, Typeds, none, more, skip, row, li
 use Rattle.go_typed.specs.Trees as sort
 use Rattle.go_rules.specs.declared.fault.TypeFault.{TypeFault}
 use Rattle.go_rules.specs.Scopes.{Hint, value}
-use Rattle.go_rules.specs.Settling.{Part, given}
+use Rattle.go_rules.specs.Settling.{Part}
 use Rattle.go_rules.specs.Tables.{Parts, is_held, held, all_held}
 use Rattle.go_rules.specs.Typing.{typing}
 use Rattle.go_stmts.specs.Frames.{Frame, Locals, scope_of, declared_type}
 use Rattle.go_stmts.specs.Laying.{told, layout, form_by, first_count, first_loop_form, loop_form, new_or_known, new_form, with_form, new_name}
 use Rattle.go_stmts.specs.Reading.{Found, Reading, read, Readings, all_read, is_list, is_declared_name, is_statement, list_node, name_node, holding, holdings, held_faults, beginning, entering, repeated, left_out, left_out_faults, after, closed, reading, readings}
 use Rattle.go_stmts.specs.Assigning.{Taking, takes, stands}
-use Rattle.go_stmts.specs.Rules.{taking, own_faults, given_part, given_optional, all_given, built_by}
+use Rattle.go_stmts.specs.Rules.{taking, own_faults, given_part, all_given, built_by}
 use Rattle.window_places.proofs.Derived.{ahead, AreStatements, IsClause, Set, AllSet, set-grows}
 use Rattle.window_places.proofs.Layouts.{Lie, layout-lie}
-use Rattle.window_places.proofs.Nested.{choice, Flat, AllFlat, Nested, Within, Row, Listed, within-first, within-grows, is-within, row-wider, row-looser, row-listed, row-skips, flat-nested, plain, shape, shapes, nested-alike}
+use Rattle.window_places.proofs.Nested.{choice, Flat, Nested, Row, Listed, within-first, within-grows, is-within, row-wider, row-looser, row-listed, row-skips, flat-nested, plain, shape, shapes, nested-alike}
 use Rattle.window_places.proofs.Typings.{PartFlat, EachFlat, flat-row, flat-behind, held-flat, all-held-flat, declared-plain, shape-given, typing-flat, typing-first, typing-last}
 
 -- ---- parts without statements

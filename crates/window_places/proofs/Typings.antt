@@ -18,7 +18,7 @@ use Rattle.go_rules.specs.Names.{object_form, declared_form, form_or_type, name_
 use Rattle.go_rules.specs.Scopes.{Scope, Hint, member, declares, free}
 use Rattle.go_rules.specs.Settling.{Part, Take, stay, default, as_type, settled, all_settled, defaulted, given}
 use Rattle.go_rules.specs.Sorts.{Stands, is_open, open_kind, retyped, default_type}
-use Rattle.go_rules.specs.Tables.{Parts, is_held, held, all_held, is_type, leaf, cut, first_cut, is_make_call, call_parts, has_no_low, bounds_of, bracketed_parts, is_package, selector_parts, behind_first, layout, callee_form, key_form, selector_form, bracketed_form, on_first, sort_by, form_by, takes, take_optional, all_given, made, own_faults, is_sound, built_by, built, hint, part_scope}
+use Rattle.go_rules.specs.Tables.{Parts, is_held, held, all_held, is_type, leaf, cut, first_cut, is_make_call, call_parts, has_no_low, bounds_of, bracketed_parts, is_package, selector_parts, behind_first, layout, callee_form, key_form, selector_form, bracketed_form, on_first, form_by, takes, take_optional, all_given, own_faults, is_sound, built_by, built, hint, part_scope}
 use Rattle.go_rules.specs.Typing.{typing, typings}
 use Rattle.window_places.proofs.Nested.{Flat, AllFlat, plain, shape, shapes, flat-alike}
 
