@@ -29,10 +29,10 @@ use Rattle.go_heads.proofs.Words.{words_same, texts_same, texts_length, texts_ap
 
 -- ---- a function, and its declaration without the body
 
-some_none : {A : Type 0} (x : A) → Some x ≡ None → ⊥
+pub some_none : {A : Type 0} (x : A) → Some x ≡ None → ⊥
 some_none x e = cc
 
-same_some : {A : Type 0} (x y : A) → Some x ≡ Some y → x ≡ y
+pub same_some : {A : Type 0} (x y : A) → Some x ≡ Some y → x ≡ y
 same_some x y e = cc
 
 count_kinds : (ts : List Token) → length (kinds ts) ≡ length ts

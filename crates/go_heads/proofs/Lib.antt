@@ -7,3 +7,5 @@ mod Carried
 mod Words
 mod Functions
 mod Numbers
+mod Decided
+mod Declarations

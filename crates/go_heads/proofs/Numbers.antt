@@ -62,7 +62,7 @@ module _ (ts : List TokenKind) (p : ℕ → Bool) where
 
   others_stand : (ps : Trees) → OthersSit ts p ps → AllStand (functions ps)
   others_stand none h = tt
-  others_stand (more d ds) h = subst (λ c. AllStand (if c then d ∷ functions ds else functions ds)) (sym h.0) (all_stand ds h.1)
+  others_stand (more d ds) h = subst (λ c. AllStand (if c then d ∷ functions ds else functions ds)) (sym h.0) (all_stand ds h.3)
   others_stand (skip ds) h = all_stand ds h
 
 -- ---- two by two

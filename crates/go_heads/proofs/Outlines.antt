@@ -224,12 +224,15 @@ module _ (ts : List TokenKind) (p : ℕ → Bool) where
   -- the declarations behind the imports, which are no function
   abbrev pub OthersSit : Trees → Type 0
   OthersSit none = Unit {0}
-  OthersSit (more d ds) = (is_function (kind_of d) ≡ false) × AllSit ds
+  OthersSit (more d ds) = (is_function (kind_of d) ≡ false) × InOrder d × Clear (first d) (last d) × AllSit ds
   OthersSit (skip ds) = AllSit ds
 
   file_sits : (ps : Trees) (i j : ℕ) → Clean i ps → Spells ts (rule (place_of category.File) kind.File) i ps j → OthersSit ps
   file_sits none i j c h = absurd h
-  file_sits (more d ds) i j c h = let f = imports_clean d ds i j c (words_order ts head_words i (first d) h.0) h.1 h.2 in (imports_plain ts d h.1, rows_sit ds (last d) j f.2 h.2)
+  file_sits (more d ds) i j c h =
+      let le : i ≤ first d = words_order ts head_words i (first d) h.0 in
+      let f = imports_clean d ds i j c le h.1 h.2 in
+      (imports_plain ts d h.1, derives_ordered ts d category.Imports h.1, λ n lo hi. f.0 n (omega (arith, lo, le)) hi, rows_sit ds (last d) j f.2 h.2)
   file_sits (skip ds) i j c h = rows_sit ds h.0 j (λ n lo. c n (omega (arith, lo, words_order ts head_words i h.0 h.1))) h.2
 
   file_stands : (ps : Trees) (i j : ℕ) → Clean i ps → Spells ts (rule (place_of category.File) kind.File) i ps j

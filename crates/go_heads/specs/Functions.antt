@@ -2,7 +2,7 @@
 use Rattle.std.specs.Prelude.{◌≡◌, ℕ, zero, suc, ◌-◌, true, List, [], ◌∷◌, ◌++◌, length, map, Option, Some, None, is_some, slice_get}
 use Rattle.std.specs.List.{AllByRecursion}
 use Rattle.go_grammar.specs.Grammar.{IsFile}
-use Rattle.go_grammar.specs.Trees.{Tree, first, last, parts}
+use Rattle.go_grammar.specs.Trees.{Tree, Trees, none, more, skip, first, last, parts}
 use Rattle.go_splice.specs.Places.{carry}
 use Rattle.go_tokens.specs.Tokens.{TokenList, kinds}
 use Rattle.go_tree.specs.Lists.{functions}
@@ -66,6 +66,15 @@ pub record IsTouched (old : Option (List File)) (new : List File) (n : ℕ) : Ty
   pub body : is_some (body_of function.tree) ≡ true
   pub other : (fs : List File) → old ≡ Some fs → heads fs ≡ heads new → body_there (slice_get (all_functions fs) n) ≡ body_texts function → ⊥
 
+-- The heads are the same, and so is the function of this number by itself, with its body.
+pub record IsUntouched (old new : List File) (n : ℕ) : Type 0 where
+  pub heads : heads old ≡ heads new
+  pub before : Function
+  pub after : Function
+  pub stood : slice_get (all_functions old) n ≡ Some before
+  pub stands : slice_get (all_functions new) n ≡ Some after
+  pub same : function_alone after ≡ function_alone before
+
 -- ---- what is kept
 
 -- The tokens outside the bodies have this tree.
@@ -85,3 +94,18 @@ AreRead fs = AllByRecursion IsRead fs
 
 abbrev pub outlines : List File → List Tree
 outlines fs = map (λ f. outline f.tree) fs
+
+-- ---- declarations
+
+-- the parts that are there, in order
+abbrev pub parts_there : Trees → List Tree
+parts_there none = []
+parts_there (more d ds) = d ∷ parts_there ds
+parts_there (skip ds) = parts_there ds
+
+-- the imports and the declarations of a file, each by itself and without its body
+abbrev pub declarations_in : File → List Alone
+declarations_in f = map (λ d. alone f.tokens (without_body d)) (parts_there (parts f.tree))
+
+abbrev pub all_declarations : List File → List (List Alone)
+all_declarations fs = map declarations_in fs
