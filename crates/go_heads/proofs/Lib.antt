@@ -1,0 +1,11 @@
+mod Counting
+mod Bodies
+mod Spellings
+mod Outlines
+mod Files
+mod Carried
+mod Words
+mod Functions
+mod Numbers
+mod Decided
+mod Declarations

@@ -1,0 +1,2 @@
+mod Specifications
+mod Portions
