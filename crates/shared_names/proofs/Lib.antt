@@ -1,0 +1,6 @@
+pub mod Mapped
+pub mod Paired
+pub mod Derived
+pub mod Fields
+pub mod Statements
+pub mod Packages
