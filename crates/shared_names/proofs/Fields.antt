@@ -1,12 +1,11 @@
 -- Trees that agree and say the same select fields of the same names.
-use Rattle.std.proofs.Common.{◌≡◌, ℕ, Bool, true, false, List, [], ◌∷◌, Option, Some, None, refl, sym, ap, subst, ◌∙◌}
+use Rattle.std.proofs.Common.{◌≡◌, ℕ, Bool, true, false, List, [], ◌∷◌, Option, None, refl, sym, ap, subst, ◌∙◌}
 use Rattle.std.specs.Prelude.{◌&&◌, ◌||◌, nat_eq, if◌then◌else◌}
 use Rattle.std.proofs.lemmas.Bool.{and_parts, and_from, eq-eqb}
 use Rattle.type_tests.specs.Identity.{same_name}
 use Rattle.go_types.specs.Trees.{TypeTree}
 use Rattle.go_types.specs.Relations.{Rights}
 use Rattle.go_typed.specs.declared.form.Form.{Form}
-use Rattle.go_typed.specs.Forms.{local_of}
 use Rattle.go_typed.specs.Trees.{Sort, Label, Typed, typed, Typeds, none, more, skip, sort_mapped, label_mapped, mapped, all_mapped}
 use Rattle.go_typed.specs.Trees as sort
 use Rattle.go_rules.specs.Sorts.{Stands, form_of_value}
@@ -17,7 +16,7 @@ use Rattle.clone_window.specs.Sameness.{compared, final, agree_besides, agree_at
 use Rattle.alpha_hash.specs.Alike.{same_field, fields_agree, all_fields_agree}
 use Rattle.alpha_hash.specs.Naming.{Naming, field_of}
 use Rattle.alpha_hash.specs.Words.{operand, names_field, field_name}
-use Rattle.shared_names.specs.Derived.{Names, first_derived, derived, element_type, told_by, IsOwn, IsDerived, AreDerived}
+use Rattle.shared_names.specs.Derived.{Names, element_type, told_by, IsDerived, AreDerived}
 use Rattle.shared_names.proofs.Mapped.{operand-mapped}
 use Rattle.shared_names.proofs.Paired.{Paired, Parts, three, outline-is, part-paired, node-paired}
 use Rattle.shared_names.proofs.Derived as same
@@ -26,9 +25,9 @@ same-list : (xs : List ℕ) → same_name xs xs ≡ true
 same-list [] = refl
 same-list (x ∷ xs) = and_from (nat_eq x x) (same_name xs xs) (eq-eqb x x refl) (same-list xs)
 
-told-if : (rights : Rights) (b : Bool) (s t : Stands) → (b ≡ true → s ≡ t) → (if b then element_type (form_of_value rights s) else None) ≡ (if b then element_type (form_of_value rights t) else None)
-told-if rights true s t h = ap (λ x. element_type (form_of_value rights x)) (h refl)
-told-if rights false s t h = refl
+told-if : (rights : Rights) (b : Bool) (rest : Option TypeTree) (s t : Stands) → (b ≡ true → s ≡ t) → (if b then element_type (form_of_value rights s) else rest) ≡ (if b then element_type (form_of_value rights t) else rest)
+told-if rights true rest s t h = ap (λ x. element_type (form_of_value rights x)) (h refl)
+told-if rights false rest s t h = refl
 
 -- A hole has no fields to tell.
 node-fields : (x y : Bool) (f k : Form) (s t : Sort ℕ) (parts rest : Bool) → agree_at nat_eq x y f k s t parts ≡ true →
@@ -100,14 +99,14 @@ module _ (g : ℕ → TypeTree) (rights : Rights) (objects : Outline → Stands)
         let literal : nat_eq (outline f).kind 41 ≡ true → sort_mapped g l.sort ≡ sort_mapped g r.sort = λ z.
         own.0.literal z a ∙ same.derived-same g rights objects here there R related a b told (typed f i j l ps) (typed k u v r qs) h paired ∙ sym (other.0.literal (kind 41 z) b) in
         let follows = field-follows (nat_eq (outline f).kind 36) (nat_eq (outline f).kind 51) s t (operand ps) (operand qs) (outline f).count selected (λ z. owner (own.0.key z)) in
-        let told-is : told_by rights (outline k) (sort_mapped g r.sort) ≡ told_by rights (outline f) (sort_mapped g l.sort) =
-        ap (λ (q : Outline). told_by rights q (sort_mapped g r.sort)) (sym o) ∙ sym (told-if rights (nat_eq (outline f).kind 41) (sort_mapped g l.sort) (sort_mapped g r.sort) literal) in
-        let there-is : AreDerived m (told_by rights (outline f) (sort_mapped g l.sort)) (nat_eq (outline f).kind 41) (all_mapped g qs) =
-        subst (λ (b : Bool). AreDerived m (told_by rights (outline f) (sort_mapped g l.sort)) b (all_mapped g qs)) (ap (λ (q : Outline). nat_eq q.kind 41) (sym o))
+        let told-is : told_by rights (outline k) told (sort_mapped g r.sort) ≡ told_by rights (outline f) told (sort_mapped g l.sort) =
+        ap (λ (q : Outline). told_by rights q told (sort_mapped g r.sort)) (sym o) ∙ sym (told-if rights (nat_eq (outline f).kind 41) (if nat_eq (outline f).kind 51 then told else None) (sort_mapped g l.sort) (sort_mapped g r.sort) literal) in
+        let there-is : AreDerived m (told_by rights (outline f) told (sort_mapped g l.sort)) (nat_eq (outline f).kind 41) (all_mapped g qs) =
+        subst (λ (b : Bool). AreDerived m (told_by rights (outline f) told (sort_mapped g l.sort)) b (all_mapped g qs)) (ap (λ (q : Outline). nat_eq q.kind 41) (sym o))
         (subst (λ (z : Option TypeTree). AreDerived m z (nat_eq (outline k).kind 41) (all_mapped g qs)) told-is other.1) in
         and_from field (all_fields_agree names others c d l.sort r.sort ps qs)
         (subst (λ (q : Outline). same_field (names_field (outline f)) (field_name names s (outline f) ps) (field_name others t q qs) ≡ true) o follows)
-        (all-fields-same c d (told_by rights (outline f) (sort_mapped g l.sort)) (nat_eq (outline f).kind 41) l.sort r.sort literal ps qs own.1 there-is e.third w.1))
+        (all-fields-same c d (told_by rights (outline f) told (sort_mapped g l.sort)) (nat_eq (outline f).kind 41) l.sort r.sort literal ps qs own.1 there-is e.third w.1))
 
     pub all-fields-same : (a b : Bool) (told : Option TypeTree) (keyed : Bool) (s t : Sort ℕ) → (keyed ≡ true → sort_mapped g s ≡ sort_mapped g t) → (ps qs : Typeds ℕ) →
         AreDerived n told keyed (all_mapped g ps) → AreDerived m told keyed (all_mapped g qs) → all_agree nat_eq a b ps qs ≡ true → Paired R (all_locals a ps) (all_locals b qs) →

@@ -1,28 +1,27 @@
 -- Windows of one package that are the same select fields of the same names.
-use Rattle.std.proofs.Common.{◌≡◌, ℕ, Bool, true, false, List, [], ◌∷◌, map, Option, Some, None, slice_get, refl, sym, ap, subst, ◌∙◌}
-use Rattle.std.specs.Prelude.{◌&&◌, nat_eq, if◌then◌else◌, unwrap_or}
+use Rattle.std.proofs.Common.{◌≡◌, ℕ, true, false, List, map, Option, Some, None, slice_get, refl, sym, ap, subst, ◌∙◌}
+use Rattle.std.specs.Prelude.{◌&&◌, nat_eq}
 use Rattle.std.specs.Option.{option_map}
-use Rattle.std.specs.List.{list_all, zip}
+use Rattle.std.specs.List.{list_all}
 use Rattle.std.proofs.lemmas.Bool.{and_parts, eqb-true}
 use Rattle.std.proofs.lemmas.Option.{slice_get-map}
 use Rattle.go_types.specs.Tables.{type_of, rights_of}
 use Rattle.go_types.specs.Trees.{TypeTree}
 use Rattle.type_tests.specs.Tests.{underlying_of}
 use Rattle.go_typed.specs.declared.window.Window.{Window}
-use Rattle.go_typed.specs.Contents.{Content, FuncContent, func_content, content}
+use Rattle.go_typed.specs.Contents.{func_content, content}
 use Rattle.go_typed.specs.Funcs.{FuncView, tree_of}
 use Rattle.go_typed.specs.Packages.{PackageView}
 use Rattle.go_typed.specs.Trees.{Sort, Typed, Typeds, sort_mapped, mapped, all_mapped}
 use Rattle.go_typed.specs.Trees as sort
 use Rattle.go_print.specs.Printed.{printed}
 use Rattle.clone_window.specs.declared.outline.Outline.{Outline}
-use Rattle.clone_window.specs.Windows.{window_statements}
-use Rattle.clone_window.specs.Sameness.{all_agree, all_locals, local_pairs, is_one_to_one, sort_at, is_matched, is_same}
+use Rattle.clone_window.specs.Sameness.{all_agree, all_locals, local_pairs, is_one_to_one, sort_at, is_matched}
 use Rattle.clone_window.proofs.Equivalence.{all-as-many}
-use Rattle.clone_same.specs.Bodies.{Body, body_of, bodies_of, locals_in, statements_at, are_same}
-use Rattle.alpha_hash.specs.Packages.{field_in, object_text, statements_in, window_naming}
-use Rattle.alpha_hash.specs.Sharing.{fields_between, FieldsFollow, ShareNames}
-use Rattle.shared_names.specs.Derived.{Names, variable_type, object_stands, names_in, AreDerived, IsDerived, HasDerivedTypes}
+use Rattle.clone_same.specs.Bodies.{Body, body_of, bodies_of, locals_in, statements_at}
+use Rattle.alpha_hash.specs.Packages.{field_in, statements_in, window_naming}
+use Rattle.alpha_hash.specs.Sharing.{FieldsFollow, ShareNames}
+use Rattle.shared_names.specs.Derived.{Names, variable_type, object_stands, AreDerived, HasDerivedTypes}
 use Rattle.shared_names.proofs.Derived.{variables-are, local-mapped}
 use Rattle.shared_names.proofs.Fields.{all-fields-same}
 use Rattle.shared_names.proofs.Paired.{are_pair, found-passes, paired-rows}

@@ -1,15 +1,15 @@
 -- Locals at corresponding places of trees that agree.
-use Rattle.std.proofs.Common.{◌≡◌, ℕ, Bool, true, false, List, [], ◌∷◌, ◌++◌, length, slice_get, refl, sym, ap, subst, ◌∙◌, arith, length-append}
+use Rattle.std.proofs.Common.{◌≡◌, ℕ, Bool, true, false, List, [], ◌∷◌, ◌++◌, length, refl, sym, ap, subst, ◌∙◌, arith, length-append}
 use Rattle.std.specs.Prelude.{◌&&◌, ◌||◌, nat_eq, if◌then◌else◌}
 use Rattle.std.specs.List.{list_all, list_any, zip}
 use Rattle.std.specs.Option.{option_to_list}
 use Rattle.std.proofs.lemmas.Bool.{and_parts, and_from, eqb-true, eq-eqb}
 use Rattle.go_typed.specs.declared.form.Form.{Form}
 use Rattle.go_typed.specs.Forms.{local_of}
-use Rattle.go_typed.specs.Trees.{Sort, Typed, Typeds, none, more}
+use Rattle.go_typed.specs.Trees.{Typed, Typeds, none, more}
 use Rattle.clone_window.specs.declared.outline.Outline.{Outline}
 use Rattle.clone_window.specs.Kinds.{outline}
-use Rattle.clone_window.specs.Sameness.{same_outline, agree, all_agree, locals, all_locals}
+use Rattle.clone_window.specs.Sameness.{same_outline, agree, locals, all_locals}
 use Rattle.clone_window.proofs.Equivalence.{as-many-here, all-as-many}
 
 -- the locals of two rows are related one by one

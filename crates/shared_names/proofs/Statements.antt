@@ -1,13 +1,13 @@
 -- The statements of windows of trees that say the same.
-use Rattle.std.proofs.Common.{◌≡◌, ℕ, zero, suc, Bool, true, false, List, [], ◌∷◌, ◌++◌, map, take, drop, Option, Some, None, slice_get, refl, sym, ap, subst, ◌∙◌}
-use Rattle.std.specs.Prelude.{nat_eq, if◌then◌else◌}
+use Rattle.std.proofs.Common.{ℕ, zero, suc, Bool, false, List, [], ◌∷◌, ◌++◌, take, drop, Option, None, slice_get}
+use Rattle.std.specs.Prelude.{nat_eq}
 use Rattle.std.specs.List.{AllByRecursion}
 use Rattle.go_types.specs.Trees.{TypeTree}
 use Rattle.go_typed.specs.declared.form.Form.{Form}
 use Rattle.go_typed.specs.declared.form.Form.TheVariants as form
 use Rattle.go_typed.specs.declared.window.Window.{Window}
-use Rattle.go_typed.specs.Forms.{is_statement_list, values_count}
-use Rattle.go_typed.specs.Lists.{own_list, statement_lists, lists_among, present, statements_of}
+use Rattle.go_typed.specs.Forms.{values_count}
+use Rattle.go_typed.specs.Lists.{own_list, statement_lists, lists_among, present}
 use Rattle.go_typed.specs.Trees.{Label, Typed, typed, Typeds, none, more, skip, parts_of, sort_mapped, mapped, all_mapped}
 use Rattle.clone_window.specs.Kinds.{outline}
 use Rattle.clone_window.specs.Windows.{row_of, statements_in, window_statements}
@@ -24,17 +24,17 @@ module _ (g : ℕ → TypeTree) (n : Names) where
   both [] ys h k = k
   both (x ∷ xs) ys h k = (h.0, both xs ys h.1 k)
 
-  own : (f : Form) (i j : ℕ) (l : Label ℕ) (ps : Typeds ℕ) → AreDerived n (told_by n.rights (outline f) (sort_mapped g l.sort)) (nat_eq (outline f).kind 41) (all_mapped g ps) →
+  own : (told : Option TypeTree) (f : Form) (i j : ℕ) (l : Label ℕ) (ps : Typeds ℕ) → AreDerived n (told_by n.rights (outline f) told (sort_mapped g l.sort)) (nat_eq (outline f).kind 41) (all_mapped g ps) →
       AllByRecursion Statements (own_list (typed f i j l ps))
-  own form.Block i j l ps h = (h, tt)
-  own (form.Case k) i j l ps h = (h, tt)
-  own form.Default i j l ps h = (h, tt)
-  own f i j l ps h = tt
+  own told form.Block i j l ps h = (h, tt)
+  own told (form.Case k) i j l ps h = (h, tt)
+  own told form.Default i j l ps h = (h, tt)
+  own told f i j l ps h = tt
 
   mutual
     lists : (told : Option TypeTree) (keyed : Bool) (x : Typed ℕ) → IsDerived n told keyed (mapped g x) → AllByRecursion Statements (statement_lists x)
     lists told keyed (typed f i j l ps) h =
-        both (own_list (typed f i j l ps)) (lists_among ps) (own f i j l ps h.1) (lists-among (told_by n.rights (outline f) (sort_mapped g l.sort)) (nat_eq (outline f).kind 41) ps h.1)
+        both (own_list (typed f i j l ps)) (lists_among ps) (own told f i j l ps h.1) (lists-among (told_by n.rights (outline f) told (sort_mapped g l.sort)) (nat_eq (outline f).kind 41) ps h.1)
 
     lists-among : (told : Option TypeTree) (keyed : Bool) (ps : Typeds ℕ) → AreDerived n told keyed (all_mapped g ps) → AllByRecursion Statements (lists_among ps)
     lists-among told keyed none h = tt

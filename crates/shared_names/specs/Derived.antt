@@ -8,7 +8,7 @@ use Rattle.go_typed.specs.Contents.{Content, FuncContent}
 use Rattle.go_typed.specs.Forms.{local_of}
 use Rattle.go_typed.specs.Trees.{Typed, typed, Typeds, none, more, skip}
 use Rattle.go_typed.specs.Trees as sort
-use Rattle.go_rules.specs.Sorts.{Stands, own_type, named_type, form_of_value, element_of, underlying_in}
+use Rattle.go_rules.specs.Sorts.{Stands, own_type, named_type, form_of_value, element_of}
 use Rattle.go_rules.specs.Settling.{Part}
 use Rattle.go_rules.specs.Indexes.{field_type, value_or_unknown}
 use Rattle.go_rules.specs.Calls.{function_call_sort}
@@ -124,9 +124,9 @@ element_type (Some (array n t)) = Some t
 element_type (Some (slice t)) = Some t
 element_type u = None
 
--- the type that the elements of a composite literal are told which have none of their own
-abbrev pub told_by : Rights → Outline → Stands → Option TypeTree
-told_by rights o s = if nat_eq o.kind 41 then element_type (form_of_value rights s) else None
+-- the type that the elements of a composite literal are told which have none of their own; behind a key it is told on
+abbrev pub told_by : Rights → Outline → Option TypeTree → Stands → Option TypeTree
+told_by rights o told s = if nat_eq o.kind 41 then element_type (form_of_value rights s) else if nat_eq o.kind 51 then told else None
 
 -- An operand of a selector and a composite literal stand for what their parts say, and keys stand in composite literals alone.
 pub record IsOwn (n : Names) (told : Option TypeTree) (keyed : Bool) (o : Outline) (x : Part) (ps : Typeds TypeTree) : Type 0 where
@@ -138,7 +138,7 @@ abbrev mutual
   -- It is so of all nodes of a tree, which is told a type and may be a key.
   pub IsDerived : Names → Option TypeTree → Bool → Part → Type 0
   IsDerived n told keyed (typed f i j l ps) =
-      IsOwn n told keyed (outline f) (typed f i j l ps) ps × AreDerived n (told_by n.rights (outline f) l.sort) (nat_eq (outline f).kind 41) ps
+      IsOwn n told keyed (outline f) (typed f i j l ps) ps × AreDerived n (told_by n.rights (outline f) told l.sort) (nat_eq (outline f).kind 41) ps
 
   pub AreDerived : Names → Option TypeTree → Bool → Typeds TypeTree → Type 0
   AreDerived n told keyed none = Unit {0}
