@@ -4,3 +4,5 @@ pub mod Derived
 pub mod Fields
 pub mod Statements
 pub mod Packages
+pub mod Settled
+pub mod Renamed

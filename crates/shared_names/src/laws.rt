@@ -1,12 +1,24 @@
 //! Laws of the names that windows share.
 
-ghost use Rattle.std.specs.Prelude.{nat_eq};
-ghost use Rattle.go_typed.specs.Contents.{content};
+ghost use Rattle.std.specs.Prelude.{◌≡◌, Bool, Option, nat_eq};
+ghost use Rattle.go_types.specs.Trees.{TypeTree};
+ghost use Rattle.go_typed.specs.Contents.{Content, IsPackageOf, content};
 ghost use Rattle.go_typed.specs.Packages.{PackageView as Package};
+ghost use Rattle.go_rules.specs.Settling.{Part, Take, given};
 ghost use Rattle.alpha_hash.specs.Sharing.{ShareNames};
-ghost use Rattle.shared_names.specs.Derived.{HasDerivedTypes};
+ghost use Rattle.shared_names.specs.Derived.{HasDerivedTypes, Names, derived};
 
 /// Windows of one package that are the same select fields of the same names, where what operands stand for follows from their parts.
 pub fn names_of_one_package_are_shared()
     ensures { (p : Package) → HasDerivedTypes (content p) → ShareNames nat_eq p p }
+{}
+
+/// What operands stand for follows from their parts in every package that differs from such a one in the numbers of declared types alone.
+pub fn renamed_packages_say_the_same()
+    ensures { (c d : Content) → IsPackageOf c d → HasDerivedTypes c → HasDerivedTypes d }
+{}
+
+/// What an expression takes of its place changes nothing of what it stands for by its parts.
+pub fn what_takes_a_type_says_the_same()
+    ensures { (n : Names) (inside : Bool) (told : Option TypeTree) (take : Take) (x : Part) → derived n inside told (given take x) ≡ derived n inside told x }
 {}
