@@ -6,3 +6,4 @@ pub mod Statements
 pub mod Packages
 pub mod Settled
 pub mod Renamed
+pub mod Rules

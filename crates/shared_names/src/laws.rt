@@ -2,11 +2,13 @@
 
 ghost use Rattle.std.specs.Prelude.{◌≡◌, Bool, Option, nat_eq};
 ghost use Rattle.go_types.specs.Trees.{TypeTree};
+ghost use Rattle.go_types.specs.Relations.{Rights};
 ghost use Rattle.go_typed.specs.Contents.{Content, IsPackageOf, content};
 ghost use Rattle.go_typed.specs.Packages.{PackageView as Package};
 ghost use Rattle.go_rules.specs.Settling.{Part, Take, given};
 ghost use Rattle.alpha_hash.specs.Sharing.{ShareNames};
 ghost use Rattle.shared_names.specs.Derived.{HasDerivedTypes, Names, derived};
+ghost use Rattle.shared_names.specs.Rules.{FollowsFromParts};
 
 /// Windows of one package that are the same select fields of the same names, where what operands stand for follows from their parts.
 pub fn names_of_one_package_are_shared()
@@ -21,4 +23,9 @@ pub fn renamed_packages_say_the_same()
 /// What an expression takes of its place changes nothing of what it stands for by its parts.
 pub fn what_takes_a_type_says_the_same()
     ensures { (n : Names) (inside : Bool) (told : Option TypeTree) (take : Take) (x : Part) → derived n inside told (given take x) ≡ derived n inside told x }
+{}
+
+/// Under the rules of typing nodes stand for what their parts say, where these do.
+pub fn nodes_follow_from_their_parts()
+    ensures { (rights : Rights) → FollowsFromParts rights }
 {}
