@@ -3,17 +3,15 @@ use Rattle.std.proofs.Common.{◌≡◌, ℕ, zero, suc, Bool, true, false, List
 use Rattle.std.specs.Prelude.{nat_eq, if◌then◌else◌, unwrap_or}
 use Rattle.std.specs.Option.{option_map}
 use Rattle.std.proofs.lemmas.Option.{slice_get-map, same_Some}
-use Rattle.go_tree.specs.declared.object.Predeclared.{Predeclared}
 use Rattle.go_tree.specs.declared.object.Predeclared.TheVariants as predeclared
 use Rattle.go_types.specs.Trees.{TypeTree, array, slice, structure, function, TypeRow}
 use Rattle.go_types.specs.Trees as types
-use Rattle.go_types.specs.Relations.{Rights}
 use Rattle.type_tests.specs.Renaming.{renamed, renamed_row, AreRenamed}
 use Rattle.type_tests.specs.Tests.{underlying_of}
 use Rattle.type_tests.proofs.Renaming.{underlying_renamed}
 use Rattle.go_typed.specs.declared.form.Form.{Form}
 use Rattle.go_typed.specs.declared.form.Referent.{Referent}
-use Rattle.go_typed.specs.Contents.{Content, FuncContent, func_renamed, IsRenamed, IsPackageOf}
+use Rattle.go_typed.specs.Contents.{Content, FuncContent, func_renamed, IsPackageOf}
 use Rattle.go_typed.specs.Forms.{local_of}
 use Rattle.go_typed.specs.Trees.{Label, Typed, typed, Typeds, none, more, skip, sort_of, sort_mapped, label_mapped, mapped, all_mapped}
 use Rattle.go_typed.specs.Trees as sort
@@ -26,8 +24,7 @@ use Rattle.clone_window.specs.declared.outline.Outline.{Outline}
 use Rattle.clone_window.specs.Kinds.{outline, predeclared_number, referent_outline}
 use Rattle.clone_window.specs.Masses.{is_hole, is_inside}
 use Rattle.clone_window.specs.Sameness.{Compared, by_form, by_sort, by_literal, compared, same_outline, sort_at}
-use Rattle.alpha_hash.specs.Words.{operand}
-use Rattle.shared_names.specs.Derived.{Names, variable_type, local_type, package_stands, universe_stands, object_stands, names_in, written, own_or_told, called, expression, by_parts, derived, first_derived, second_derived, next_derived, element_type, told_by, IsOwn, IsDerived, AreDerived, HasDerivedTypes}
+use Rattle.shared_names.specs.Derived.{Names, variable_type, local_type, package_stands, universe_stands, object_stands, names_in, written, own_or_told, called, expression, by_parts, derived, first_derived, second_derived, next_derived, element_type, told_by, IsDerived, AreDerived, HasDerivedTypes}
 use Rattle.shared_names.proofs.Mapped.{hole-mapped, inside-mapped, operand-mapped}
 
 -- ---- what stands for renamed types
