@@ -7,3 +7,4 @@ pub mod Packages
 pub mod Settled
 pub mod Renamed
 pub mod Rules
+pub mod Objects

@@ -1,13 +1,17 @@
 //! Laws of the names that windows share.
 
-ghost use Rattle.std.specs.Prelude.{◌≡◌, Bool, Option, nat_eq};
+ghost use Rattle.std.specs.Prelude.{◌≡◌, ℕ, Bool, List, Option, Some, nat_eq, slice_get};
 ghost use Rattle.go_types.specs.Trees.{TypeTree};
 ghost use Rattle.go_types.specs.Relations.{Rights};
 ghost use Rattle.go_typed.specs.Contents.{Content, IsPackageOf, content};
-ghost use Rattle.go_typed.specs.Packages.{PackageView as Package};
+ghost use Rattle.go_tree.specs.declared.object.Declared.{Declared};
+ghost use Rattle.go_typed.specs.declared.form.Referent.{Referent as Named};
+ghost use Rattle.go_typed.specs.Packages.{PackageView as Package, referents};
+ghost use Rattle.clone_window.specs.Kinds.{referent_outline};
+ghost use Rattle.go_rules.specs.Sorts.{Stands};
 ghost use Rattle.go_rules.specs.Settling.{Part, Take, given};
 ghost use Rattle.alpha_hash.specs.Sharing.{ShareNames};
-ghost use Rattle.shared_names.specs.Derived.{HasDerivedTypes, Names, derived};
+ghost use Rattle.shared_names.specs.Derived.{HasDerivedTypes, Names, derived, object_stands};
 ghost use Rattle.shared_names.specs.Rules.{FollowsFromParts};
 
 /// Windows of one package that are the same select fields of the same names, where what operands stand for follows from their parts.
@@ -28,4 +32,10 @@ pub fn what_takes_a_type_says_the_same()
 /// Under the rules of typing nodes stand for what their parts say, where these do.
 pub fn nodes_follow_from_their_parts()
     ensures { (rights : Rights) → FollowsFromParts rights }
+{}
+
+/// What an object of a package stands for is what its name says: no two objects show the same.
+pub fn objects_stand_under_their_names()
+    ensures { (ds : List Declared) (ss : List Stands) (k : ℕ) (r : Named) (s : Stands) → slice_get (referents ds) k ≡ Some r → slice_get ss k ≡ Some s
+        → object_stands (referents ds) ss (referent_outline r) ≡ s }
 {}
