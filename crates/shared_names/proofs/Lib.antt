@@ -8,3 +8,4 @@ pub mod Settled
 pub mod Renamed
 pub mod Rules
 pub mod Objects
+pub mod Nodes

@@ -1,2 +1,3 @@
 pub mod Derived
 pub mod Rules
+pub mod Nodes

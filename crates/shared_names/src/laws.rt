@@ -9,9 +9,11 @@ ghost use Rattle.go_typed.specs.declared.form.Referent.{Referent as Named};
 ghost use Rattle.go_typed.specs.Packages.{PackageView as Package, referents};
 ghost use Rattle.clone_window.specs.Kinds.{referent_outline};
 ghost use Rattle.go_rules.specs.Sorts.{Stands};
+ghost use Rattle.go_rules.specs.Scopes.{Scope};
 ghost use Rattle.go_rules.specs.Settling.{Part, Take, given};
 ghost use Rattle.alpha_hash.specs.Sharing.{ShareNames};
 ghost use Rattle.shared_names.specs.Derived.{HasDerivedTypes, Names, derived, object_stands};
+ghost use Rattle.shared_names.specs.Nodes.{NodesTell};
 ghost use Rattle.shared_names.specs.Rules.{FollowsFromParts};
 
 /// Windows of one package that are the same select fields of the same names, where what operands stand for follows from their parts.
@@ -38,4 +40,9 @@ pub fn nodes_follow_from_their_parts()
 pub fn objects_stand_under_their_names()
     ensures { (ds : List Declared) (ss : List Stands) (k : ℕ) (r : Named) (s : Stands) → slice_get (referents ds) k ≡ Some r → slice_get ss k ≡ Some s
         → object_stands (referents ds) ss (referent_outline r) ≡ s }
+{}
+
+/// Typed nodes over parts that tell what they stand for tell what they stand for, in any scope, whatever the parts take.
+pub fn typed_nodes_tell_what_they_stand_for()
+    ensures { (s : Scope) → NodesTell s }
 {}
