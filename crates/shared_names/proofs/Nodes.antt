@@ -1,30 +1,27 @@
 -- Typed nodes over parts that tell what they stand for.
-use Rattle.std.proofs.Common.{◌≡◌, ℕ, ◌-◌, Bool, true, false, List, [], ◌∷◌, Option, Some, None, refl, sym, ap, subst, ◌∙◌}
-use Rattle.std.specs.Prelude.{◌&&◌, ◌||◌, not, if◌then◌else◌, unwrap_or}
+use Rattle.std.proofs.Common.{◌≡◌, ℕ, ◌-◌, Bool, true, false, List, [], ◌∷◌, Option, Some, None, refl, ap, ◌∙◌}
+use Rattle.std.specs.Prelude.{◌&&◌, not, if◌then◌else◌, unwrap_or}
 use Rattle.go_grammar.specs.declared.kind.Kind.{Kind}
 use Rattle.go_grammar.specs.declared.kind.Kind.TheVariants as kind
-use Rattle.go_tree.specs.declared.object.Predeclared.TheVariants as predeclared
 use Rattle.go_types.specs.Trees.{TypeTree}
 use Rattle.go_types.specs.Relations.{Rights}
 use Rattle.type_tests.specs.Tests.{underlying_of}
 use Rattle.go_typed.specs.declared.form.Form.{Form}
-use Rattle.go_typed.specs.declared.form.Form.TheVariants as form
 use Rattle.go_typed.specs.Forms.{local_of}
 use Rattle.go_typed.specs.Trees.{Label, typed, Typeds, row, sort_of}
 use Rattle.go_typed.specs.Trees as sort
 use Rattle.go_rules.specs.Calls.{call_sort, call_takes}
-use Rattle.go_rules.specs.Indexes.{field_number, field_type, numbered_type, value_or_unknown, selector_sort, index_sort, slice_sort}
-use Rattle.go_rules.specs.Literals.{literal_sort, literal_takes}
+use Rattle.go_rules.specs.Indexes.{field_number, field_type, numbered_type, value_or_unknown, selector_sort}
 use Rattle.go_rules.specs.Scopes.{Scope, Hint}
-use Rattle.go_rules.specs.Settling.{Part, Take, stay, default, as_type, given}
-use Rattle.go_rules.specs.Sorts.{Stands, int, named_type, form_of_value, element_of}
-use Rattle.go_rules.specs.Tables.{Parts, present, told_type, literal_type, callee_form, label, all_given, form_by, sort_by, takes, made}
+use Rattle.go_rules.specs.Settling.{Part, Take, default, given}
+use Rattle.go_rules.specs.Sorts.{Stands, form_of_value}
+use Rattle.go_rules.specs.Tables.{Parts, present, told_type, callee_form, label, all_given, form_by, sort_by, takes, made}
 use Rattle.clone_window.specs.declared.outline.Outline.{Outline}
 use Rattle.clone_window.specs.Kinds.{outline}
 use Rattle.clone_window.specs.Masses.{is_constant, is_expression, is_hole, is_inside}
 use Rattle.clone_window.specs.Sameness.{compared}
-use Rattle.shared_names.specs.Derived.{Names, local_type, own_or_told, by_parts, derived, first_derived, second_derived, next_derived}
-use Rattle.shared_names.specs.Nodes.{NodeTells, EachTells, IsOperand, names_of, node_over, NodesTell}
+use Rattle.shared_names.specs.Derived.{Names, local_type, by_parts, derived, first_derived, second_derived, next_derived}
+use Rattle.shared_names.specs.Nodes.{NodeTells, EachTells, names_of, node_over, NodesTell}
 use Rattle.shared_names.specs.Rules.{is_useful, IsBasic, Tells, TellsFirst, FollowsFromParts}
 use Rattle.shared_names.proofs.Rules.{follows}
 use Rattle.shared_names.proofs.Settled.{given-derived}

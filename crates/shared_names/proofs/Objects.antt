@@ -1,5 +1,5 @@
 -- Objects of a package have numbers of their own, so what an object stands for is found under its number.
-use Rattle.std.proofs.Common.{◌≡◌, ℕ, zero, suc, ◌≤◌, ◌<◌, Bool, true, false, List, [], ◌∷◌, Option, Some, None, slice_get, refl, sym, ap, subst, ◌∙◌, arith}
+use Rattle.std.proofs.Common.{◌≡◌, ℕ, zero, suc, ◌≤◌, ◌<◌, Bool, true, false, List, [], ◌∷◌, Some, slice_get, refl, ap, subst, ◌∙◌, arith}
 use Rattle.std.specs.Prelude.{◌&&◌, nat_eq, if◌then◌else◌}
 use Rattle.std.proofs.lemmas.Bool.{and_from, eqb-true, eq-eqb}
 use Rattle.std.proofs.lemmas.Option.{same_Some}
