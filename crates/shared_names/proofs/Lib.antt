@@ -9,3 +9,5 @@ pub mod Renamed
 pub mod Rules
 pub mod Objects
 pub mod Nodes
+pub mod Plain
+pub mod Constants

@@ -14,6 +14,7 @@ ghost use Rattle.go_rules.specs.Settling.{Part, Take, given};
 ghost use Rattle.alpha_hash.specs.Sharing.{ShareNames};
 ghost use Rattle.shared_names.specs.Derived.{HasDerivedTypes, Names, derived, object_stands};
 ghost use Rattle.shared_names.specs.Nodes.{NodesTell};
+ghost use Rattle.shared_names.specs.Plain.{CallsAreBasic, OperatorsArePlain};
 ghost use Rattle.shared_names.specs.Rules.{FollowsFromParts};
 
 /// Windows of one package that are the same select fields of the same names, where what operands stand for follows from their parts.
@@ -45,4 +46,14 @@ pub fn objects_stand_under_their_names()
 /// Typed nodes over parts that tell what they stand for tell what they stand for, in any scope, whatever the parts take.
 pub fn typed_nodes_tell_what_they_stand_for()
     ensures { (s : Scope) → NodesTell s }
+{}
+
+/// Where no rule fails operators give values and constants of basic types, of which no further types follow.
+pub fn operators_give_basic_values()
+    ensures { (rights : Rights) → OperatorsArePlain rights }
+{}
+
+/// Constants that calls and conversions give are of basic types.
+pub fn calls_give_basic_constants()
+    ensures { (rights : Rights) → CallsAreBasic rights }
 {}
