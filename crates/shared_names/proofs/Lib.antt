@@ -1,0 +1,13 @@
+pub mod Mapped
+pub mod Paired
+pub mod Derived
+pub mod Fields
+pub mod Statements
+pub mod Packages
+pub mod Settled
+pub mod Renamed
+pub mod Rules
+pub mod Objects
+pub mod Nodes
+pub mod Plain
+pub mod Constants

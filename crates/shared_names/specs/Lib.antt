@@ -1,0 +1,4 @@
+pub mod Derived
+pub mod Rules
+pub mod Nodes
+pub mod Plain
