@@ -2,4 +2,5 @@ pub mod Assigned
 pub mod Judged
 pub mod Needs
 pub mod Rounds
+pub mod Stages
 pub mod Through

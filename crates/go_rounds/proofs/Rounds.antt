@@ -57,7 +57,7 @@ full_is x e = refl
 -- ---- states by their numbers
 
 module _ (p : Package) (os : List Outline) (ss : List State) where
-  at_next : (m n i : ℕ) (xs : List Outline) (x : Outline) → slice_get xs n ≡ Some x → i ≡ m + n
+  pub at_next : (m n i : ℕ) (xs : List Outline) (x : Outline) → slice_get xs n ≡ Some x → i ≡ m + n
       → slice_get (next_states p os ss m xs) n ≡ Some (state_by x.specification.entity p os ss i x.specification x.column)
   at_next m n i [] x e q = cc
   at_next m zero i (y ∷ xs) x e q =
@@ -66,7 +66,7 @@ module _ (p : Package) (os : List Outline) (ss : List State) where
       ∙ ap (λ l. Some (state_by x.specification.entity p os ss l x.specification x.column)) (sym h)
   at_next m (suc n) i (y ∷ xs) x e q = at_next (suc m) n i xs x e (let h : i ≡ suc m + n = omega (arith, q) in h)
 
-  next_length : (m : ℕ) (xs : List Outline) → length (next_states p os ss m xs) ≡ length xs
+  pub next_length : (m : ℕ) (xs : List Outline) → length (next_states p os ss m xs) ≡ length xs
   next_length m [] = refl
   next_length m (x ∷ xs) = ap suc (next_length (suc m) xs)
 
