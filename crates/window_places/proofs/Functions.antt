@@ -15,6 +15,7 @@ use Rattle.go_tree.specs.File.{FileTree}
 use Rattle.go_tree.specs.Views.{Tiles, view}
 use Rattle.go_types.specs.Relations.{Rights}
 use Rattle.go_typed.specs.Contents.{Content, FuncContent}
+use Rattle.go_typed.specs.Trees.{last_of}
 use Rattle.go_rules.specs.declared.fault.TypeFault.{TypeFault}
 use Rattle.go_rules.specs.Faults.{judged, reported}
 use Rattle.go_rules.specs.Scopes.{Scope, free}
@@ -35,7 +36,7 @@ use Rattle.window_places.proofs.Readings.{Fine, reading-fine}
 based-first : (b : ℕ) (t : Tree) → first (based b t) ≡ first t - b
 based-first b (node k i j ps) = refl
 
-based-last : (b : ℕ) (t : Tree) → last (based b t) ≡ last t - b
+pub based-last : (b : ℕ) (t : Tree) → last (based b t) ≡ last t - b
 based-last b (node k i j ps) = refl
 
 based-kind : (b : ℕ) (t : Tree) → kind_of (based b t) ≡ kind_of t
@@ -58,7 +59,7 @@ based-clause b kind.Case (skip ps) h = absurd h
 based-clause b k ps h = tt
 
 mutual
-  based-set : (b : ℕ) (t : Tree) → b ≤ first t → Set t → Set (based b t)
+  pub based-set : (b : ℕ) (t : Tree) → b ≤ first t → Set t → Set (based b t)
   based-set b (node k i j ps) h s =
       let e : i + ahead k - b ≡ i - b + ahead k = omega (arith, h) in
       (omega (arith, h, s.0), subst (λ m. Tiles m (j - b) (all_based b ps)) e (based-tiles b (i + ahead k) j ps (omega (arith, h)) s.1), based-clause b k ps s.2, all-based-set b (i + ahead k) j ps (omega (arith, h)) s.1 s.3)
@@ -80,13 +81,13 @@ pub record IsNode (d : Specification) : Type 0 where
 fine-tree : (k : Kind) (i j : ℕ) (r : Reading) → Fine k i j r → Nested (tree_read r)
 fine-tree k i j (read x fs f) h = h.2
 
-abbrev ok : (A E : Type 0) → A → Result A E
+abbrev pub ok : (A E : Type 0) → A → Result A E
 ok A E x = Ok x
 
-same-ok : {A E : Type 0} (x y : A) → ok A E x ≡ Ok y → x ≡ y
+pub same-ok : {A E : Type 0} (x y : A) → ok A E x ≡ Ok y → x ≡ y
 same-ok x y e = cc
 
-behind-tree : (s : Scope) (n : ℕ) (t : Tree) (r : Reading) (b : Behind) → behind_read s n t r ≡ Ok b → tree_read r ≡ b.function.tree
+pub behind-tree : (s : Scope) (n : ℕ) (t : Tree) (r : Reading) (b : Behind) → behind_read s n t r ≡ Ok b → tree_read r ≡ b.function.tree
 behind-tree s n t (read x fs f) b e = by (reported fs) e where
   by : (o : Option TypeFault) → judged o (let it : Behind = record { function = function_read s n (last t) (signature_of s t) x f; rights = f.around.rights } in it) ≡ Ok b → x ≡ b.function.tree
   by None h = ap (λ (z : Behind). z.function.tree) (same-ok (record { function = function_read s n (last t) (signature_of s t) x f; rights = f.around.rights }) b h)
@@ -106,16 +107,16 @@ typed-nested p a rights n d b h e =
 -- ---- all functions
 
 -- what was answered before it went on
-record WentOn {A B E : Type 0} (r : Result A E) (f : A → Result B E) (y : B) : Type 0 where
+pub record WentOn {A B E : Type 0} (r : Result A E) (f : A → Result B E) (y : B) : Type 0 where
   pub value : A
   pub was : r ≡ Ok value
   pub went : f value ≡ Ok y
 
-went-on : {A B E : Type 0} (r : Result A E) (f : A → Result B E) (y : B) → (r >>= f) ≡ Ok y → WentOn r f y
+pub went-on : {A B E : Type 0} (r : Result A E) (f : A → Result B E) (y : B) → (r >>= f) ≡ Ok y → WentOn r f y
 went-on (Ok x) f y e = record { value = x; was = refl; went = e }
 went-on (Err x) f y e = cc
 
-placed-ok : {A : Type 0} (p : Package) (d : Specification) (r : Result A TypeFault) (x : A) → placed p d r ≡ Ok x → r ≡ Ok x
+pub placed-ok : {A : Type 0} (p : Package) (d : Specification) (r : Result A TypeFault) (x : A) → placed p d r ≡ Ok x → r ≡ Ok x
 placed-ok p d (Ok y) x e = ap (λ z. Ok z) (same-ok y x e)
 placed-ok p d (Err f) x e = cc
 
@@ -136,7 +137,7 @@ those-more : (b : Bool) (d : Specification) (us vs ws : List Specification) → 
 those-more true d us vs ws e = ap (λ l. d ∷ l) e
 those-more false d us vs ws e = e
 
-those-both : (xs ys : List Specification) → those_of entity.Function (xs ++ ys) ≡ those_of entity.Function xs ++ those_of entity.Function ys
+pub those-both : (xs ys : List Specification) → those_of entity.Function (xs ++ ys) ≡ those_of entity.Function xs ++ those_of entity.Function ys
 those-both [] ys = refl
 those-both (d ∷ xs) ys = those-more (is_this entity.Function d.entity) d (those_of entity.Function (xs ++ ys)) (those_of entity.Function xs) (those_of entity.Function ys) (those-both xs ys)
 
@@ -152,7 +153,7 @@ grouped-none n s k r (more p ps) =
     ∙ grouped-none n s (suc k) (source_behind r p) ps
 grouped-none n s k r (skip ps) = grouped-none n s k r ps
 
-declared-none : (n : ℕ) (s : Sort) (ps : Trees) → those_of entity.Function (declared n s ps) ≡ []
+pub declared-none : (n : ℕ) (s : Sort) (ps : Trees) → those_of entity.Function (declared n s ps) ≡ []
 declared-none n s (more (node (kind.Group g) i j ps) none) = grouped-none n s 0 None ps
 declared-none n s ps = grouped-none n s 0 None ps
 
@@ -196,3 +197,65 @@ checked-nested texts c h =
     let bodies : w.value ≡ t.bodies = ap (λ (z : Typing). z.bodies) (same-ok made t w.went) in
     let functions : t.bodies.functions ≡ c.functions = ap (λ (z : Content). z.functions) (same-ok (content_of (names_of texts) h.files ss t) c a.went) in
     subst AllNested (ap (λ (z : Functions). z.functions) bodies ∙ functions) nested
+
+-- ---- how far the trees of functions reach
+
+-- a function of a declaration has as many tokens as it
+abbrev pub Ends : Specification → FuncContent → Type 0
+Ends d f = (t : Tree) × (d.tree ≡ Some t) × (last_of f.tree ≡ last t - d.first)
+
+abbrev pub Paired : List Specification → List FuncContent → Type 0
+Paired [] [] = Unit {0}
+Paired (d ∷ ds) (f ∷ fs) = Ends d f × Paired ds fs
+Paired _ _ = ⊥
+
+fine-last : (k : Kind) (i j : ℕ) (r : Reading) → Fine k i j r → last_of (tree_read r) ≡ j
+fine-last k i j (read x fs f) h = h.1
+
+function-last : (s : Scope) (n count : ℕ) (types : ℕ → ℕ) (t : Tree) (b : Behind) → Set t → function_in s n count types t ≡ Ok b → last_of b.function.tree ≡ last t
+function-last s n count types t b h e =
+    let r = reading (start s count types) free t in
+    sym (ap (λ x. last_of x) (behind-tree s n t r b e)) ∙ fine-last (kind_of t) (first t) (last t) r (reading-fine (start s count types) free t h)
+
+typed-last : (p : Package) (a : Surroundings) (rights : Rights) (n : ℕ) (d : Specification) (b : Behind) → IsNode d → typed_function p a rights n d ≡ Ok b → Ends d b.function
+typed-last p a rights n d b h e =
+    let bs = types_in p n in
+    let over : function_over a rights n bs (portion_of p d) (based d.first h.tree) ≡ Ok b = sym (ap (λ o. function_with a rights n bs (portion_of p d) (based_tree d.first o)) h.is) ∙ e in
+    (
+      h.tree,
+      h.is,
+      function-last (scope_of a (rights ++ replicate (count_types bs) None) (portion_of p d)) n (length bs) (local_type (length rights) bs) (based d.first h.tree) b
+          (based-set d.first h.tree (let k : first h.tree ≡ d.first = h.begins in omega (arith, k)) h.set) over
+      ∙ based-last d.first h.tree,
+    )
+
+functions-paired : (p : Package) (a : Surroundings) (rights : Rights) (n : ℕ) (ds : List Specification) (fs : Functions) → AllByRecursion IsNode ds → functions_from p a rights n ds ≡ Ok fs → Paired ds fs.functions
+functions-paired p a rights n [] fs h e = let same = same-ok _ fs e in subst (Paired []) (ap (λ (z : Functions). z.functions) same) tt
+functions-paired p a rights n (d ∷ ds) fs h e =
+    let u = went-on (placed p d (typed_function p a rights n d)) (λ b. functions_from p a b.rights (suc n) ds >>= λ gs. Ok (with_function b.function gs)) fs e in
+    let v = went-on (functions_from p a u.value.rights (suc n) ds) (λ gs. Ok (with_function u.value.function gs)) fs u.went in
+    subst (Paired (d ∷ ds)) (ap (λ (z : Functions). z.functions) (same-ok (with_function u.value.function v.value) fs v.went))
+    (typed-last p a rights n d u.value h.0 (placed-ok p d (typed_function p a rights n d) u.value u.was), functions-paired p a u.value.rights (suc n) ds v.value h.1 v.was)
+
+pub checked-paired : (texts : List FileText) (c : Content) (h : IsChecked texts c) → Paired (those_of entity.Function (specifications 0 (map source_of h.files))) c.functions
+checked-paired texts c h =
+    let ss = map source_of h.files in
+    let ds = specifications 0 ss in
+    let a = went-on (sources_answer ss) (λ t. Ok (content_of (names_of texts) h.files ss t)) c h.answer in
+    let t : Typing = a.value in
+    let u = went-on (names_answer (map unit_of ss)) (λ u. package_answer ss u >>= λ e. bodies_answer ss ds u e) t a.was in
+    let v = went-on (package_answer ss u.value) (λ e. bodies_answer ss ds u.value e) t u.went in
+    let w = went-on (functions_from (package_of ss u.value) (surroundings_of u.value v.value) v.value.rights 0 (those_of entity.Function ds))
+        (λ b. let made : Typing = record { uses = u.value; environment = v.value; bodies = b; specifications = ds } in Ok made) t v.went in
+    let paired = functions-paired (package_of ss u.value) (surroundings_of u.value v.value) v.value.rights 0 (those_of entity.Function ds) w.value (files-nodes 0 0 texts h.files h.read) w.was in
+    let made : Typing = record { uses = u.value; environment = v.value; bodies = w.value; specifications = ds } in
+    let bodies : w.value ≡ t.bodies = ap (λ (z : Typing). z.bodies) (same-ok made t w.went) in
+    let functions : t.bodies.functions ≡ c.functions = ap (λ (z : Content). z.functions) (same-ok (content_of (names_of texts) h.files ss t) c a.went) in
+    subst (Paired (those_of entity.Function ds)) (ap (λ (z : Functions). z.functions) bodies ∙ functions) paired
+
+-- it has the files that were read
+pub checked-files : (texts : List FileText) (c : Content) (h : IsChecked texts c) → c.files ≡ h.files
+checked-files texts c h =
+    let ss = map source_of h.files in
+    let a = went-on (sources_answer ss) (λ t. Ok (content_of (names_of texts) h.files ss t)) c h.answer in
+    sym (ap (λ (z : Content). z.files) (same-ok (content_of (names_of texts) h.files ss a.value) c a.went))

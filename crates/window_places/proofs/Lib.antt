@@ -6,3 +6,4 @@ pub mod Layouts
 pub mod Readings
 pub mod Functions
 pub mod Packages
+pub mod Bytes

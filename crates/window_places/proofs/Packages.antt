@@ -36,7 +36,7 @@ roots-nested : (g : ℕ → TypeTree) (fs : List FuncView) → AllNested (map (f
 roots-nested g [] h = tt
 roots-nested g (f ∷ fs) h = (nested-alike (mapped g (tree_of f)) (tree_of f) (shape-mapped g (tree_of f)) h.0, roots-nested g fs h.1)
 
-package-nested : (p : PackageView) → IsCheckedPackage p → RootsNested (bodies_of p.functions)
+pub package-nested : (p : PackageView) → IsCheckedPackage p → RootsNested (bodies_of p.functions)
 package-nested p h =
     roots-nested (type_of p.types.shapes) p.functions
     (subst AllNested (sym h.same.1.functions) (renamed-nested h.same.0 h.given.functions (checked-nested (texts_of p) h.given h.checked)))
