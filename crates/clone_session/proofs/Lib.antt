@@ -2,3 +2,4 @@ mod Follows
 mod Read
 mod Spans
 mod Taken
+mod Runs

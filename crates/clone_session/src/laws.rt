@@ -1,6 +1,6 @@
 //! Laws of the present package of a session.
 
-ghost use Rattle.std.specs.Prelude.{◌≡◌, List, nat_eq};
+ghost use Rattle.std.specs.Prelude.{◌≡◌, ℕ, List, nat_eq};
 ghost use Rattle.go_base.specs.declared.bytes.FileText.{FileText as Text};
 ghost use Rattle.go_types.specs.Tables.{IsTable};
 ghost use Rattle.go_typed.specs.Contents.{Content};
@@ -11,11 +11,14 @@ ghost use Rattle.clone_same.specs.Bodies.{bodies_of};
 ghost use Rattle.clone_classes.specs.Listing.{listing};
 ghost use Rattle.clone_replies.specs.Classes.{classes_in, listed_package};
 ghost use Rattle.clone_replies.specs.Listing.{listing_by, listing_reply};
+ghost use Rattle.go_run.specs.Runs.{run_package};
+ghost use Rattle.run_replies.specs.Contents.{run_in};
 
 use clone_replies::laws::listings_are_of_the_types;
 use go_grammar::laws::one_tree_of_a_file;
 use go_package::laws::packages_have_one_answer;
 use go_tokens::laws::one_lexing;
+use run_replies::laws::runs_are_of_the_content;
 
 /// The clone classes and the listing of a package that the program holds are those that follow from its bytes alone.
 pub fn listings_follow_from_the_texts()
@@ -24,6 +27,17 @@ pub fn listings_follow_from_the_texts()
     ensures one { (bounds : Limits) (texts : List Text) (c d : Content) → IsChecked texts c → IsChecked texts d → listing_reply bounds c ≡ listing_reply bounds d }
 {
     listings_are_of_the_types();
+    packages_have_one_answer();
+    one_lexing();
+    one_tree_of_a_file();
+}
+
+/// The run of a package that the program holds is the one that follows from its bytes alone.
+pub fn runs_follow_from_the_texts()
+    ensures run { (p : Package) (c : Content) (input : List ℕ) (turns : ℕ) → IsCheckedPackage p → IsChecked (texts_of p) c → run_package p input turns ≡ run_in c input turns }
+    ensures one { (texts : List Text) (c d : Content) (input : List ℕ) (turns : ℕ) → IsChecked texts c → IsChecked texts d → run_in c input turns ≡ run_in d input turns }
+{
+    runs_are_of_the_content();
     packages_have_one_answer();
     one_lexing();
     one_tree_of_a_file();

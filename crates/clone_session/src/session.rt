@@ -15,11 +15,14 @@ ghost use Rattle.clone_texts.specs.Replies.{TextReply, IsOther};
 ghost use Rattle.clone_window.specs.declared.bounds.Bounds.{Bounds as Limits};
 ghost use Rattle.clone_replies.specs.Classes.{classes_in};
 ghost use Rattle.clone_replies.specs.Listing.{listing_reply};
+ghost use Rattle.go_run.specs.Runs.{outcome_view, refusal};
+ghost use Rattle.run_replies.specs.Contents.{run_in};
 ghost use Rattle.clone_session.specs.Session.{IsGoodVerdict, fault_in};
 ghost use Rattle.clone_session.specs.declared.verdict.Verdict.TheVariants as verdict;
 
 use crate::check::Check;
 use crate::laws::listings_follow_from_the_texts;
+use crate::run::run_of;
 use crate::verdict::{Verdict, verdict_of};
 use clone_classes::pairwise::pairwise;
 use clone_replies::class_reply;
@@ -27,6 +30,7 @@ use clone_script::Command;
 use clone_texts::{answer, file_at};
 use edit_apply::{EditError, Texts};
 use go_base::{Bytes, Fault, FileText, Memory, Name, Steps};
+use go_run::outcome::{Outcome, RunError};
 use go_typed::checked::Checked;
 use go_typed::window::Class;
 use std::alloc::Global;
@@ -210,6 +214,18 @@ impl<C: Check> Session<C> {
     {
         let classes = self.classes()?;
         listing_of(self.alloc, self.checked(), &classes)
+    }
+
+    /// What the run of the present package with this input and so many turns comes to.
+    ///
+    /// # Errors
+    ///
+    /// `NoMain` exactly where the package isn't named `main` or has no function `main`; also want of memory.
+    pub fn run(&self, input: &[u8], turns: u64) -> Result<Outcome, RunError>
+        requires { IsGoodVerdict self.now.verdict }
+        ensures { (c : Whole) → IsChecked self.now.texts c → Gives outcome_view refusal result (run_in c input.now turns) }
+    {
+        run_of(self.alloc, self.checked(), input, turns)
     }
 
     /// The reply to a command that reads or changes the texts, and none to a command of another sort.
