@@ -1,6 +1,6 @@
 //! Compares whole sessions of the program with tables of cases whose answers come from outside.
 //!
-//! The answers of `typing`, `listings` and `scripts` come from another reading of the language and of the commands, made apart
+//! The answers of `typing`, `listings`, `scripts` and `runs` come from another reading of the language and of the commands, made apart
 //! from these crates. The rows of `worked_sessions` were worked out by hand.
 //!
 //! The tables lie in the folder that the program is run in, each as a file `NAME.tsv`. A table that is not there is passed over.
@@ -8,12 +8,14 @@
 #![tactic(auto)]
 
 mod listings;
+mod runs;
 mod scripts;
 mod sessions;
 mod typing;
 
 use case_tables::table::run;
 use listings::Listings;
+use runs::Runs;
 use scripts::Scripts;
 use typing::Typing;
 
@@ -26,5 +28,6 @@ fn main(rt: HostRuntime) -> anyhow::Result<()> {
             name: "worked_sessions",
         },
     )?;
-    run(&rt, &Scripts { name: "scripts" })
+    run(&rt, &Scripts { name: "scripts" })?;
+    run(&rt, &Runs)
 }

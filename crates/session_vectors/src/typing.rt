@@ -36,7 +36,7 @@ impl Table for Typing {
 }
 
 /// The files with names by their numbers.
-fn folder_of(alloc: Global, texts: &str) -> Result<String, Memory> {
+pub fn folder_of(alloc: Global, texts: &str) -> Result<String, Memory> {
     let mut folder = String::new(alloc);
     for (number, text) in texts.split(' ').enumerate() {
         if number > 0 {
