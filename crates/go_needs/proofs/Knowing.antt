@@ -67,19 +67,36 @@ module _ (n : Needs) (p : Package) (ds : List Specification) (t : TellsNeeds n p
   abbrev pub everything : List Owner
   everything = n.owners.items ++ roots n.groups.items
 
-  -- what an object needs is what is reached from its specification
-  pub object_reaches : {S : Type 0} (m : HashMap Place ℕ S) (f : ℕ → Bool) (k : ℕ) (o : Owner) (w : Outline) (g : Bool) → Reaches m p everything f → slice_get n.owners.items k ≡ Some o → slice_get (outlines p ds) k ≡ Some w
-      → is_some (near (hash.get same_place m) o g) ≡ list_any f (needed_of g w)
-  object_reaches m f k o w g r e h =
+  -- The declaration by which an object with this specification is found, needed in this way; and what it needs.
+  pub record NeedsFound (o : Owner) (w : Outline) (g : Bool) : Type 0 where
+    pub it : Needed
+    pub own : owner_of it.it ≡ o
+    pub way : it.full ≡ g
+    pub needed : needed_of g w ≡ needed_by p it
+    pub ours : IsOurs everything it.it.file it.it.it.source
+
+  pub needs_found : (k : ℕ) (o : Owner) (w : Outline) (g : Bool) → slice_get n.owners.items k ≡ Some o → slice_get (outlines p ds) k ≡ Some w → NeedsFound o w g
+  needs_found k o w g e h =
       let b = from_one Some (owner_in p.declared ds) n.owners.items p.uses.package_level k o t.owners e in
       let d = b.it in
       let z = declaring ds d.file d.name in
       let own = holds p ds d o b.is in
       let x : Needed = record { it = with_number own.found z.1; full = g } in
       let same : outline_by p d z ≡ w = some_is (outline_by p d z) w (sym (at_map (λ d. outline_by p d (declaring ds d.file d.name)) p.uses.package_level k d b.there) ∙ h) in
-      let needed : needed_of g w ≡ needed_by p x = ap (needed_of g) (sym same) ∙ (outline_needs p d z g ∙ needed_there p d z.1 g own.found own.there) in
-      let our : IsOurs everything x.it.file x.it.it.source = ours_object n.owners.items (roots n.groups.items) x.it.file x.it.it.source o k e (ap (λ v. v.file) (sym own.own)) (ap (λ v. v.source) (sym own.own)) in
-      ap (λ v. is_some (near (hash.get same_place m) v g)) (sym own.own) ∙ (r x our ∙ ap (list_any f) (sym needed))
+      record {
+        it = x;
+        own = own.own;
+        way = refl;
+        needed = ap (needed_of g) (sym same) ∙ (outline_needs p d z g ∙ needed_there p d z.1 g own.found own.there);
+        ours = ours_object n.owners.items (roots n.groups.items) x.it.file x.it.it.source o k e (ap (λ v. v.file) (sym own.own)) (ap (λ v. v.source) (sym own.own));
+      }
+
+  -- what an object needs is what is reached from its specification
+  pub object_reaches : {S : Type 0} (m : HashMap Place ℕ S) (f : ℕ → Bool) (k : ℕ) (o : Owner) (w : Outline) (g : Bool) → Reaches m p everything f → slice_get n.owners.items k ≡ Some o → slice_get (outlines p ds) k ≡ Some w
+      → is_some (near (hash.get same_place m) o g) ≡ list_any f (needed_of g w)
+  object_reaches m f k o w g r e h =
+      let s = needs_found k o w g e h in
+      ap (λ v. is_some (near (hash.get same_place m) v g)) (sym s.own) ∙ (ap (λ b. is_some (near (hash.get same_place m) (owner_of s.it.it) b)) (sym s.way) ∙ (r s.it s.ours ∙ ap (list_any f) (sym s.needed)))
 
   -- An object is declared by the specification of its outline.
   pub record DeclaredBy (k : ℕ) (x : Declaring) (w : Outline) : Type 0 where

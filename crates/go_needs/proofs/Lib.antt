@@ -13,3 +13,4 @@ mod Knowing
 mod Passes
 mod Blocking
 mod Listed
+mod Bounded

@@ -17,7 +17,7 @@ use Rattle.go_needs.proofs.Called.{Each, One, Fits, Has, all_fit, all_none, one_
 
 -- ---- lists
 
-each_append : (P : Needed → Type 0) (xs ys : List Needed) → Each P xs → Each P ys → Each P (xs ++ ys)
+pub each_append : (P : Needed → Type 0) (xs ys : List Needed) → Each P xs → Each P ys → Each P (xs ++ ys)
 each_append P [] ys h k = k
 each_append P (x ∷ xs) ys h k = (h.0, each_append P xs ys h.1 k)
 
@@ -25,7 +25,7 @@ each_if : (P : Needed → Type 0) (b : Bool) (xs ys : List Needed) → Each P xs
 each_if P true xs ys h k = h
 each_if P false xs ys h k = k
 
-each_all : (P : Needed → Type 0) (ys xs : List Needed) → Each P ys → Each P xs → Each P (with_all ys xs)
+pub each_all : (P : Needed → Type 0) (ys xs : List Needed) → Each P ys → Each P xs → Each P (with_all ys xs)
 each_all P [] xs k h = h
 each_all P (y ∷ ys) xs k h = each_all P ys (with_one y xs) k.1 (each_if P (is_known y xs) xs (xs ++ y ∷ []) h (each_append P xs (y ∷ []) h (k.0, tt)))
 

@@ -38,7 +38,7 @@ less (y ∷ ys) (suc k) x e = let h = less ys k x e in omega (arith, h)
 
 -- ---- the map
 
-near_same : (g h : Place → Option ℕ) (n : ℕ) (s : Option ℕ) (c : ℕ) (f : Bool) → ((k : Place) → g k ≡ h k) → near_in g n s c f ≡ near_in h n s c f
+pub near_same : (g h : Place → Option ℕ) (n : ℕ) (s : Option ℕ) (c : ℕ) (f : Bool) → ((k : Place) → g k ≡ h k) → near_in g n s c f ≡ near_in h n s c f
 near_same g h n None c f e = refl
 near_same g h n (Some s) c f e =
     ap (λ l. nearer l (nearer (g ((n, s), part.Value c)) (g ((n, s), own_part f)))) (e ((n, s), part.Always))

@@ -1,4 +1,5 @@
 pub mod Blocked
+pub mod Bounds
 pub mod Calls
 pub mod Declaring
 pub mod Groups

@@ -7,6 +7,7 @@
 #![tactic(auto)]
 
 mod blocked;
+mod bounds;
 mod calls;
 mod declaring;
 mod groups;
@@ -19,5 +20,6 @@ mod parts;
 mod reached;
 mod search;
 
+pub use bounds::Bound;
 pub use declaring::Declaring;
 pub use needs::{Needs, Passing, needs_of};

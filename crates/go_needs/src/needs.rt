@@ -1,19 +1,22 @@
 //! What the objects of a package need.
 
-ghost use Rattle.std.specs.Prelude.{◌≡◌, ◌≤◌, Bool, List, Some, IfOk, IfSome, length, map, nat_lt, slice_get, is_some};
+ghost use Rattle.std.specs.Prelude.{◌≡◌, ◌≤◌, Bool, List, Some, true, IfOk, IfSome, length, map, nat_lt, slice_get, is_some};
 ghost use Rattle.go_lookup.specs.Views.{found_view, asked_view};
 ghost use Rattle.go_declarations.specs.Views.{seen_all};
 ghost use Rattle.go_package.specs.Declarations as declarations;
 ghost use Rattle.go_package.specs.Knowledge.{Outline, State, outlines};
 ghost use Rattle.go_package.specs.Sources.{Package, package_of, source_of};
 ghost use Rattle.go_package.specs.Verdicts.{is_blocked};
+ghost use Rattle.go_needs.specs.Bounds.{AreBounds};
 ghost use Rattle.go_needs.specs.Passing.{ArePassing, is_faulty, is_misassigned};
 ghost use Rattle.go_needs.specs.Tells.{TellsNeeds};
 
 use crate::blocked::{any_column, blocking, failing, flags, passings};
+use crate::bounds::{Bound, are_bounded, levels_under};
 use crate::calls::{Call, calls_of};
 use crate::declaring::{Declaring, declaring_at, declaring_of, table_of};
 use crate::groups::{Group, all_of, group_at, groups_of};
+use crate::nearest::nearest;
 use crate::objects::{owned_of, owners_of};
 use crate::owners::Owner;
 use crate::reached::reached;
@@ -115,6 +118,26 @@ impl Needs {
         let fails = failing(alloc, tests)?;
         let nearest = reached(alloc, &self.owners, &self.calls, &fails)?;
         Ok(passings(alloc, &nearest, tests, &self.owners)?)
+    }
+
+    /// Whether these numbers are above no rank of an object and of what it needs, at once or through others. It is told of ranks and
+    /// numbers up to `top`.
+    ///
+    /// # Errors
+    ///
+    /// Want of memory.
+    pub fn are_bounds(
+        &self,
+        alloc: Global,
+        top: usize,
+        ranks: &[usize],
+        bounds: &[Bound],
+    ) -> Result<bool, Memory>
+        ensures { IfOk result (λ b. b ≡ true → (p : Package) (ds : List declarations.Specification) → TellsNeeds self.now p ds → AreBounds ranks.now bounds.now (outlines p ds)) }
+    {
+        let levels = levels_under(alloc, top, bounds)?;
+        let nearest = nearest(alloc, &self.calls, &levels)?;
+        Ok(are_bounded(&nearest, top, ranks, bounds, &self.owners))
     }
 
     /// Whether the specification of this number needs a declaration with a fault, so that its own rule isn't judged. `faulty` says in
