@@ -1,5 +1,5 @@
 -- Each window of a package that type-checks has its bytes.
-use Rattle.std.proofs.Common.{◌≡◌, ◌∙◌, ℕ, zero, suc, ◌+◌, ◌-◌, ◌<◌, ◌≤◌, ◌⊎◌, inl, inr, Bool, true, false, if◌then◌else◌, List, [], ◌∷◌, ◌++◌, length, map, replicate, Option, Some, None, Ok, slice_get, refl, sym, ap, subst, arith}
+use Rattle.std.proofs.Common.{◌≡◌, ◌∙◌, ℕ, zero, suc, ◌+◌, ◌-◌, ◌<◌, ◌≤◌, ◌⊎◌, inl, inr, true, if◌then◌else◌, List, [], ◌∷◌, ◌++◌, length, map, Option, Some, None, slice_get, refl, sym, ap, subst, arith}
 use Rattle.std.specs.Prelude.{nat_le}
 use Rattle.std.specs.List.{AllByRecursion}
 use Rattle.std.specs.Option.{option_map}
@@ -17,7 +17,6 @@ use Rattle.go_grammar.specs.declared.kind.Category.TheVariants as category
 use Rattle.go_grammar.specs.declared.kind.Kind.TheVariants as kind
 use Rattle.go_grammar.specs.Grammar.{IsFile, Derives}
 use Rattle.go_grammar.specs.Trees.{Tree, node, Trees, none, more, skip, first, last, parts}
-use Rattle.go_grammar.specs.Trees as syntax
 use Rattle.go_tree.specs.declared.context.Entity.TheVariants as entity
 use Rattle.go_tree.specs.File.{FileTree}
 use Rattle.go_tree.specs.Lists.{functions}
@@ -33,7 +32,7 @@ use Rattle.clone_window.specs.Spans.{ByteRange, joined, place_at, places_from, r
 use Rattle.clone_classes.specs.Choices.{place_over}
 use Rattle.go_package.specs.Answer.{specifications}
 use Rattle.go_package.specs.Bodies.{those_of}
-use Rattle.go_package.specs.Checked.{AreRead, IsRead}
+use Rattle.go_package.specs.Checked.{AreRead}
 use Rattle.go_package.specs.Declarations.{Specification, declaration, declarations, in_file}
 use Rattle.go_package.specs.Sources.{source_of}
 use Rattle.window_places.proofs.Derived.{ahead, Set, AllSet, derives-set}
@@ -46,12 +45,12 @@ use Rattle.index_classes.proofs.Ascents.{at-member}
 use Rattle.go_types.specs.Tables.{type_of}
 use Rattle.go_types.specs.Trees.{TypeTree}
 use Rattle.type_tests.specs.Renaming.{renamed}
-use Rattle.go_typed.specs.Contents.{FuncContent, content, func_content, func_renamed}
+use Rattle.go_typed.specs.Contents.{FuncContent, func_content, func_renamed}
 use Rattle.go_typed.specs.Funcs.{FuncView, tree_of}
 use Rattle.go_typed.specs.Packages.{PackageView}
 use Rattle.go_package.specs.Checked.{IsCheckedPackage, texts_of}
 use Rattle.window_places.proofs.Functions.{Ends, Paired, checked-files, checked-paired, those-both, declared-none}
-use Rattle.window_places.proofs.Nested.{Nested, same-last, shape-mapped}
+use Rattle.window_places.proofs.Nested.{same-last, shape-mapped}
 use Rattle.window_places.proofs.Packages.{RootsNested, package-nested}
 use Rattle.window_places.proofs.Ranks.{Lies, all-both, tree-good}
 
@@ -81,7 +80,6 @@ begins-before (w ∷ ts) s e zero (suc j) x y o le h k =
     omega (arith, o.1, a, ends-behind ts w.span.end e j y o.2 k)
 begins-before (w ∷ ts) s e (suc i) zero x y o le h k = absurd (omega (arith, le))
 begins-before (w ∷ ts) s e (suc i) (suc j) x y o le h k = begins-before ts w.span.end e i j x y o.2 (omega (arith, le)) h k
-
 
 joined-there : (a b : Span) → a.start ≤ b.end → (x : ByteRange) × (joined a b ≡ Some x)
 joined-there a b h =
@@ -315,11 +313,11 @@ has-bytes p bounds w h some m =
     let same : p.files ≡ files = h.same.1.files ∙ checked-files (texts_of p) h.given h.checked in (
       x.0,
       ap (λ fs. bytes_over fs w.func (statements_in (listed_package p) w)) same
-      ∙ ap (λ i. bytes_over files w.func (statements_at (slice_get bs i) w)) func
-      ∙ ap (λ (o : Option (Body ℕ)). bytes_over files w.func (statements_at o w)) r.at
-      ∙ ap (λ (o : Option Range). o >>= λ y. slice_get (places_from 0 files) w.func >>= span_there files y) (range-is (0 + n) ps grows)
-      ∙ ap (λ i. slice_get (places_from 0 files) i >>= span_there files found) func
-      ∙ ap (λ (o : Option FunctionPlace). o >>= span_there files found) place
-      ∙ ap (λ (o : Option FileTree). o >>= span_in (place_in spec) found) b.file_is
-      ∙ x.1,
+          ∙ ap (λ i. bytes_over files w.func (statements_at (slice_get bs i) w)) func
+          ∙ ap (λ (o : Option (Body ℕ)). bytes_over files w.func (statements_at o w)) r.at
+          ∙ ap (λ (o : Option Range). o >>= λ y. slice_get (places_from 0 files) w.func >>= span_there files y) (range-is (0 + n) ps grows)
+          ∙ ap (λ i. slice_get (places_from 0 files) i >>= span_there files found) func
+          ∙ ap (λ (o : Option FunctionPlace). o >>= span_there files found) place
+          ∙ ap (λ (o : Option FileTree). o >>= span_in (place_in spec) found) b.file_is
+          ∙ x.1,
     )

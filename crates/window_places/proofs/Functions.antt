@@ -191,7 +191,7 @@ checked-nested texts c h =
     let u = went-on (names_answer (map unit_of ss)) (λ u. package_answer ss u >>= λ e. bodies_answer ss ds u e) t a.was in
     let v = went-on (package_answer ss u.value) (λ e. bodies_answer ss ds u.value e) t u.went in
     let w = went-on (functions_from (package_of ss u.value) (surroundings_of u.value v.value) v.value.rights 0 (those_of entity.Function ds))
-        (λ b. let made : Typing = record { uses = u.value; environment = v.value; bodies = b; specifications = ds } in Ok made) t v.went in
+    (λ b. let made : Typing = record { uses = u.value; environment = v.value; bodies = b; specifications = ds } in Ok made) t v.went in
     let nested = functions-nested (package_of ss u.value) (surroundings_of u.value v.value) v.value.rights 0 (those_of entity.Function ds) w.value (files-nodes 0 0 texts h.files h.read) w.was in
     let made : Typing = record { uses = u.value; environment = v.value; bodies = w.value; specifications = ds } in
     let bodies : w.value ≡ t.bodies = ap (λ (z : Typing). z.bodies) (same-ok made t w.went) in
@@ -220,13 +220,12 @@ function-last s n count types t b h e =
 typed-last : (p : Package) (a : Surroundings) (rights : Rights) (n : ℕ) (d : Specification) (b : Behind) → IsNode d → typed_function p a rights n d ≡ Ok b → Ends d b.function
 typed-last p a rights n d b h e =
     let bs = types_in p n in
-    let over : function_over a rights n bs (portion_of p d) (based d.first h.tree) ≡ Ok b = sym (ap (λ o. function_with a rights n bs (portion_of p d) (based_tree d.first o)) h.is) ∙ e in
-    (
+    let over : function_over a rights n bs (portion_of p d) (based d.first h.tree) ≡ Ok b = sym (ap (λ o. function_with a rights n bs (portion_of p d) (based_tree d.first o)) h.is) ∙ e in (
       h.tree,
       h.is,
       function-last (scope_of a (rights ++ replicate (count_types bs) None) (portion_of p d)) n (length bs) (local_type (length rights) bs) (based d.first h.tree) b
           (based-set d.first h.tree (let k : first h.tree ≡ d.first = h.begins in omega (arith, k)) h.set) over
-      ∙ based-last d.first h.tree,
+          ∙ based-last d.first h.tree,
     )
 
 functions-paired : (p : Package) (a : Surroundings) (rights : Rights) (n : ℕ) (ds : List Specification) (fs : Functions) → AllByRecursion IsNode ds → functions_from p a rights n ds ≡ Ok fs → Paired ds fs.functions
@@ -246,7 +245,7 @@ checked-paired texts c h =
     let u = went-on (names_answer (map unit_of ss)) (λ u. package_answer ss u >>= λ e. bodies_answer ss ds u e) t a.was in
     let v = went-on (package_answer ss u.value) (λ e. bodies_answer ss ds u.value e) t u.went in
     let w = went-on (functions_from (package_of ss u.value) (surroundings_of u.value v.value) v.value.rights 0 (those_of entity.Function ds))
-        (λ b. let made : Typing = record { uses = u.value; environment = v.value; bodies = b; specifications = ds } in Ok made) t v.went in
+    (λ b. let made : Typing = record { uses = u.value; environment = v.value; bodies = b; specifications = ds } in Ok made) t v.went in
     let paired = functions-paired (package_of ss u.value) (surroundings_of u.value v.value) v.value.rights 0 (those_of entity.Function ds) w.value (files-nodes 0 0 texts h.files h.read) w.was in
     let made : Typing = record { uses = u.value; environment = v.value; bodies = w.value; specifications = ds } in
     let bodies : w.value ≡ t.bodies = ap (λ (z : Typing). z.bodies) (same-ok made t w.went) in

@@ -171,9 +171,9 @@ module _ {T U : Type 0} where
           omega (arith, h.1, v, w),
           omega (arith, h.2, w),
           subst (λ k. choice (is_statement_list k) (Listed (values_count k) (suc c) d qs) (Row false c d qs)) u
-          (subst (λ k. choice (is_statement_list f) (Listed (values_count f) (suc k) d qs) (Row false k d qs)) v
-          (subst (λ k. choice (is_statement_list f) (Listed (values_count f) (suc a) k qs) (Row false a k qs)) w
-          (in-each (is_statement_list f) (Listed (values_count f) (suc a) b ps) (Listed (values_count f) (suc a) b qs) (Row false a b ps) (Row false a b qs) (λ k. listed-alike (values_count f) (suc a) b ps qs z k) (λ k. row-alike false a b ps qs z k) h.3))),
+              (subst (λ k. choice (is_statement_list f) (Listed (values_count f) (suc k) d qs) (Row false k d qs)) v
+              (subst (λ k. choice (is_statement_list f) (Listed (values_count f) (suc a) k qs) (Row false a k qs)) w
+              (in-each (is_statement_list f) (Listed (values_count f) (suc a) b ps) (Listed (values_count f) (suc a) b qs) (Row false a b ps) (Row false a b qs) (λ k. listed-alike (values_count f) (suc a) b ps qs z k) (λ k. row-alike false a b ps qs z k) h.3))),
         )
 
     pub row-alike : (b : Bool) (i j : ℕ) (ps : Typeds T) (qs : Typeds U) → shapes ps ≡ shapes qs → Row b i j ps → Row b i j qs

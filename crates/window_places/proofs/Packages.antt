@@ -65,11 +65,11 @@ module _ (bounds : Bounds) (some : 1 ≤ bounds.fewest) (all : List (Body ℕ)) 
       let place : Window → Place = λ w. place_over n (window_statements b.root w) in
       let good = tree-good bounds some n b.root h.0 in
       let own : AllByRecursion (λ (w : Window). w.func ≡ n) (windows bounds n b.root) =
-          all-weaker (Lies bounds some n b.root (suc (first_of b.root)) (last_of b.root)) (λ (w : Window). w.func ≡ n) (λ w k. k.0) (windows bounds n b.root) good.1 in
+      all-weaker (Lies bounds some n b.root (suc (first_of b.root)) (last_of b.root)) (λ (w : Window). w.func ≡ n) (λ w k. k.0) (windows bounds n b.root) good.1 in
       let rest = all-good (suc n) bs h.1 (λ i c e. let k : suc n + i ≡ n + suc i = omega arith in ap (slice_get all) k ∙ there (suc i) c e) in
       let first : Ascends (IsBefore (place_of all)) (windows bounds n b.root) =
-          moved-ascends (IsBefore place) (IsBefore (place_of all)) (λ (w : Window). w.func ≡ n)
-          (λ w v d e r. ap (λ q. place_cmp q (place_of all v)) (same-place n b w here d) ∙ ap (place_cmp (place w)) (same-place n b v here e) ∙ r) (windows bounds n b.root) own good.0 in (
+      moved-ascends (IsBefore place) (IsBefore (place_of all)) (λ (w : Window). w.func ≡ n)
+      (λ w v d e r. ap (λ q. place_cmp q (place_of all v)) (same-place n b w here d) ∙ ap (place_cmp (place w)) (same-place n b v here e) ∙ r) (windows bounds n b.root) own good.0 in (
         joined-ascends (IsBefore (place_of all)) (windows bounds n b.root) (windows_of_all bounds (suc n) bs) first rest.0
             (all-weaker (λ (w : Window). w.func ≡ n) (λ w. AllByRecursion (IsBefore (place_of all) w) (windows_of_all bounds (suc n) bs))
             (λ w d. all-weaker (From (suc n)) (IsBefore (place_of all) w)

@@ -322,8 +322,8 @@ module _ {T : Type 0} (bounds : Bounds) (some : 1 ≤ bounds.fewest) (func : ℕ
         let there : drop (index - ahead) (statements list) ≡ p ∷ present ps = ap (drop (index - ahead)) s ∙ drop-both ahead (index - ahead) all ∙ ap (λ d. drop d all) sum ∙ e in
         let its = own-good list (index - ahead) p ps i j there c.0 c.1 in
         let others : Good (suc (first_of p)) j (inner ++ rest) =
-            joined (suc (first_of p)) (last_of p) j inner rest (omega (arith, b)) z (in-good k p (within-nested i j p c.0) (finds-left k (statement_lists p) (lists_among ps) h))
-            (along-good list ahead (k + list_count p) (suc index) zero (last_of p) j all ps c.1 (omega (arith, m)) s (drop-next index all p (present ps) e) (finds-right k (statement_lists p) (lists_among ps) h)) in
+        joined (suc (first_of p)) (last_of p) j inner rest (omega (arith, b)) z (in-good k p (within-nested i j p c.0) (finds-left k (statement_lists p) (lists_among ps) h))
+        (along-good list ahead (k + list_count p) (suc index) zero (last_of p) j all ps c.1 (omega (arith, m)) s (drop-next index all p (present ps) e) (finds-right k (statement_lists p) (lists_among ps) h)) in
         subst (λ ws. Good i j (ws ++ inner ++ rest)) (sym (from-some bounds func list ahead index (each_mass (more p ps)) low))
         (subst (Good i j) (sym (append_assoc own inner rest))
         (wider (first_of p) i j j (own ++ (inner ++ rest)) a (omega arith) (behind-own (first_of p) j own (inner ++ rest) its.1 its.0 others)))
