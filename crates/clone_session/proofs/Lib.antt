@@ -1,4 +1,3 @@
 mod Follows
-mod Read
 mod Spans
 mod Taken

@@ -15,6 +15,7 @@ ghost use Rattle.clone_texts.specs.Replies.{TextReply, IsOther};
 ghost use Rattle.clone_window.specs.declared.bounds.Bounds.{Bounds as Limits};
 ghost use Rattle.clone_replies.specs.Classes.{classes_in};
 ghost use Rattle.clone_replies.specs.Listing.{listing_reply};
+ghost use Rattle.package_numbers.specs.Numbers.{numbers_in};
 ghost use Rattle.clone_session.specs.Session.{IsGoodVerdict, fault_in};
 ghost use Rattle.clone_session.specs.declared.verdict.Verdict.TheVariants as verdict;
 
@@ -29,6 +30,7 @@ use edit_apply::{EditError, Texts};
 use go_base::{Bytes, Fault, FileText, Memory, Name, Steps};
 use go_typed::checked::Checked;
 use go_typed::window::Class;
+use package_numbers::{Numbers, numbers_of};
 use std::alloc::Global;
 use std::marker::{Brand, Model, PhantomData};
 use std::sync::ledger::{Blank, Ledger};
@@ -210,6 +212,19 @@ impl<C: Check> Session<C> {
     {
         let classes = self.classes()?;
         listing_of(self.alloc, self.checked(), &classes)
+    }
+
+    /// The numbers of the present package.
+    ///
+    /// # Errors
+    ///
+    /// Want of memory.
+    pub fn stat(&self) -> Result<Numbers, Memory>
+        requires { IsGoodVerdict self.now.verdict }
+        ensures { IfOk result (λ n. (c : Whole) → IsChecked self.now.texts c → n ≡ numbers_in self.now.bounds self.now.texts c) }
+    {
+        let classes = self.classes()?;
+        numbers_of(self.alloc, self.checked(), self.min, self.mass, &classes)
     }
 
     /// The reply to a command that reads or changes the texts, and none to a command of another sort.
