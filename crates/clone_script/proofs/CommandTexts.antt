@@ -9,7 +9,7 @@ use Rattle.clone_script.specs.declared.command.Command.TheVariants as command
 use Rattle.clone_script.specs.declared.command.Keyword.{Keyword}
 use Rattle.clone_script.specs.declared.command.Keyword.TheVariants as keyword
 use Rattle.clone_script.specs.Reading.{bad, more, Read, first_byte, literal_at, number_at, name_from, name_at, bytes_at}
-use Rattle.clone_script.specs.Commands.{most_number, most_length, blank, newline, spelling_of, keywords, keyword_of, behind_keyword, command_at}
+use Rattle.clone_script.specs.Commands.{most_number, most_turns, most_length, blank, newline, spelling_of, keywords, keyword_of, behind_keyword, command_at}
 use Rattle.clone_script.specs.Grammar.{IsName, spelling, Spells}
 use Rattle.clone_script.proofs.Readers.{Reads, reads_as, Then, then, then_reads, Only, only_reads, Either, or_reads, none_reads, none_left, pair_is}
 use Rattle.clone_script.proofs.Numbers.{chosen, IsNumberText, number_reads}
@@ -114,22 +114,25 @@ keyword_reads (k ∷ ks) h = reads_as (Either (IsWord k) (IsKeyword ks)) (IsKeyw
 pub all_apart : AreApart keywords
 unfolding literal_at
 all_apart = (
-  (λ rest. refl, (λ rest. refl, (λ rest. refl, (λ rest. refl, (λ rest. refl, (λ rest. refl, (λ rest. refl, tt))))))),
+  (λ rest. refl, (λ rest. refl, (λ rest. refl, (λ rest. refl, (λ rest. refl, (λ rest. refl, (λ rest. refl, (λ rest. refl, tt)))))))),
   (
-    (λ rest. refl, (λ rest. refl, (λ rest. refl, (λ rest. refl, (λ rest. refl, (λ rest. refl, tt)))))),
+    (λ rest. refl, (λ rest. refl, (λ rest. refl, (λ rest. refl, (λ rest. refl, (λ rest. refl, (λ rest. refl, tt))))))),
     (
-      (λ rest. refl, (λ rest. refl, (λ rest. refl, (λ rest. refl, (λ rest. refl, tt))))),
+      (λ rest. refl, (λ rest. refl, (λ rest. refl, (λ rest. refl, (λ rest. refl, (λ rest. refl, tt)))))),
       (
-        (λ rest. refl, (λ rest. refl, (λ rest. refl, (λ rest. refl, tt)))),
+        (λ rest. refl, (λ rest. refl, (λ rest. refl, (λ rest. refl, (λ rest. refl, tt))))),
         (
-          (λ rest. refl, (λ rest. refl, (λ rest. refl, tt))),
+          (λ rest. refl, (λ rest. refl, (λ rest. refl, (λ rest. refl, tt)))),
           (
-            (λ rest. refl, (λ rest. refl, tt)),
+            (λ rest. refl, (λ rest. refl, (λ rest. refl, tt))),
             (
-              (λ rest. refl, tt),
+              (λ rest. refl, (λ rest. refl, tt)),
               (
-                tt,
-                tt,
+                (λ rest. refl, tt),
+                (
+                  tt,
+                  tt,
+                ),
               ),
             ),
           ),
@@ -145,9 +148,10 @@ is_keyword keyword.Add = inr (inl refl)
 is_keyword keyword.Drop = inr (inr (inl refl))
 is_keyword keyword.Classes = inr (inr (inr (inl refl)))
 is_keyword keyword.Stat = inr (inr (inr (inr (inl refl))))
-is_keyword keyword.Show = inr (inr (inr (inr (inr (inl refl)))))
-is_keyword keyword.Save = inr (inr (inr (inr (inr (inr (inl refl))))))
-is_keyword keyword.Quit = inr (inr (inr (inr (inr (inr (inr (inl refl)))))))
+is_keyword keyword.Run = inr (inr (inr (inr (inr (inl refl)))))
+is_keyword keyword.Show = inr (inr (inr (inr (inr (inr (inl refl))))))
+is_keyword keyword.Save = inr (inr (inr (inr (inr (inr (inr (inl refl)))))))
+is_keyword keyword.Quit = inr (inr (inr (inr (inr (inr (inr (inr (inl refl))))))))
 
 -- ---- what stands behind a keyword
 
@@ -233,6 +237,7 @@ Tail keyword.Add = Named blank (λ name. Sized (λ text. command.Add name text))
 Tail keyword.Drop = Named newline (λ name. Only (command.Remove name))
 Tail keyword.Classes = Only command.Classes
 Tail keyword.Stat = Only command.Stat
+Tail keyword.Run = Then (IsNumberText most_turns blank) (λ turns. Sized (λ text. command.Run turns text))
 Tail keyword.Show = Named newline (λ name. Only (command.Show name))
 Tail keyword.Save = Only command.Save
 Tail keyword.Quit = Only command.Quit
@@ -252,6 +257,10 @@ add_reads : Reads (Tail keyword.Add) (named_at blank (λ name. sized_at (λ text
 add_reads = then_reads (IsNameText blank) (λ name. Sized (λ text. command.Add name text)) (name_at blank) (λ name. sized_at (λ text. command.Add name text))
     (name_reads blank blank_ends) (λ name. sized_reads (λ text. command.Add name text)) (λ name. sized_some (λ text. command.Add name text))
 
+run_reads : Reads (Tail keyword.Run) (then (number_at most_turns blank) (λ turns. sized_at (λ text. command.Run turns text)))
+run_reads = then_reads (IsNumberText most_turns blank) (λ turns. Sized (λ text. command.Run turns text)) (number_at most_turns blank) (λ turns. sized_at (λ text. command.Run turns text))
+    (number_reads most_turns blank (omega arith) (omega arith)) (λ turns. sized_reads (λ text. command.Run turns text)) (λ turns. sized_some (λ text. command.Run turns text))
+
 alone_reads : (make : List ℕ → Command) → Reads (Named newline (λ name. Only (make name))) (named_at newline (λ name rest. Ok (make name, rest)))
 alone_reads make = then_reads (IsNameText newline) (λ name. Only (make name)) (name_at newline) (λ name rest. Ok (make name, rest))
     (name_reads newline newline_ends) (λ name. only_reads (make name)) (λ name. ([], make name, (refl, refl)))
@@ -263,6 +272,7 @@ tail_reads keyword.Add = add_reads
 tail_reads keyword.Drop = alone_reads (λ name. command.Remove name)
 tail_reads keyword.Classes = only_reads command.Classes
 tail_reads keyword.Stat = only_reads command.Stat
+tail_reads keyword.Run = run_reads
 tail_reads keyword.Show = alone_reads (λ name. command.Show name)
 tail_reads keyword.Save = only_reads command.Save
 tail_reads keyword.Quit = only_reads command.Quit
@@ -273,6 +283,8 @@ tail_some keyword.Add = named_some blank (λ name. Sized (λ text. command.Add n
 tail_some keyword.Drop = named_some newline (λ name. Only (command.Remove name)) (λ name rest. Ok (command.Remove name, rest)) (alone_reads (λ name. command.Remove name))
 tail_some keyword.Classes = ([], command.Classes, (refl, refl))
 tail_some keyword.Stat = ([], command.Stat, (refl, refl))
+tail_some keyword.Run = some_of (Tail keyword.Run) (then (number_at most_turns blank) (λ turns. sized_at (λ text. command.Run turns text))) run_reads
+    (then_none (number_at most_turns blank) (λ turns. sized_at (λ text. command.Run turns text)) (number_none most_turns blank))
 tail_some keyword.Show = named_some newline (λ name. Only (command.Show name)) (λ name rest. Ok (command.Show name, rest)) (alone_reads (λ name. command.Show name))
 tail_some keyword.Save = ([], command.Save, (refl, refl))
 tail_some keyword.Quit = ([], command.Quit, (refl, refl))
@@ -332,6 +344,11 @@ from_tail keyword.Drop x y s c ex t e =
     subst (λ (d : Command). Spells s d) (sym t.4.1) (t.3.0, all)
 from_tail keyword.Classes x y s c ex t e = subst (λ (d : Command). Spells s d) (sym t.1) (tt, e ∙ rw (ex, t.0) refl)
 from_tail keyword.Stat x y s c ex t e = subst (λ (d : Command). Spells s d) (sym t.1) (tt, e ∙ rw (ex, t.0) refl)
+from_tail keyword.Run x y s c ex t e =
+    let z = from_sized (λ text. command.Run t.0 text) t.2 c t.4 in
+    let first : y ≡ decimal t.0 ++ (blank ∷ sized_text z.0) = flat y t.1 t.2 (decimal t.0) (sized_text z.0) blank t.3.1 z.3 t.5 in
+    let all : s ≡ spelling (command.Run t.0 z.0) = e ∙ ap (λ (w : List ℕ). w ++ y) ex ∙ ap (λ (w : List ℕ). spelling_of keyword.Run ++ w) first in
+    subst (λ (d : Command). Spells s d) (sym z.2) ((t.3.0, z.1), all)
 from_tail keyword.Show x y s c ex t e =
     let first : y ≡ t.0 ++ (newline ∷ []) = flat y t.1 t.2 t.0 [] newline t.3.1 t.4.0 t.5 in
     let all : s ≡ spelling (command.Show t.0) = e ∙ ap (λ (w : List ℕ). w ++ y) ex ∙ ap (λ (w : List ℕ). spelling_of keyword.Show ++ w) first in
@@ -377,6 +394,14 @@ to_whole s (command.Add name text) t = (
 to_whole s (command.Remove name) t = (keyword.Drop, spelling_of keyword.Drop, name ++ (newline ∷ []), (is_keyword keyword.Drop, refl), alone (λ n. command.Remove n) name t.0, t.1)
 to_whole s command.Classes t = (keyword.Classes, spelling_of keyword.Classes, [], (is_keyword keyword.Classes, refl), (refl, refl), t.1 ∙ sym (append-nil (spelling_of keyword.Classes)))
 to_whole s command.Stat t = (keyword.Stat, spelling_of keyword.Stat, [], (is_keyword keyword.Stat, refl), (refl, refl), t.1 ∙ sym (append-nil (spelling_of keyword.Stat)))
+to_whole s (command.Run turns input) t = (
+  keyword.Run,
+  spelling_of keyword.Run,
+  decimal turns ++ (blank ∷ sized_text input),
+  (is_keyword keyword.Run, refl),
+  (turns, decimal turns ++ blank ∷ [], sized_text input, (t.0.0, refl), to_sized (λ w. command.Run turns w) input t.0.1, parted (decimal turns) (sized_text input) blank),
+  t.1,
+)
 to_whole s (command.Show name) t = (keyword.Show, spelling_of keyword.Show, name ++ (newline ∷ []), (is_keyword keyword.Show, refl), alone (λ n. command.Show n) name t.0, t.1)
 to_whole s command.Save t = (keyword.Save, spelling_of keyword.Save, [], (is_keyword keyword.Save, refl), (refl, refl), t.1 ∙ sym (append-nil (spelling_of keyword.Save)))
 to_whole s command.Quit t = (keyword.Quit, spelling_of keyword.Quit, [], (is_keyword keyword.Quit, refl), (refl, refl), t.1 ∙ sym (append-nil (spelling_of keyword.Quit)))

@@ -5,7 +5,7 @@ use Rattle.std.specs.Fmt.{decimal}
 use Rattle.std.proofs.lemmas.Fmt.{length-decimal-le}
 use Rattle.clone_script.specs.declared.command.Command.{Command}
 use Rattle.clone_script.specs.declared.command.Command.TheVariants as command
-use Rattle.clone_script.specs.Commands.{most_number, most_length, longest_line, blank, newline}
+use Rattle.clone_script.specs.Commands.{most_number, most_turns, most_length, longest_line, blank, newline}
 use Rattle.clone_script.specs.Grammar.{Fits, spelling, behind_line}
 
 ten_digits : (n : ℕ) → n ≤ most_number → length (decimal n) ≤ 10
@@ -35,6 +35,10 @@ short_lines (command.Add name text) h =
 short_lines (command.Remove name) h = omega (arith, last name, h.few)
 short_lines command.Classes h = omega arith
 short_lines command.Stat h = omega arith
+short_lines (command.Run turns input) h =
+    let size = field (decimal (length input)) (input ++ (newline ∷ [])) newline 7 (length input + 1) (seven_digits (length input) h.1) (last input) in
+    let first = field (decimal turns) (decimal (length input) ++ (newline ∷ (input ++ (newline ∷ [])))) blank 10 (7 + 1 + (length input + 1)) (ten_digits turns (omega (arith, h.0))) size in
+    omega (arith, first)
 short_lines (command.Show name) h = omega (arith, last name, h.few)
 short_lines command.Save h = omega arith
 short_lines command.Quit h = omega arith

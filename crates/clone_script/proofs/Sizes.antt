@@ -10,7 +10,7 @@ use Rattle.clone_script.specs.declared.command.Keyword.TheVariants as keyword
 use Rattle.clone_script.specs.declared.error.ScriptError.{ScriptError}
 use Rattle.clone_script.specs.declared.error.ScriptError.TheVariants as errors
 use Rattle.clone_script.specs.Reading.{bad, more, Read, script_refusal, number_at, name_at, bytes_at}
-use Rattle.clone_script.specs.Commands.{most_number, most_length, blank, newline, spelling_of, keywords, keyword_of, behind_keyword, command_at}
+use Rattle.clone_script.specs.Commands.{most_number, most_turns, most_length, blank, newline, spelling_of, keywords, keyword_of, behind_keyword, command_at}
 use Rattle.clone_script.specs.Grammar.{Fits, IsName, spelling, behind_line, IsBeginning}
 use Rattle.clone_script.specs.Sizes.{size_behind, size_at}
 use Rattle.clone_script.proofs.Readers.{Reads, then, bind_ok, pair_is}
@@ -55,6 +55,9 @@ name_stays = reads_stays _ (name_at blank) (name_reads blank blank_ends)
 number_stays : Stays (number_at most_number blank)
 number_stays = reads_stays _ (number_at most_number blank) (number_reads most_number blank (omega arith) (omega arith))
 
+turns_stays : Stays (number_at most_turns blank)
+turns_stays = reads_stays _ (number_at most_turns blank) (number_reads most_turns blank (omega arith) (omega arith))
+
 length_stays : Stays (number_at most_length newline)
 length_stays = reads_stays _ (number_at most_length newline) (number_reads most_length newline (omega arith) (omega arith))
 
@@ -65,6 +68,7 @@ behind_stays keyword.Add = then_stays (name_at blank) (λ name. number_at most_l
 behind_stays keyword.Drop = bad_stays
 behind_stays keyword.Classes = bad_stays
 behind_stays keyword.Stat = bad_stays
+behind_stays keyword.Run = then_stays (number_at most_turns blank) (λ turns. number_at most_length newline) turns_stays (λ turns. length_stays)
 behind_stays keyword.Show = bad_stays
 behind_stays keyword.Save = bad_stays
 behind_stays keyword.Quit = bad_stays
@@ -90,6 +94,11 @@ add_made : (bytes rest : List ℕ) (size : ℕ) (name : List ℕ × List ℕ) �
 unfolding behind_keyword
 add_made bytes rest size name first last = rw (first, last) refl
 
+run_made : (bytes rest : List ℕ) (size : ℕ) (turns : ℕ × List ℕ) → number_at most_turns blank bytes ≡ Ok turns → number_at most_length newline turns.1 ≡ Ok (size, rest)
+    → behind_keyword keyword.Run bytes ≡ with_text (λ text. command.Run turns.0 text) (bytes_at size rest)
+unfolding behind_keyword
+run_made bytes rest size turns first last = rw (first, last) refl
+
 behind_made : (k : Keyword) (bytes rest : List ℕ) (size : ℕ) → size_behind k bytes ≡ Ok (size, rest) → Made (behind_keyword k bytes) size rest
 unfolding size_behind
 behind_made keyword.Edit bytes rest size e =
@@ -103,6 +112,9 @@ behind_made keyword.Add bytes rest size e =
 behind_made keyword.Drop bytes rest size e = absurd cc
 behind_made keyword.Classes bytes rest size e = absurd cc
 behind_made keyword.Stat bytes rest size e = absurd cc
+behind_made keyword.Run bytes rest size e =
+    let turns = bind_ok (number_at most_turns blank bytes) _ (size, rest) e in
+    ((λ text. command.Run turns.0.0 text), run_made bytes rest size turns.0 turns.1 turns.2)
 behind_made keyword.Show bytes rest size e = absurd cc
 behind_made keyword.Save bytes rest size e = absurd cc
 behind_made keyword.Quit bytes rest size e = absurd cc
@@ -188,6 +200,14 @@ add_line name size = name ∷ (blank ∷ []) ∷ decimal size ∷ (newline ∷ [
 abbrev edit_line : List ℕ → ℕ → ℕ → ℕ → List (List ℕ)
 edit_line name start end size = name ∷ (blank ∷ []) ∷ decimal start ∷ (blank ∷ []) ∷ decimal end ∷ (blank ∷ []) ∷ decimal size ∷ (newline ∷ []) ∷ []
 
+abbrev run_line : ℕ → ℕ → List (List ℕ)
+run_line turns size = decimal turns ∷ (blank ∷ []) ∷ decimal size ∷ (newline ∷ []) ∷ []
+
+run_size : (rest : List ℕ) (turns size : ℕ) → turns ≤ most_turns → size ≤ most_length → size_behind keyword.Run (joined (run_line turns size) rest) ≡ Ok (size, rest)
+unfolding size_behind
+run_size rest turns size h le =
+    rw (number_front most_turns blank turns (decimal size ++ (newline ∷ rest)) (omega arith) (omega arith) h) (number_front most_length newline size rest (omega arith) (omega arith) le)
+
 add_size : (name rest : List ℕ) (size : ℕ) → IsName name → size ≤ most_length → size_behind keyword.Add (joined (add_line name size) rest) ≡ Ok (size, rest)
 unfolding size_behind
 add_size name rest size h le =
@@ -230,6 +250,8 @@ told_by_line (command.Add name text) bytes rest h fits e le =
     told keyword.Add (add_line name (length text)) text bytes rest (spelling (command.Add name text)) (λ part. add_size name part (length text) fits.0 fits.1) e refl le
 told_by_line (command.Remove name) bytes rest h fits e le = absurd (none_behind bytes rest (command.Remove name) h fits e le)
 told_by_line command.Classes bytes rest h fits e le = absurd (none_behind bytes rest command.Classes h fits e le)
+told_by_line (command.Run turns input) bytes rest h fits e le =
+    told keyword.Run (run_line turns (length input)) input bytes rest (spelling (command.Run turns input)) (λ part. run_size part turns (length input) fits.0 fits.1) e refl le
 told_by_line command.Stat bytes rest h fits e le = absurd (none_behind bytes rest command.Stat h fits e le)
 told_by_line (command.Show name) bytes rest h fits e le = absurd (none_behind bytes rest (command.Show name) h fits e le)
 told_by_line command.Save bytes rest h fits e le = absurd (none_behind bytes rest command.Save h fits e le)

@@ -12,6 +12,10 @@ use Rattle.clone_script.specs.Reading.{Refusal, bad, Read, script_refusal, or_el
 abbrev pub most_number : ℕ
 most_number = 4294967295
 
+-- the greatest TURNS
+abbrev pub most_turns : ℕ
+most_turns = 1000000000
+
 -- the greatest LEN
 abbrev pub most_length : ℕ
 most_length = 1048576
@@ -37,12 +41,13 @@ spelling_of keyword.Add = codes "add "
 spelling_of keyword.Drop = codes "drop "
 spelling_of keyword.Classes = codes "classes\n"
 spelling_of keyword.Stat = codes "stat\n"
+spelling_of keyword.Run = codes "run "
 spelling_of keyword.Show = codes "show "
 spelling_of keyword.Save = codes "save\n"
 spelling_of keyword.Quit = codes "quit\n"
 
 abbrev pub keywords : List Keyword
-keywords = keyword.Edit ∷ keyword.Add ∷ keyword.Drop ∷ keyword.Classes ∷ keyword.Stat ∷ keyword.Show ∷ keyword.Save ∷ keyword.Quit ∷ []
+keywords = keyword.Edit ∷ keyword.Add ∷ keyword.Drop ∷ keyword.Classes ∷ keyword.Stat ∷ keyword.Run ∷ keyword.Show ∷ keyword.Save ∷ keyword.Quit ∷ []
 
 -- the first of these keywords that the bytes begin with, or may begin with
 unfoldable pub keyword_of : List Keyword → List ℕ → Read Keyword
@@ -68,6 +73,11 @@ behind_keyword keyword.Drop bytes = do
   Ok (command.Remove name.0, name.1)
 behind_keyword keyword.Classes bytes = Ok (command.Classes, bytes)
 behind_keyword keyword.Stat bytes = Ok (command.Stat, bytes)
+behind_keyword keyword.Run bytes = do
+  turns ← number_at most_turns blank bytes
+  size ← number_at most_length newline turns.1
+  input ← bytes_at size.0 size.1
+  Ok (command.Run turns.0 input.0, input.1)
 behind_keyword keyword.Show bytes = do
   name ← name_at newline bytes
   Ok (command.Show name.0, name.1)

@@ -5,7 +5,7 @@ use Rattle.clone_script.specs.declared.name.Character.{Character}
 use Rattle.clone_script.specs.declared.command.Command.{Command}
 use Rattle.clone_script.specs.declared.command.Command.TheVariants as command
 use Rattle.clone_script.specs.Reading.{next_byte, whole}
-use Rattle.clone_script.specs.Commands.{most_number, most_length, blank, newline}
+use Rattle.clone_script.specs.Commands.{most_number, most_turns, most_length, blank, newline}
 
 -- there is such a character, and this holds of it
 abbrev pub Continues : Option Character → (Character → Type 0) → Type 0
@@ -30,6 +30,7 @@ Fits (command.Add name text) = IsName name × (length text ≤ most_length)
 Fits (command.Remove name) = IsName name
 Fits command.Classes = Unit {0}
 Fits command.Stat = Unit {0}
+Fits (command.Run turns input) = (turns ≤ most_turns) × (length input ≤ most_length)
 Fits (command.Show name) = IsName name
 Fits command.Save = Unit {0}
 Fits command.Quit = Unit {0}
@@ -42,6 +43,7 @@ spelling (command.Add name text) = codes "add " ++ (name ++ (blank ∷ (decimal 
 spelling (command.Remove name) = codes "drop " ++ (name ++ (newline ∷ []))
 spelling command.Classes = codes "classes\n"
 spelling command.Stat = codes "stat\n"
+spelling (command.Run turns input) = codes "run " ++ (decimal turns ++ (blank ∷ (decimal (length input) ++ (newline ∷ (input ++ (newline ∷ []))))))
 spelling (command.Show name) = codes "show " ++ (name ++ (newline ∷ []))
 spelling command.Save = codes "save\n"
 spelling command.Quit = codes "quit\n"
@@ -53,6 +55,7 @@ behind_line (command.Add name text) = length text + 1
 behind_line (command.Remove name) = 0
 behind_line command.Classes = 0
 behind_line command.Stat = 0
+behind_line (command.Run turns input) = length input + 1
 behind_line (command.Show name) = 0
 behind_line command.Save = 0
 behind_line command.Quit = 0

@@ -17,6 +17,9 @@ use std::alloc::Global;
 /// The greatest LEN of a command.
 pub const MAX_LENGTH: u32 = 1_048_576;
 
+/// The greatest TURNS of a command.
+pub const MAX_TURNS: u32 = 1_000_000_000;
+
 /// A command of a script.
 #[derive(Debug, Drop)]
 pub enum Command {
@@ -40,6 +43,11 @@ pub enum Command {
     Classes,
     /// `stat`: the numbers of the package.
     Stat,
+    /// `run`: the package is run for so many turns at most, with these bytes as its input.
+    Run {
+        turns: u32,
+        input: Bytes,
+    },
     /// `show`: the bytes of a file.
     Show {
         name: Name,
@@ -58,18 +66,20 @@ pub enum Keyword {
     Drop,
     Classes,
     Stat,
+    Run,
     Show,
     Save,
     Quit,
 }
 
 /// The first words of all commands.
-pub const KEYWORDS: [Keyword; 8] = [
+pub const KEYWORDS: [Keyword; 9] = [
     Keyword::Edit,
     Keyword::Add,
     Keyword::Drop,
     Keyword::Classes,
     Keyword::Stat,
+    Keyword::Run,
     Keyword::Show,
     Keyword::Save,
     Keyword::Quit,
@@ -86,6 +96,7 @@ impl Keyword {
             Keyword::Drop => b"drop ",
             Keyword::Classes => b"classes\n",
             Keyword::Stat => b"stat\n",
+            Keyword::Run => b"run ",
             Keyword::Show => b"show ",
             Keyword::Save => b"save\n",
             Keyword::Quit => b"quit\n",
@@ -203,6 +214,16 @@ fn drop_of(alloc: Global, bytes: &[u8]) -> Result<(Command, &[u8]), ScriptError>
 }
 
 #[tactic(auto, unfolding(crate::specs::Commands::behind_keyword))]
+fn run_of(alloc: Global, bytes: &[u8]) -> Result<(Command, &[u8]), ScriptError>
+    ensures { Gives (λ x. (x.0, x.1.now)) script_refusal result (behind_keyword keyword.Run bytes.now) }
+{
+    let (turns, rest) = number_at(bytes, b' ', MAX_TURNS)?;
+    let (length, rest) = number_at(rest, b'\n', MAX_LENGTH)?;
+    let (input, rest) = bytes_of(alloc, rest, length)?;
+    Ok((Command::Run { turns, input }, rest))
+}
+
+#[tactic(auto, unfolding(crate::specs::Commands::behind_keyword))]
 fn show_of(alloc: Global, bytes: &[u8]) -> Result<(Command, &[u8]), ScriptError>
     ensures { Gives (λ x. (x.0, x.1.now)) script_refusal result (behind_keyword keyword.Show bytes.now) }
 {
@@ -225,6 +246,7 @@ fn behind_keyword(
         Keyword::Drop => drop_of(alloc, bytes),
         Keyword::Classes => Ok((Command::Classes, bytes)),
         Keyword::Stat => Ok((Command::Stat, bytes)),
+        Keyword::Run => run_of(alloc, bytes),
         Keyword::Show => show_of(alloc, bytes),
         Keyword::Save => Ok((Command::Save, bytes)),
         Keyword::Quit => Ok((Command::Quit, bytes)),

@@ -49,6 +49,8 @@ pub fn examples()
     ensures edit { Takes (codes "edit a.go 67 68 0\n\n") (command.Edit (codes "a.go") 67 68 []) 19 }
     ensures add { Takes (codes "add b.go 13\npackage main\n\nquit\n") (command.Add (codes "b.go") (codes "package main\n")) 26 }
     ensures save { Takes (codes "save\n") command.Save 5 }
+    ensures run { Takes (codes "run 100 2\nAB\n") (command.Run 100 (codes "AB")) 13 }
+    ensures turns { TakesNone (codes "run 1000000001 0\n\n") bad }
     ensures begun { TakesNone (codes "clas") more }
     ensures cut_off { TakesNone (codes "edit main.go 0 0 10\nabcd") more }
     ensures other { TakesNone (codes "extract 1 h all\n") bad }

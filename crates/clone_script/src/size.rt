@@ -6,7 +6,7 @@ ghost use Rattle.clone_script.specs.Grammar.{Fits, spelling, behind_line, IsBegi
 ghost use Rattle.clone_script.specs.declared.command.Command.{Command};
 ghost use Rattle.clone_script.specs.declared.error.ScriptError.TheVariants as errors;
 
-use crate::command::{KEYWORDS, Keyword, MAX_LENGTH, keyword_of};
+use crate::command::{KEYWORDS, Keyword, MAX_LENGTH, MAX_TURNS, keyword_of};
 use crate::error::ScriptError;
 use crate::name::name_at;
 use crate::number::number_at;
@@ -26,6 +26,10 @@ fn size_behind(keyword: Keyword, bytes: &[u8]) -> Result<(u32, &[u8]), ScriptErr
         }
         Keyword::Add => {
             let (_, rest) = name_at(bytes, b' ')?;
+            number_at(rest, b'\n', MAX_LENGTH)
+        }
+        Keyword::Run => {
+            let (_, rest) = number_at(bytes, b' ', MAX_TURNS)?;
             number_at(rest, b'\n', MAX_LENGTH)
         }
         _ => Err(ScriptError::Bad),

@@ -27,6 +27,7 @@ is_save (command.Add name text) = false
 is_save (command.Remove name) = false
 is_save command.Classes = false
 is_save command.Stat = false
+is_save (command.Run turns input) = false
 is_save (command.Show name) = false
 is_save command.Save = true
 is_save command.Quit = false

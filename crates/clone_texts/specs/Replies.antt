@@ -39,6 +39,7 @@ TextReply files (command.Remove name) reply after = Changes kinds.Drop files (re
 TextReply files (command.Show name) reply after = (reply ≡ show_reply (bytes_under files name)) × (after ≡ files)
 TextReply files command.Classes reply after = ⊥
 TextReply files command.Stat reply after = ⊥
+TextReply files (command.Run turns input) reply after = ⊥
 TextReply files command.Save reply after = ⊥
 TextReply files command.Quit reply after = ⊥
 
@@ -50,5 +51,6 @@ IsOther (command.Remove name) = ⊥
 IsOther (command.Show name) = ⊥
 IsOther command.Classes = Unit {0}
 IsOther command.Stat = Unit {0}
+IsOther (command.Run turns input) = Unit {0}
 IsOther command.Save = Unit {0}
 IsOther command.Quit = Unit {0}

@@ -106,7 +106,8 @@ pub fn answer(alloc: Global, texts: &mut Texts, command: &Command) -> Result<Opt
         Command::Add { name, bytes } => add(alloc, texts, name, bytes.as_slice())?,
         Command::Remove { name } => remove(alloc, texts, name)?,
         Command::Show { name } => show(alloc, texts, name)?,
-        Command::Classes | Command::Stat | Command::Save | Command::Quit => return Ok(None),
+        Command::Classes | Command::Stat | Command::Run { .. } | Command::Save | Command::Quit =>
+            return Ok(None),
     };
     Ok(Some(reply))
 }

@@ -12,7 +12,7 @@ use Rattle.go_typed.specs.Trees as sort
 use Rattle.go_rules.specs.declared.family.OpenKind.{OpenKind}
 use Rattle.go_rules.specs.Scopes.{Scope, Hint}
 use Rattle.go_rules.specs.Settling.{Part, Take, stay, default, as_type, settled, all_settled, defaulted, given}
-use Rattle.go_rules.specs.Sorts.{Stands, is_open, open_kind, default_type, named_type, retyped}
+use Rattle.go_rules.specs.Sorts.{Stands, takes_type, open_kind, default_type, named_type, retyped}
 use Rattle.go_rules.specs.Tables.{Parts, is_held, held, all_held, leaf, is_type, cut, first_cut, is_make_call, call_parts, has_no_low, bounds_of, bracketed_parts, is_package, selector_parts}
 use Rattle.go_rules.specs.Tables.{behind_first, layout, callee_form, selector_form, bracketed_form, on_first, form_by, take_optional, all_given, takes, is_sound, own_faults, built_by, built, hint}
 use Rattle.go_rules.specs.Tables.{part_scope}
@@ -152,7 +152,7 @@ module _ (p : ℕ → Bool) where
   mutual
     settled_marked : (t : TypeTree) (x : Part) → Marked p x → Marked p (settled t x)
     settled_marked t (typed f i j l ps) w =
-        branch (Marked p) (is_open l.sort) (typed f i j (record l { sort = retyped t l.sort }) (all_settled t ps)) (typed f i j l ps) (w.0, all_settled_marked t ps w.1) w
+        branch (Marked p) (takes_type l.sort) (typed f i j (record l { sort = retyped t l.sort }) (all_settled t ps)) (typed f i j l ps) (w.0, all_settled_marked t ps w.1) w
 
     all_settled_marked : (t : TypeTree) (ps : Typeds TypeTree) → AllMarked p ps → AllMarked p (all_settled t ps)
     all_settled_marked t sort.none w = tt

@@ -31,7 +31,7 @@ use Rattle.go_typed.specs.Trees.{Typed, typed, row, sort_of, form_of}
 use Rattle.go_typed.specs.Trees as sort
 use Rattle.go_rules.specs.declared.fault.TypeFault.{TypeFault}
 use Rattle.go_rules.specs.Faults.{or_else}
-use Rattle.go_rules.specs.Sorts.{Stands, is_open, is_constant, constant_of, is_text, own_type, named_type, form_of_value, value_type, element_of, int, uint, byte}
+use Rattle.go_rules.specs.Sorts.{Stands, takes_type, is_constant, is_nil, constant_of, is_text, own_type, named_type, form_of_value, value_type, element_of, int, uint, byte}
 use Rattle.go_rules.specs.Calls.{keeps_value, becomes_text, text_of, constant_or_value, conversion_sort, converted_sort, called, results_of, length_value, length_sort, constant_length, made_sort, appended_sort, builtin_sort, call_sort}
 use Rattle.go_rules.specs.Indexes.{value_or_unknown, index_sort, slice_sort}
 use Rattle.go_rules.specs.Literals.{literal_sort}
@@ -42,7 +42,7 @@ use Rattle.go_rules.specs.Scopes.{Scope, Hint, declares, free}
 use Rattle.go_rules.specs.Tables.{Parts, hint, part_scope, layout, label, form_by, sort_by, takes, failing, placing, is_judged, no_faults, built, built_by, all_given, is_held, callee_form, present, literal_type, on_first, on_one, on_two, on_bracketed, on_literal}
 use Rattle.go_rules.specs.Typing.{typing, typings}
 use Rattle.go_contexts.specs.Final.{Wanted, take, bound, take_of, under, handed, final_type, each, all_take, operation_wants, wants, stands_if, wants_if, sound, alone, parts_want, finished, first_wanted, rest_wanted, rest, operand_wants, shift_wants, both_want, bounds_want, final, finals}
-use Rattle.go_contexts.proofs.Takes.{node_takes, through, unary_wants, operands_meet, shifted_wants, compared_wants, type_once}
+use Rattle.go_contexts.proofs.Takes.{node_takes, through, unary_wants, operands_meet, shifted_wants, compared_wants, type_once, left_not_nil, right_not_nil}
 use Rattle.go_contexts.proofs.Layouts.{is_bounds, within_bounds, bounded, given_as, given_each, none_each, takes_each, same_each, list_row, first_cut_given, call_given, selector_given, behind_given, all_stay, Fit, bracketed_given}
 
 -- ---- a node in which no rule fails
@@ -55,48 +55,48 @@ no_failing false fs gs e = cc
 two_parts : (p q x y : Part) → p ≡ q → x ≡ y → Some p ∷ Some x ∷ [] ≡ Some q ∷ Some y ∷ []
 two_parts p q x y e f = ap (λ z. Some z ∷ Some x ∷ []) e ∙ ap (λ z. Some q ∷ Some z ∷ []) f
 
--- ---- what is never untyped
+-- ---- what never takes a type
 
-closed_if : (b : Bool) (x y : Stands) → is_open x ≡ false → is_open y ≡ false → is_open (cond b x y) ≡ false
+closed_if : (b : Bool) (x y : Stands) → takes_type x ≡ false → takes_type y ≡ false → takes_type (cond b x y) ≡ false
 closed_if true x y e f = e
 closed_if false x y e f = f
 
-closed_value : (o : Option TypeTree) → is_open (value_or_unknown o) ≡ false
+closed_value : (o : Option TypeTree) → takes_type (value_or_unknown o) ≡ false
 closed_value None = refl
 closed_value (Some t) = refl
 
-closed_called : (t : TypeTree) (rs : TypeRow) → is_open (called t rs) ≡ false
+closed_called : (t : TypeTree) (rs : TypeRow) → takes_type (called t rs) ≡ false
 closed_called t types.none = refl
 closed_called t (types.more r types.none) = refl
 closed_called t (types.more r (types.more q rs)) = refl
 
-closed_constant : (t : TypeTree) (o : Option Const) → is_open (constant_or_value t o) ≡ false
+closed_constant : (t : TypeTree) (o : Option Const) → takes_type (constant_or_value t o) ≡ false
 closed_constant t None = refl
 closed_constant t (Some c) = refl
 
-closed_length : (o : Option ℕ) → is_open (length_value o) ≡ false
+closed_length : (o : Option ℕ) → takes_type (length_value o) ≡ false
 closed_length None = refl
 closed_length (Some n) = refl
 
 module _ (rights : Rights) where
-  closed_conversion : (t : TypeTree) (x : Stands) → is_open (conversion_sort rights t x) ≡ false
+  closed_conversion : (t : TypeTree) (x : Stands) → takes_type (conversion_sort rights t x) ≡ false
   closed_conversion t x =
       closed_if (keeps_value rights t (constant_of x)) (constant_or_value t (constant_of x)) (cond (becomes_text rights t (constant_of x)) (sort.Constant t (const.Text (text_of (constant_of x)))) (sort.Value t))
       (closed_constant t (constant_of x)) (closed_if (becomes_text rights t (constant_of x)) (sort.Constant t (const.Text (text_of (constant_of x)))) (sort.Value t) refl refl)
 
-  closed_length_of : (xs : List Part) → is_open (length_sort rights xs) ≡ false
+  closed_length_of : (xs : List Part) → takes_type (length_sort rights xs) ≡ false
   closed_length_of [] = refl
   closed_length_of (x ∷ xs) = closed_length (constant_length rights x)
 
-  closed_made : (xs : List Part) → is_open (made_sort xs) ≡ false
+  closed_made : (xs : List Part) → takes_type (made_sort xs) ≡ false
   closed_made [] = refl
   closed_made (x ∷ xs) = closed_value (named_type (sort_of x))
 
-  closed_appended : (xs : List Part) → is_open (appended_sort xs) ≡ false
+  closed_appended : (xs : List Part) → takes_type (appended_sort xs) ≡ false
   closed_appended [] = refl
   closed_appended (x ∷ xs) = closed_value (own_type (sort_of x))
 
-  closed_builtin : (p : Predeclared) (xs : List Part) → is_open (builtin_sort rights p xs) ≡ false
+  closed_builtin : (p : Predeclared) (xs : List Part) → takes_type (builtin_sort rights p xs) ≡ false
   closed_builtin predeclared.Len xs = closed_length_of xs
   closed_builtin predeclared.Cap xs = closed_length_of xs
   closed_builtin predeclared.Make xs = closed_made xs
@@ -105,30 +105,30 @@ module _ (rights : Rights) where
   closed_builtin predeclared.Panic xs = refl
   closed_builtin p xs = refl
 
-  closed_converted : (t : TypeTree) (xs : List Part) → is_open (converted_sort rights t xs) ≡ false
+  closed_converted : (t : TypeTree) (xs : List Part) → takes_type (converted_sort rights t xs) ≡ false
   closed_converted t [] = refl
   closed_converted t (x ∷ xs) = closed_conversion t (sort_of x)
 
-  closed_call : (f : Stands) (xs : List Part) → is_open (call_sort rights f xs) ≡ false
+  closed_call : (f : Stands) (xs : List Part) → takes_type (call_sort rights f xs) ≡ false
   closed_call (sort.IsType t) xs = closed_converted t xs
   closed_call (sort.Builtin p) xs = closed_builtin p xs
   closed_call (sort.Value t) xs = closed_called t (results_of (underlying_of rights t))
   closed_call (sort.Constant t c) xs = closed_called t (results_of (underlying_of rights t))
   closed_call f xs = refl
 
-  closed_calls : (ys : Parts) → is_open (on_first sort.Unknown (λ f xs. call_sort rights (sort_of f) xs) ys) ≡ false
+  closed_calls : (ys : Parts) → takes_type (on_first sort.Unknown (λ f xs. call_sort rights (sort_of f) xs) ys) ≡ false
   closed_calls [] = refl
   closed_calls (None ∷ ys) = refl
   closed_calls (Some f ∷ ys) = closed_call (sort_of f) (present ys)
 
-  closed_literal : (h : Hint) (ys : Parts) → is_open (on_literal sort.Unknown h (λ t xs. literal_sort t) ys) ≡ false
+  closed_literal : (h : Hint) (ys : Parts) → takes_type (on_literal sort.Unknown h (λ t xs. literal_sort t) ys) ≡ false
   closed_literal h [] = refl
   closed_literal h (t ∷ ys) = closed_value (literal_type h t)
 
-  closed_index : (x : Stands) → is_open (index_sort rights x) ≡ false
+  closed_index : (x : Stands) → takes_type (index_sort rights x) ≡ false
   closed_index x = closed_if (is_text rights x) (sort.Value byte) (value_or_unknown (element_of (form_of_value rights x))) refl (closed_value (element_of (form_of_value rights x)))
 
-  closed_bracketed : (ys : Parts) → is_open (on_bracketed sort.Unknown (λ x n. index_sort rights (sort_of x)) (λ x low high. slice_sort (sort_of x)) ys) ≡ false
+  closed_bracketed : (ys : Parts) → takes_type (on_bracketed sort.Unknown (λ x n. index_sort rights (sort_of x)) (λ x low high. slice_sort (sort_of x)) ys) ≡ false
   closed_bracketed [] = refl
   closed_bracketed (None ∷ ys) = refl
   closed_bracketed (Some x ∷ []) = refl
@@ -140,7 +140,7 @@ module _ (rights : Rights) where
   closed_bracketed (Some x ∷ Some y ∷ z ∷ v ∷ ys) = refl
 
 -- what is typed hands nothing down
-nothing_handed : (w : Take) (x : Stands) (zs : Parts) → is_open x ≡ false → map (option_map (given (handed w x))) zs ≡ zs
+nothing_handed : (w : Take) (x : Stands) (zs : Parts) → takes_type x ≡ false → map (option_map (given (handed w x))) zs ≡ zs
 nothing_handed w x zs e = ap (λ b. map (option_map (given (cond b (final_type w x) stay))) zs) e ∙ all_stay zs
 
 -- where this may be wanted of a node of the kind
@@ -229,14 +229,14 @@ module _ (s : Scope) (h : Hint) (i j : ℕ) where
   unary_fit o w (Some x ∷ []) = ap (λ y. Some y ∷ []) (unary_wants w s.rights o x)
   unary_fit o w (Some x ∷ y ∷ ys) = sym (same_each (handed w sort.Unknown) (Some x ∷ y ∷ ys))
 
-  compared_through : (w : Take) (c : Comparison) (x y z : Part) → compared_failing s.rights c i j x y ≡ []
+  compared_through : (w : Take) (c : Comparison) (x y z : Part) → compared_failing s.rights c i j x y ≡ [] → ((is_constant (sort_of x) && is_constant (sort_of y)) ≡ true → is_nil (sort_of z) ≡ false)
       → through w (compared_sort c (sort_of x) (sort_of y)) (compared_take s.rights (sort_of x) (sort_of y)) z ≡ given (compared_take s.rights (sort_of x) (sort_of y)) z
-  compared_through w c x y z e = by (compared_in s.rights (sort_of x) (sort_of y)) e
+  compared_through w c x y z e g = by (compared_in s.rights (sort_of x) (sort_of y)) e
     where
       by : (m : Option Common) → compared_failing_in s.rights c i j x y m ≡ [] → through w (compared_sort c (sort_of x) (sort_of y)) (compared_take_in (sort_of x) (sort_of y) m) z ≡ given (compared_take_in (sort_of x) (sort_of y) m) z
       by None e = cc
-      by (Some (in_type t)) e = compared_wants w (compared_sort c (sort_of x) (sort_of y)) true (in_type t) z
-      by (Some (in_kind k)) e = compared_wants w (compared_sort c (sort_of x) (sort_of y)) (is_constant (sort_of x) && is_constant (sort_of y)) (in_kind k) z
+      by (Some (in_type t)) e = type_once (handed w (compared_sort c (sort_of x) (sort_of y))) t z
+      by (Some (in_kind k)) e = compared_wants w (compared_sort c (sort_of x) (sort_of y)) (is_constant (sort_of x) && is_constant (sort_of y)) (in_kind k) z g
 
   -- operators that don't compare, of which it is known whether they shift
   computed_fit : (o : Operator) (w : Take) (x y : Part) (shifts : Bool) →
@@ -255,7 +255,7 @@ module _ (s : Scope) (h : Hint) (i j : ℕ) where
       let r = binary_sort s.rights o a b in
       let k = cond (is_constant a && is_constant b) (binary_take s.rights a b) (final_type w r) in
       two_parts (through w r (binary_take s.rights a b) x) (given k x) (through w r (binary_take s.rights a b) y) (given k y)
-      (operands_meet w (constant_op o) (constant_of a) (constant_of b) (common s.rights a b) x) (operands_meet w (constant_op o) (constant_of a) (constant_of b) (common s.rights a b) y)
+      (operands_meet w (constant_op o) (constant_of a) (constant_of b) (common s.rights a b) x (left_not_nil a b)) (operands_meet w (constant_op o) (constant_of a) (constant_of b) (common s.rights a b) y (right_not_nil a b))
 
   pair_fit : (o : Operator) (w : Take) (x y : Part) → operation_failing s.rights o i j x y ≡ [] →
       let a = sort_of x in
@@ -265,7 +265,7 @@ module _ (s : Scope) (h : Hint) (i j : ℕ) where
   pair_fit (operator.Compare c) w x y e =
       let r = compared_sort c (sort_of x) (sort_of y) in
       let k = compared_take s.rights (sort_of x) (sort_of y) in
-      two_parts (through w r k x) (given k x) (through w r k y) (given k y) (compared_through w c x y x e) (compared_through w c x y y e)
+      two_parts (through w r k x) (given k x) (through w r k y) (given k y) (compared_through w c x y x e (left_not_nil (sort_of x) (sort_of y))) (compared_through w c x y y e (right_not_nil (sort_of x) (sort_of y)))
   pair_fit operator.Either w x y e = computed_fit operator.Either w x y false
   pair_fit operator.Both w x y e = computed_fit operator.Both w x y false
   pair_fit (operator.Compute a) w x y e = computed_fit (operator.Compute a) w x y (is_shift (operator.Compute a))

@@ -65,7 +65,7 @@ list_row (Some x ∷ xs) = ap (λ ys. Some x ∷ ys) (list_row xs)
 
 -- ---- what stays the same where a type is taken
 
--- a question to which open sorts give one answer, whatever type they take
+-- a question to which what takes a type gives one answer, whatever type it takes
 pub kept_by : {A : Type 0} (q : Stands → A) → ((t : TypeTree) (s : Stands) → q (retyped t s) ≡ q s) → (k : Take) (x : Part) → q (sort_of (given k x)) ≡ q (sort_of x)
 kept_by q h stay x = refl
 kept_by q h (as_type t) (typed f i j l ps) = by_sort l.sort
@@ -73,6 +73,7 @@ kept_by q h (as_type t) (typed f i j l ps) = by_sort l.sort
     by_sort : (s : Stands) → q (sort_of (settled t (typed f i j (labelled s l.varies l.calls) ps))) ≡ q s
     by_sort (sort.Open u) = h t (sort.Open u)
     by_sort (sort.OpenConstant k) = h t (sort.OpenConstant k)
+    by_sort sort.Nil = h t sort.Nil
     by_sort s = refl
 kept_by q h default (typed f i j l ps) = by_sort l.sort
   where
@@ -84,16 +85,19 @@ kept_by q h default (typed f i j l ps) = by_sort l.sort
 retyped_type : (t : TypeTree) (s : Stands) → is_type (retyped t s) ≡ is_type s
 retyped_type t (sort.Open u) = refl
 retyped_type t (sort.OpenConstant k) = refl
+retyped_type t sort.Nil = refl
 retyped_type t s = refl
 
 retyped_make : (t : TypeTree) (s : Stands) → is_make (retyped t s) ≡ is_make s
 retyped_make t (sort.Open u) = refl
 retyped_make t (sort.OpenConstant k) = refl
+retyped_make t sort.Nil = refl
 retyped_make t s = refl
 
 retyped_package : (t : TypeTree) (s : Stands) → is_package (retyped t s) ≡ is_package s
 retyped_package t (sort.Open u) = refl
 retyped_package t (sort.OpenConstant k) = refl
+retyped_package t sort.Nil = refl
 retyped_package t s = refl
 
 pub form_kept : (t : TypeTree) (x : Part) → form_of (settled t x) ≡ form_of x
@@ -102,6 +106,7 @@ form_kept t (typed f i j l ps) = by_sort l.sort
     by_sort : (s : Stands) → form_of (settled t (typed f i j (labelled s l.varies l.calls) ps)) ≡ f
     by_sort (sort.Open u) = refl
     by_sort (sort.OpenConstant k) = refl
+    by_sort sort.Nil = refl
     by_sort s = refl
 
 -- ---- inside types are no nodes

@@ -12,7 +12,7 @@ use Rattle.go_typed.specs.Trees.{Sort, Label, Typed, typed, Typeds, row, sort_of
 use Rattle.go_typed.specs.Trees as sort
 use Rattle.go_rules.specs.declared.family.OpenKind.{OpenKind}
 use Rattle.go_rules.specs.declared.family.OpenKind.TheVariants as untyped_kind
-use Rattle.go_rules.specs.Sorts.{Stands, open_kind, is_open, constant_of, default_type, kind_of_untyped, kind_of_const, retyped}
+use Rattle.go_rules.specs.Sorts.{Stands, open_kind, takes_type, is_constant, is_nil, constant_of, default_type, kind_of_untyped, kind_of_const, retyped}
 use Rattle.go_rules.specs.Settling.{Part, Take, stay, default, as_type, settled, all_settled, defaulted, given}
 use Rattle.go_rules.specs.Operators.{Common, in_type, in_kind, own, result_in, open_value, folded_both, unary_sort, unary_take}
 use Rattle.go_rules.specs.Tables.{Parts}
@@ -49,10 +49,11 @@ module _ (f : Form) (i j : ℕ) (v c : Bool) (zs : Parts) where
   takes_stay (sort.OpenConstant k) = as_it_is (sort.OpenConstant k)
   takes_stay x = as_it_is x
 
-  takes_type : (t : TypeTree) (x : Stands) → settled t (typed f i j (labelled x v c) (row zs)) ≡ over (handed (as_type t) x) (retyped t x)
-  takes_type t (sort.Open u) = retaken t (sort.Value t)
-  takes_type t (sort.OpenConstant k) = retaken t (sort.Constant t k)
-  takes_type t x = as_it_is x
+  takes_this : (t : TypeTree) (x : Stands) → settled t (typed f i j (labelled x v c) (row zs)) ≡ over (handed (as_type t) x) (retyped t x)
+  takes_this t (sort.Open u) = retaken t (sort.Value t)
+  takes_this t (sort.OpenConstant k) = retaken t (sort.Constant t k)
+  takes_this t sort.Nil = retaken t (sort.Value t)
+  takes_this t x = as_it_is x
 
   takes_default : (x : Stands) → given default (typed f i j (labelled x v c) (row zs)) ≡ over (handed default x) (under default x)
   takes_default (sort.Open u) = retaken (default_type (kind_of_untyped u)) (sort.Value (default_type (kind_of_untyped u)))
@@ -62,25 +63,26 @@ module _ (f : Form) (i j : ℕ) (v c : Bool) (zs : Parts) where
   pub node_takes : (w : Take) (x : Stands) → given w (typed f i j (labelled x v c) (row zs)) ≡ over (handed w x) (under w x)
   node_takes stay x = takes_stay x
   node_takes default x = takes_default x
-  node_takes (as_type t) x = takes_type t x
+  node_takes (as_type t) x = takes_this t x
 
 -- ---- what has a type takes no other
 
-pub typed_stays : (k : Take) (x : Part) → is_open (sort_of x) ≡ false → given k x ≡ x
+pub typed_stays : (k : Take) (x : Part) → takes_type (sort_of x) ≡ false → given k x ≡ x
 typed_stays stay x e = refl
 typed_stays default (typed f i j l ps) e = by_sort l.sort e
   where
-    by_sort : (s : Stands) → is_open s ≡ false → defaulted (open_kind s) (typed f i j (labelled s l.varies l.calls) ps) ≡ typed f i j (labelled s l.varies l.calls) ps
+    by_sort : (s : Stands) → takes_type s ≡ false → defaulted (open_kind s) (typed f i j (labelled s l.varies l.calls) ps) ≡ typed f i j (labelled s l.varies l.calls) ps
     by_sort (sort.Open u) e = cc
     by_sort (sort.OpenConstant k) e = cc
     by_sort s e = refl
 typed_stays (as_type t) (typed f i j l ps) e =
     ap (λ b. let p : Part = cond b (typed f i j (labelled (retyped t l.sort) l.varies l.calls) (all_settled t ps)) (typed f i j l ps) in p) e
 
--- a sort that an open part has once it took a type
-retyped_is : (t : TypeTree) (x : Stands) → is_open (retyped t x) ≡ false
+-- the sort that a part has once it took a type
+retyped_is : (t : TypeTree) (x : Stands) → takes_type (retyped t x) ≡ false
 retyped_is t (sort.Open u) = refl
 retyped_is t (sort.OpenConstant k) = refl
+retyped_is t sort.Nil = refl
 retyped_is t x = refl
 
 settled_sort : (t : TypeTree) (x : Part) → sort_of (settled t x) ≡ retyped t (sort_of x)
@@ -89,21 +91,37 @@ settled_sort t (typed f i j l ps) = by_sort l.sort
     by_sort : (s : Stands) → sort_of (settled t (typed f i j (labelled s l.varies l.calls) ps)) ≡ retyped t s
     by_sort (sort.Open u) = refl
     by_sort (sort.OpenConstant k) = refl
+    by_sort sort.Nil = refl
     by_sort s = refl
 
-settled_typed : (t : TypeTree) (x : Part) → is_open (sort_of (settled t x)) ≡ false
-settled_typed t x = ap is_open (settled_sort t x) ∙ retyped_is t (sort_of x)
+settled_typed : (t : TypeTree) (x : Part) → takes_type (sort_of (settled t x)) ≡ false
+settled_typed t x = ap takes_type (settled_sort t x) ∙ retyped_is t (sort_of x)
 
 pub type_once : (d : Take) (t : TypeTree) (x : Part) → given d (settled t x) ≡ settled t x
 type_once d t x = typed_stays d (settled t x) (settled_typed t x)
 
-pub default_once : (d : Take) (x : Part) → given d (given default x) ≡ given default x
-default_once d (typed f i j l ps) = by_sort l.sort
+-- a default type; `nil` has none
+pub default_once : (d : Take) (x : Part) → is_nil (sort_of x) ≡ false → given d (given default x) ≡ given default x
+default_once d (typed f i j l ps) e = by_sort l.sort e
   where
-    by_sort : (s : Stands) → given d (given default (typed f i j (labelled s l.varies l.calls) ps)) ≡ given default (typed f i j (labelled s l.varies l.calls) ps)
-    by_sort (sort.Open u) = type_once d (default_type (kind_of_untyped u)) (typed f i j (labelled (sort.Open u) l.varies l.calls) ps)
-    by_sort (sort.OpenConstant k) = type_once d (default_type (kind_of_const k)) (typed f i j (labelled (sort.OpenConstant k) l.varies l.calls) ps)
-    by_sort s = typed_stays d (typed f i j (labelled s l.varies l.calls) ps) refl
+    by_sort : (s : Stands) → is_nil s ≡ false → given d (given default (typed f i j (labelled s l.varies l.calls) ps)) ≡ given default (typed f i j (labelled s l.varies l.calls) ps)
+    by_sort (sort.Open u) e = type_once d (default_type (kind_of_untyped u)) (typed f i j (labelled (sort.Open u) l.varies l.calls) ps)
+    by_sort (sort.OpenConstant k) e = type_once d (default_type (kind_of_const k)) (typed f i j (labelled (sort.OpenConstant k) l.varies l.calls) ps)
+    by_sort sort.Nil e = cc
+    by_sort s e = typed_stays d (typed f i j (labelled s l.varies l.calls) ps) refl
+
+-- `nil` is no constant
+pub left_not_nil : (a b : Stands) → (is_constant a && is_constant b) ≡ true → is_nil a ≡ false
+left_not_nil sort.Nil b e = cc
+left_not_nil a b e = refl
+
+never_both : (b : Bool) → (b && false) ≡ true → true ≡ false
+never_both true e = sym e
+never_both false e = sym e
+
+pub right_not_nil : (a b : Stands) → (is_constant a && is_constant b) ≡ true → is_nil b ≡ false
+right_not_nil a sort.Nil e = never_both (is_constant a) e
+right_not_nil a b e = refl
 
 -- ---- operands
 
@@ -142,8 +160,9 @@ module _ (w : Take) where
       node_of s = typed f i j (labelled s l.varies l.calls) ps
 
       by_sort : (s : Stands) → through (unary_sort rights o s) (unary_take s) (node_of s) ≡ given (operand_wants w (unary_sort rights o s) s) (node_of s)
-      by_sort (sort.Constant t c) = default_once (handed w (unary_sort rights o (sort.Constant t c))) (node_of (sort.Constant t c))
-      by_sort (sort.OpenConstant k) = default_once (handed w (unary_sort rights o (sort.OpenConstant k))) (node_of (sort.OpenConstant k))
+      by_sort (sort.Constant t c) = default_once (handed w (unary_sort rights o (sort.Constant t c))) (node_of (sort.Constant t c)) refl
+      by_sort (sort.OpenConstant k) = default_once (handed w (unary_sort rights o (sort.OpenConstant k))) (node_of (sort.OpenConstant k)) refl
+      by_sort sort.Nil = same_unknown (node_of sort.Nil)
       by_sort (sort.Value t) = sym (typed_stays (final_type w (sort.Value t)) (node_of (sort.Value t)) refl)
       by_sort (sort.Open u) = open_wants (kind_of_untyped u) (node_of (sort.Open u))
       by_sort s = sym (typed_stays (final_type w sort.Unknown) (node_of s) refl)
@@ -162,16 +181,16 @@ module _ (w : Take) where
   abbrev pub both : Option Const → Option Const → Bool
   both p q = is_some p && is_some q
 
-  pub operands_meet : (o : ConstOp) (p q : Option Const) (c : Option Common) (x : Part) → through (sort_in o p q c) (take_in (both p q) c) x ≡ given (cond (both p q) (take_in (both p q) c) (final_type w (sort_in o p q c))) x
-  operands_meet o (Some a) (Some b) None x = refl
-  operands_meet o (Some a) (Some b) (Some (in_type t)) x = type_once (handed w (result_in (in_type t) (folded_both o (Some a) (Some b)))) t x
-  operands_meet o (Some a) (Some b) (Some (in_kind k)) x = default_once (handed w (result_in (in_kind k) (folded_both o (Some a) (Some b)))) x
-  operands_meet o (Some a) None None x = same_unknown x
-  operands_meet o (Some a) None (Some (in_type t)) x = same_value t x
-  operands_meet o (Some a) None (Some (in_kind k)) x = open_wants k x
-  operands_meet o None q None x = same_unknown x
-  operands_meet o None q (Some (in_type t)) x = same_value t x
-  operands_meet o None q (Some (in_kind k)) x = open_wants k x
+  pub operands_meet : (o : ConstOp) (p q : Option Const) (c : Option Common) (x : Part) → (both p q ≡ true → is_nil (sort_of x) ≡ false) → through (sort_in o p q c) (take_in (both p q) c) x ≡ given (cond (both p q) (take_in (both p q) c) (final_type w (sort_in o p q c))) x
+  operands_meet o (Some a) (Some b) None x g = refl
+  operands_meet o (Some a) (Some b) (Some (in_type t)) x g = type_once (handed w (result_in (in_type t) (folded_both o (Some a) (Some b)))) t x
+  operands_meet o (Some a) (Some b) (Some (in_kind k)) x g = default_once (handed w (result_in (in_kind k) (folded_both o (Some a) (Some b)))) x (g refl)
+  operands_meet o (Some a) None None x g = same_unknown x
+  operands_meet o (Some a) None (Some (in_type t)) x g = same_value t x
+  operands_meet o (Some a) None (Some (in_kind k)) x g = open_wants k x
+  operands_meet o None q None x g = same_unknown x
+  operands_meet o None q (Some (in_type t)) x g = same_value t x
+  operands_meet o None q (Some (in_kind k)) x g = open_wants k x
 
   -- the left operand of a shift, whose count has the value q if it is constant
   pub shifted_wants : (o : ConstOp) (q : Option Const) (x : Part) →
@@ -184,12 +203,13 @@ module _ (w : Take) where
 
       by_sort : (s : Stands) (q : Option Const) → through (sort_in o (constant_of s) q (own s)) (cond (both (constant_of s) q) default stay) (node_of s)
           ≡ given (cond (both (constant_of s) q) default (final_type w (sort_in o (constant_of s) q (own s)))) (node_of s)
-      by_sort (sort.Constant t c) (Some v) = default_once (handed w (sort_in o (Some c) (Some v) (own (sort.Constant t c)))) (node_of (sort.Constant t c))
+      by_sort (sort.Constant t c) (Some v) = default_once (handed w (sort_in o (Some c) (Some v) (own (sort.Constant t c)))) (node_of (sort.Constant t c)) refl
       by_sort (sort.Constant t c) None = sym (typed_stays (final_type w (sort.Value t)) (node_of (sort.Constant t c)) refl)
-      by_sort (sort.OpenConstant c) (Some v) = default_once (handed w (sort_in o (Some c) (Some v) (own (sort.OpenConstant c)))) (node_of (sort.OpenConstant c))
+      by_sort (sort.OpenConstant c) (Some v) = default_once (handed w (sort_in o (Some c) (Some v) (own (sort.OpenConstant c)))) (node_of (sort.OpenConstant c)) refl
       by_sort (sort.OpenConstant c) None = open_wants (kind_of_const c) (node_of (sort.OpenConstant c))
       by_sort (sort.Value t) q = sym (typed_stays (final_type w (sort.Value t)) (node_of (sort.Value t)) refl)
       by_sort (sort.Open u) q = open_wants (kind_of_untyped u) (node_of (sort.Open u))
+      by_sort sort.Nil q = same_unknown (node_of sort.Nil)
       by_sort s q = sym (typed_stays (final_type w sort.Unknown) (node_of s) refl)
 
   -- the operands of a comparison, which meet in c
@@ -197,7 +217,7 @@ module _ (w : Take) where
   cond_take b (in_type t) = as_type t
   cond_take b (in_kind k) = cond b default (as_type (default_type k))
 
-  pub compared_wants : (s : Stands) (b : Bool) (c : Common) (x : Part) → through s (cond_take b c) x ≡ given (cond_take b c) x
-  compared_wants s b (in_type t) x = type_once (handed w s) t x
-  compared_wants s true (in_kind k) x = default_once (handed w s) x
-  compared_wants s false (in_kind k) x = type_once (handed w s) (default_type k) x
+  pub compared_wants : (s : Stands) (b : Bool) (c : Common) (x : Part) → (b ≡ true → is_nil (sort_of x) ≡ false) → through s (cond_take b c) x ≡ given (cond_take b c) x
+  compared_wants s b (in_type t) x g = type_once (handed w s) t x
+  compared_wants s true (in_kind k) x g = default_once (handed w s) x (g refl)
+  compared_wants s false (in_kind k) x g = type_once (handed w s) (default_type k) x

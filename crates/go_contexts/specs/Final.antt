@@ -1,4 +1,5 @@
--- Final types, from above: what is untyped has the type that is wanted of it, or else its default type.
+-- Final types, from above: what is untyped has the type that is wanted of it, or else its default type. `nil` has the type that is
+-- wanted of it.
 --
 -- What stands alone for a value of a type has that type. In an operation that isn't constant each untyped operand is wanted to have
 -- the operation's final type, but for a shift's count and the operands of a comparison. In parentheses the type of the parentheses is
@@ -14,7 +15,7 @@ use Rattle.go_types.specs.Relations.{Rights}
 use Rattle.go_typed.specs.Trees.{Typed, typed, row, sort_of}
 use Rattle.go_typed.specs.Trees as sort
 use Rattle.go_rules.specs.declared.family.OpenKind.{OpenKind}
-use Rattle.go_rules.specs.Sorts.{Stands, own_type, open_kind, is_open, is_constant, default_type, retyped, int, uint}
+use Rattle.go_rules.specs.Sorts.{Stands, own_type, open_kind, takes_type, is_constant, default_type, retyped, int, uint}
 use Rattle.go_rules.specs.Settling.{Part, Take, stay, default, as_type}
 use Rattle.go_rules.specs.Operators.{is_shift, binary_take, compared_take}
 use Rattle.go_rules.specs.Scopes.{Scope, Hint}
@@ -50,9 +51,9 @@ as_own None = stay
 abbrev pub final_type : Take → Stands → Take
 final_type w x = as_own (own_type (under w x))
 
--- the same where x is untyped
+-- the same where x is untyped or `nil`
 abbrev pub handed : Take → Stands → Take
-handed w x = if is_open x then final_type w x else stay
+handed w x = if takes_type x then final_type w x else stay
 
 -- ---- what is wanted of the parts of a node, which stands alone for x and of which w is wanted
 

@@ -14,7 +14,7 @@ use Rattle.go_typed.specs.declared.node.TypedNode.TheFolds.{fold_out-TypedNode, 
 use Rattle.go_typed.specs.Funcs.{size, sizes}
 use Rattle.go_typed.specs.Trees.{Label, typed, more, skip, row, list_of, sort_of, mapped, all_mapped, label_mapped, Every}
 use Rattle.go_typed.specs.Views.{view, views, label_view, seen, sort_seen, Known, AllKnown, KnownSort}
-use Rattle.go_rules.specs.Sorts.{Stands, is_open, retyped}
+use Rattle.go_rules.specs.Sorts.{Stands, takes_type, retyped}
 use Rattle.go_rules.specs.Settling.{Part, settled, all_settled}
 use Rattle.go_rules.specs.Tables.{Parts, is_held, held}
 
@@ -113,15 +113,15 @@ module _ (t : Table) where
 
 -- ---- settling in place
 
-settled_open : (w : TypeTree) (f : Form) (i j : ℕ) (l : Label TypeTree) (xs : Parts) → is_open l.sort ≡ true → settled w (typed f i j l (row xs)) ≡ typed f i j (record l { sort = retyped w l.sort }) (row (map (option_map (settled w)) xs))
-settled_open w f i j l xs h = ap (λ b. cond b (typed f i j (record l { sort = retyped w l.sort }) (all_settled w (row xs))) (typed f i j l (row xs))) h ∙ ap (typed f i j (record l { sort = retyped w l.sort })) (settled_row w xs)
+settled_parts : (w : TypeTree) (f : Form) (i j : ℕ) (l : Label TypeTree) (xs : Parts) → takes_type l.sort ≡ true → settled w (typed f i j l (row xs)) ≡ typed f i j (record l { sort = retyped w l.sort }) (row (map (option_map (settled w)) xs))
+settled_parts w f i j l xs h = ap (λ b. cond b (typed f i j (record l { sort = retyped w l.sort }) (all_settled w (row xs))) (typed f i j l (row xs))) h ∙ ap (typed f i j (record l { sort = retyped w l.sort })) (settled_row w xs)
 
 -- the label was written first, as that of y, and then the parts, as ns
 module _ (t : Table) (w : TypeTree) (n : TypedNode) (y x : TypedNode-F TypedNode) (ns ms : List (Option TypedNode)) where
   abbrev seen_label : program.Label → Label TypeTree
   seen_label l = label_mapped (type_of t.shapes) (label_view l)
 
-  pub settled_then : is_open (sort_of (seen t n)) ≡ true
+  pub settled_then : takes_type (sort_of (seen t n)) ≡ true
       → y.form ≡ (out-TypedNode n).form → y.first ≡ (out-TypedNode n).first → y.last ≡ (out-TypedNode n).last
       → sort_seen t y.label.sort ≡ retyped w (sort_seen t (out-TypedNode n).label.sort) → y.label.varies ≡ (out-TypedNode n).label.varies → y.label.calls ≡ (out-TypedNode n).label.calls → y.parts.items ≡ (out-TypedNode n).parts.items
       → x.form ≡ (out-TypedNode (roll-TypedNode y)).form → x.first ≡ (out-TypedNode (roll-TypedNode y)).first → x.last ≡ (out-TypedNode (roll-TypedNode y)).last → x.label ≡ (out-TypedNode (roll-TypedNode y)).label
@@ -129,7 +129,7 @@ module _ (t : Table) (w : TypeTree) (n : TypedNode) (y x : TypedNode-F TypedNode
       → ms ≡ (out-TypedNode (roll-TypedNode y)).parts.items → length ns ≡ length ms
       → parts_seen t ns ≡ map (option_map (settled w)) (parts_seen t ms)
       → seen t (roll-TypedNode x) ≡ settled w (seen t n)
-  settled_then open_n yf yi yj ys yv yc yp xf xi xj xl xp em en done =
+  settled_then takes_n yf yi yj ys yv yc yp xf xi xj xl xp em en done =
       let e = out-roll-TypedNode y in
       let o = out-TypedNode n in
       let v = out-TypedNode (roll-TypedNode y) in
@@ -141,14 +141,14 @@ module _ (t : Table) (w : TypeTree) (n : TypedNode) (y x : TypedNode-F TypedNode
       ∙ ap (λ (s : Stands). let m : Label TypeTree = record { sort = s; varies = y.label.varies; calls = y.label.calls } in m) ys
       ∙ ap (λ (b : Bool). let m : Label TypeTree = record { sort = retyped w (sort_seen t o.label.sort); varies = b; calls = y.label.calls } in m) yv
       ∙ ap (λ (b : Bool). let m : Label TypeTree = record { sort = retyped w (sort_seen t o.label.sort); varies = o.label.varies; calls = b } in m) yc in
-      let open_o : is_open (seen_label o.label).sort ≡ true = ap (λ z. is_open (sort_of z)) (sym (seen_out t n)) ∙ open_n in
+      let takes_o : takes_type (seen_label o.label).sort ≡ true = ap (λ z. takes_type (sort_of z)) (sym (seen_out t n)) ∙ takes_n in
       seen_roll t x
       ∙ ap (λ f. typed f x.first x.last (seen_label x.label) (row (parts_seen t x.parts.items))) (xf ∙ ap (λ (z : TypedNode-F TypedNode). z.form) e ∙ yf)
       ∙ ap (λ i. typed o.form i x.last (seen_label x.label) (row (parts_seen t x.parts.items))) (xi ∙ ap (λ (z : TypedNode-F TypedNode). z.first) e ∙ yi)
       ∙ ap (λ j. typed o.form o.first j (seen_label x.label) (row (parts_seen t x.parts.items))) (xj ∙ ap (λ (z : TypedNode-F TypedNode). z.last) e ∙ yj)
       ∙ ap (λ l. typed o.form o.first o.last l (row (parts_seen t x.parts.items))) label_is
       ∙ ap (λ ps. typed o.form o.first o.last (record (seen_label o.label) { sort = retyped w (sort_seen t o.label.sort) }) (row ps)) parts_are
-      ∙ sym (ap (settled w) (seen_out t n) ∙ settled_open w o.form o.first o.last (seen_label o.label) (parts_seen t o.parts.items) open_o)
+      ∙ sym (ap (settled w) (seen_out t n) ∙ settled_parts w o.form o.first o.last (seen_label o.label) (parts_seen t o.parts.items) takes_o)
 
   pub known_then : (k : ℕ) → KnownSort k y.label.sort → x.label ≡ (out-TypedNode (roll-TypedNode y)).label
       → x.parts.items ≡ take (out-TypedNode (roll-TypedNode y)).parts.len (ns ++ drop (length ns) (out-TypedNode (roll-TypedNode y)).parts.items)

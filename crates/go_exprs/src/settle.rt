@@ -13,12 +13,12 @@ ghost use Rattle.go_rules.specs.Tables.{take_optional, all_given};
 
 use go_rules::basics::default_type;
 use go_rules::nodes::sort_of;
-use go_rules::sorts::{is_open, open_kind};
+use go_rules::sorts::{open_kind, takes_type};
 use go_rules::{Basics, Take};
 use go_typed::{Sort, TypedNode};
 use go_types::{TypeId, Types};
 
-/// What is untyped takes the type; a constant keeps its value.
+/// What is untyped takes the type, and so does `nil`; a constant keeps its value.
 fn retype(types: &Types, of: TypeId, sort: &mut Sort)
     requires of { of < length types.now.shapes }
     requires sort { KnownSort (length types.now.shapes) sort.old }
@@ -26,20 +26,20 @@ fn retype(types: &Types, of: TypeId, sort: &mut Sort)
     ensures known { KnownSort (length types.now.shapes) sort.new }
 {
     *sort = match std::mem::replace(sort, Sort::Unknown) {
-        Sort::Open(_) => Sort::Value(of),
+        Sort::Open(_) | Sort::Nil => Sort::Value(of),
         Sort::OpenConstant(constant) => Sort::Constant(of, constant),
         other => other,
     };
 }
 
-/// An untyped node and its untyped operands take the type.
+/// An untyped node and its untyped operands take the type; so does `nil`, in parentheses too.
 pub fn settle(types: &Types, of: TypeId, node: &mut TypedNode)
     requires of { of < length types.now.shapes }
     requires node { Known (length types.now.shapes) node.old }
     ensures tree { seen types.now node.new ≡ settled (type_of types.now.shapes of) (seen types.now node.old) }
     ensures known { Known (length types.now.shapes) node.new }
 {
-    if is_open(types, sort_of(types, node)) {
+    if takes_type(types, sort_of(types, node)) {
         retype(types, of, &mut node.label.sort);
         for part in node.parts.iter_mut() {
             if let Some(part) = part {

@@ -10,7 +10,7 @@ use Rattle.go_rules.specs.declared.fault.TypeFault.{TypeFault}
 use Rattle.go_rules.specs.declared.family.OpenKind.{OpenKind}
 use Rattle.go_rules.specs.Faults.{fault_at, or_else}
 use Rattle.go_rules.specs.Settling.{Part, at_part, settled, all_settled, unrepresented_constant, unrepresented, all_unrepresented, Take, stay, default, as_type, defaulted, given, undefaulted_by, undefaulted, untyped_unassignable, unassignable_by, unassignable}
-use Rattle.go_rules.specs.Sorts.{Stands, is_open, open_kind, is_constant, constant_of, retyped, represents, default_type, suits, has_nil}
+use Rattle.go_rules.specs.Sorts.{Stands, is_open, takes_type, open_kind, is_constant, constant_of, retyped, represents, default_type, suits, has_nil}
 use Rattle.type_tests.specs.Tests.{underlying_of, is_assignable}
 use Rattle.go_rules.specs.Tables.{Parts, present}
 use Rattle.go_fault_places.specs.Places.{EachFault}
@@ -116,7 +116,7 @@ module _ (q : ℕ → ℕ → Bool) where
   mutual
     settled_placed : (t : TypeTree) (x : Part) → Placed x → Placed (settled t x)
     settled_placed t (typed f i j l ps) h =
-        chosen (is_open l.sort) (typed f i j (record l { sort = retyped t l.sort }) (all_settled t ps)) (typed f i j l ps) (h.0, all_settled_placed t ps h.1) h
+        chosen (takes_type l.sort) (typed f i j (record l { sort = retyped t l.sort }) (all_settled t ps)) (typed f i j l ps) (h.0, all_settled_placed t ps h.1) h
 
     all_settled_placed : (t : TypeTree) (ps : Typeds TypeTree) → AllPlaced ps → AllPlaced (all_settled t ps)
     all_settled_placed t none h = tt

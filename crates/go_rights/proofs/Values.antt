@@ -14,7 +14,7 @@ use Rattle.go_rules.specs.declared.family.OpenKind.TheVariants as untyped_kind
 use Rattle.go_rules.specs.Names.{predeclared_sort, is_no_value, is_no_callee, is_no_target, place_failing}
 use Rattle.go_rules.specs.Scopes.{Hint, type_place, loose, callee, statement, target}
 use Rattle.go_rules.specs.Settling.{Part, settled, all_settled, unrepresented_constant, unrepresented, all_unrepresented, Take, stay, default, as_type, defaulted, given, undefaulted_by, undefaulted, untyped_unassignable, unassignable_by, unassignable}
-use Rattle.go_rules.specs.Sorts.{Stands, open_kind, own_type, constant_of, is_open, named_type, underlying_in, form_of_value, family_of, is_whole, is_text, suits, element_of, slice_element, is_bytes, default_type, value_type, represents, retyped, kind_of_untyped, kind_of_const}
+use Rattle.go_rules.specs.Sorts.{Stands, open_kind, own_type, constant_of, takes_type, named_type, underlying_in, form_of_value, family_of, is_whole, is_text, suits, element_of, slice_element, is_bytes, default_type, value_type, represents, retyped, kind_of_untyped, kind_of_const}
 use Rattle.go_rules.specs.Tables.{Parts}
 use Rattle.go_rules.specs.TypeNodes.{part_type, type_sort, over_limit, limit_failing, length_in, sequence_failing, array_of, sequence_type, is_parameter, second, entry_type, entry_of, first_entry, entry_types, with_front, all_types, is_result_list, result_types, parts_in, function_of, signature_type, is_field_name, Fields, fields_of, fields_from, types_of, structure_of}
 use Rattle.go_rights.specs.Reach.{Within, RowWithin, MaybeWithin, AgreeOn, StandsWithin, PartWithin, MaybePart, PartsWithin}
@@ -91,12 +91,13 @@ module _ (p : ℕ → Bool) where
   retyped_within : (t : TypeTree) → Within p t → (x : Stands) → StandsWithin p x → StandsWithin p (retyped t x)
   retyped_within t h (sort.Open u) w = h
   retyped_within t h (sort.OpenConstant c) w = h
+  retyped_within t h sort.Nil w = h
   retyped_within t h x w = w
 
   mutual
     pub settled_within : (t : TypeTree) → Within p t → (x : Part) → PartWithin p x → PartWithin p (settled t x)
     settled_within t h (typed f i j l ps) w =
-        branch (PartWithin p) (is_open l.sort) (typed f i j (record l { sort = retyped t l.sort }) (all_settled t ps)) (typed f i j l ps)
+        branch (PartWithin p) (takes_type l.sort) (typed f i j (record l { sort = retyped t l.sort }) (all_settled t ps)) (typed f i j l ps)
         (retyped_within t h l.sort w.0, all_settled_within t h ps w.1) w
 
     all_settled_within : (t : TypeTree) → Within p t → (ps : Typeds TypeTree) → EveryPart (Within p) ps → EveryPart (Within p) (all_settled t ps)

@@ -27,6 +27,7 @@ call_examples_hold = record {
   no_character = refl;
   wide_character = refl;
   nil_converted = refl;
+  nil_takes_converted = refl;
   nil_to_number = refl;
   to_right_side = refl;
   same_elements = refl;

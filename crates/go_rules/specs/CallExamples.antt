@@ -1,5 +1,5 @@
 -- Worked examples of calls, conversions and predeclared functions, from the Go specification.
-use Rattle.std.specs.Prelude.{◌≡◌, true, false, [], ◌∷◌, codes, Ok, pos, neg_ℤ}
+use Rattle.std.specs.Prelude.{◌≡◌, true, false, [], ◌∷◌, codes, Some, Ok, pos, neg_ℤ}
 use Rattle.go_base.specs.declared.fault.FaultCode.TheVariants as code
 use Rattle.go_ints.specs.declared.kinds.Kind.TheVariants as integer_kind
 use Rattle.go_constants.specs.declared.values.Const.TheVariants as const
@@ -15,7 +15,7 @@ use Rattle.go_typed.specs.declared.sort.Untyped.TheVariants as untyped
 use Rattle.go_typed.specs.Trees as sort
 use Rattle.go_rules.specs.Calls.{no_results}
 use Rattle.go_rules.specs.Scopes.{several, type_place, statement}
-use Rattle.go_rules.specs.Sentences.{D_word, a3_word, b_word, bs_word, character, cs_word, do_word, f_word, fault, fmt, infix_of, mark, n_word, name, number, parens, predeclared_word, prefix_of, s_word, sentence, ss_word, string, t_word, told, two_word, typed_value, word}
+use Rattle.go_rules.specs.Sentences.{D_word, a3_word, b_word, bs_word, character, cs_word, do_word, f_word, fault, fmt, infix_of, mark, n_word, name, number, parens, part_sorts, predeclared_word, prefix_of, s_word, sentence, ss_word, string, t_word, told, two_word, typed_value, word}
 
 pub record CallExamples : Type 0 where
   -- f(1, "a")
@@ -103,6 +103,11 @@ pub record CallExamples : Type 0 where
       typed_value (sentence (mark ∷ mark ∷ predeclared_word predeclared.Int ∷ mark ∷ predeclared_word predeclared.Nil ∷ mark ∷ [])
       (node kind.Call 0 6 (more (node kind.SequenceType 0 3 (skip (more (name 2) none))) (more (name 4) none))))
       ≡ Ok (sort.Value (slice (integer integer_kind.Int)))
+  -- the type and the operand of []int((nil))
+  pub nil_takes_converted :
+      part_sorts (sentence (mark ∷ mark ∷ predeclared_word predeclared.Int ∷ mark ∷ mark ∷ predeclared_word predeclared.Nil ∷ mark ∷ mark ∷ [])
+      (node kind.Call 0 8 (more (node kind.SequenceType 0 3 (skip (more (name 2) none))) (more (parens (name 5)) none))))
+      ≡ Some (sort.IsType (slice (integer integer_kind.Int))) ∷ Some (sort.Value (slice (integer integer_kind.Int))) ∷ []
   -- int(nil)
   pub nil_to_number :
       typed_value (sentence (predeclared_word predeclared.Int ∷ mark ∷ predeclared_word predeclared.Nil ∷ mark ∷ [])

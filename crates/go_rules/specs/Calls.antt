@@ -17,7 +17,7 @@ use Rattle.go_rules.specs.declared.family.Family.TheVariants as family
 use Rattle.go_rules.specs.declared.family.OpenKind.{OpenKind}
 use Rattle.go_rules.specs.Faults.{fault_at}
 use Rattle.go_rules.specs.Sorts.{Stands, is_family, family_of_type, family_of_const, family_of, is_whole, is_text, is_bytes, is_byte, own_type, named_type, constant_of}
-use Rattle.go_rules.specs.Sorts.{open_kind, is_constant, underlying_in, form_of_value, value_type, suits, has_nil, element_of, slice_element, array_length, represents, int}
+use Rattle.go_rules.specs.Sorts.{open_kind, is_constant, is_nil, underlying_in, form_of_value, value_type, suits, has_nil, element_of, slice_element, array_length, represents, int}
 use Rattle.go_rules.specs.Settling.{Part, at_part, unrepresented, undefaulted, unassignable, Take, stay, default, as_type}
 use Rattle.go_rules.specs.Indexes.{bound_failing, disordered, text_length, value_or_unknown}
 
@@ -105,9 +105,10 @@ conversion_sort rights t x =
     then constant_or_value t (constant_of x)
     else (if becomes_text rights t (constant_of x) then sort.Constant t (const.Text (text_of (constant_of x))) else sort.Value t)
 
--- An untyped operand of a conversion to an integer or boolean type takes that type, and of any other its default type.
+-- An untyped operand of a conversion to an integer or boolean type takes that type, and of any other its default type. `nil`
+-- takes the type.
 abbrev pub conversion_take : Rights → TypeTree → Stands → Take
-conversion_take rights t x = if (is_integer_type rights t && is_whole rights x) || is_family family.Booleans (family_of_type (underlying_of rights t)) then as_type t else default
+conversion_take rights t x = if (is_integer_type rights t && is_whole rights x) || is_family family.Booleans (family_of_type (underlying_of rights t)) || is_nil x then as_type t else default
 
 -- ---- calls of functions
 

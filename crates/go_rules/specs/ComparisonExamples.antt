@@ -1,5 +1,5 @@
 -- Worked examples of comparisons, from the Go specification.
-use Rattle.std.specs.Prelude.{◌≡◌, true, false, [], ◌∷◌, codes, Ok, pos, neg_ℤ}
+use Rattle.std.specs.Prelude.{◌≡◌, true, false, [], ◌∷◌, codes, Some, Ok, pos, neg_ℤ}
 use Rattle.go_base.specs.declared.fault.FaultCode.TheVariants as code
 use Rattle.go_ints.specs.declared.kinds.Kind.TheVariants as integer_kind
 use Rattle.go_constants.specs.declared.values.Const.TheVariants as const
@@ -15,7 +15,7 @@ use Rattle.go_typed.specs.declared.sort.Untyped.TheVariants as untyped
 use Rattle.go_typed.specs.Trees as sort
 use Rattle.go_rules.specs.Calls.{no_results}
 use Rattle.go_rules.specs.Scopes.{several, type_place, statement}
-use Rattle.go_rules.specs.Sentences.{a3_word, f_word, fault, infix_of, mark, n_word, name, number, predeclared_word, s_word, sentence, ss_word, string, typed_value, word, x8_word}
+use Rattle.go_rules.specs.Sentences.{a3_word, f_word, fault, infix_of, mark, n_word, name, number, parens, part_sorts, predeclared_word, s_word, sentence, ss_word, string, typed_value, word, x8_word}
 
 pub record ComparisonExamples : Type 0 where
   -- n < 1
@@ -38,6 +38,16 @@ pub record ComparisonExamples : Type 0 where
       typed_value (sentence (predeclared_word predeclared.Nil ∷ mark ∷ f_word ∷ [])
       (infix_of (operator.Compare comparison.NotEqual) (name 0) (name 2)))
       ≡ Ok (sort.Open untyped.Boolean)
+  -- s == nil
+  pub nil_takes_slice :
+      part_sorts (sentence (s_word ∷ mark ∷ predeclared_word predeclared.Nil ∷ [])
+      (infix_of (operator.Compare comparison.Equal) (name 0) (name 2)))
+      ≡ Some (sort.Value (slice (integer integer_kind.Int))) ∷ Some (sort.Value (slice (integer integer_kind.Int))) ∷ []
+  -- (nil) != ss
+  pub nil_takes_declared :
+      part_sorts (sentence (mark ∷ predeclared_word predeclared.Nil ∷ mark ∷ mark ∷ ss_word ∷ [])
+      (infix_of (operator.Compare comparison.NotEqual) (parens (name 1)) (name 4)))
+      ≡ Some (sort.Value (declared 3)) ∷ Some (sort.Value (declared 3)) ∷ []
   -- s == s
   pub slices_compared :
       typed_value (sentence (s_word ∷ mark ∷ s_word ∷ [])

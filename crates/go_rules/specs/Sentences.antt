@@ -5,7 +5,7 @@
 --   var n int; var u uint; var x8 int8; var b bool; var t string; var s []int; var a3 [3]int; var v T; var d D
 --   var f func(int, string) bool; var bs []byte; var ss S; const c8 int8 = 5; const k = 300; const cs string = "abc"
 --   func two() (int, string); func do()
-use Rattle.std.specs.Prelude.{ℕ, ◌+◌, ◌-◌, List, [], ◌∷◌, codes, Option, Some, None, Result, Ok, Err, pos, slice_get, true, false}
+use Rattle.std.specs.Prelude.{ℕ, ◌+◌, ◌-◌, List, [], ◌∷◌, map, codes, Option, Some, None, Result, Ok, Err, pos, slice_get, true, false}
 use Rattle.std.specs.Option.{option_map}
 use Rattle.go_base.specs.declared.fault.FaultCode.{FaultCode}
 use Rattle.go_ints.specs.declared.kinds.Kind.TheVariants as integer_kind
@@ -21,7 +21,7 @@ use Rattle.go_tree.specs.Uses.{object_there}
 use Rattle.go_types.specs.Trees.{boolean, text, integer, array, slice, structure, function, declared, row}
 use Rattle.go_types.specs.Relations.{Rights}
 use Rattle.go_typed.specs.declared.form.Referent.TheVariants as referent
-use Rattle.go_typed.specs.Trees.{Typed, sort_of}
+use Rattle.go_typed.specs.Trees.{Typed, sort_of, parts_of, list_of}
 use Rattle.go_typed.specs.Trees as sort
 use Rattle.go_rules.specs.declared.fault.TypeFault.{TypeFault}
 use Rattle.go_rules.specs.Faults.{judged, reported}
@@ -156,6 +156,10 @@ told h e = judged (reported (faults (scope_of e.words) h e.tree)) (sort_of (typi
 
 abbrev pub typed_value : Sentence → Result Stands TypeFault
 typed_value e = told value e
+
+-- what the parts of its node stand for in the typed tree
+abbrev pub part_sorts : Sentence → List (Option Stands)
+part_sorts e = map (option_map sort_of) (list_of (parts_of (typing (scope_of e.words) value e.tree)))
 
 abbrev pub fault : FaultCode → ℕ → ℕ → Result Stands TypeFault
 fault c i j = Err (record { code = c; first = i; last = j })

@@ -1,7 +1,7 @@
 -- What an expression takes of its place, and what its place refuses.
 --
 -- An expression is untyped where it holds untyped operands. Where it takes a type, so do these: a node settles at once those
--- operands that its own type doesn't reach.
+-- operands that its own type doesn't reach. `nil` takes a type as untyped values do, but has no default type.
 use Rattle.std.specs.Prelude.{ℕ, if◌then◌else◌, List, [], ◌++◌, Option, Some, None}
 use Rattle.go_base.specs.declared.fault.FaultCode.{FaultCode}
 use Rattle.go_base.specs.declared.fault.FaultCode.TheVariants as code
@@ -14,7 +14,7 @@ use Rattle.go_rules.specs.declared.family.OpenKind.{OpenKind}
 use Rattle.go_rules.specs.Faults.{fault_at}
 use Rattle.go_typed.specs.Trees.{Label, Typed, typed, Typeds, none, more, skip, sort_of}
 use Rattle.go_typed.specs.Trees as sort
-use Rattle.go_rules.specs.Sorts.{Stands, is_open, open_kind, is_constant, constant_of, retyped, represents, default_type, suits, has_nil}
+use Rattle.go_rules.specs.Sorts.{Stands, is_open, takes_type, open_kind, is_constant, constant_of, retyped, represents, default_type, suits, has_nil}
 
 -- a typed node
 abbrev pub Part : Type 0
@@ -25,9 +25,9 @@ abbrev pub at_part : FaultCode → Part → List TypeFault
 at_part c (typed f i j l ps) = fault_at c i j
 
 abbrev mutual
-  -- an untyped value, and its untyped operands, take the type t
+  -- an untyped value, and its untyped operands, take the type t; so does `nil`, in parentheses too
   pub settled : TypeTree → Part → Part
-  settled t (typed f i j l ps) = if is_open l.sort then typed f i j (record l { sort = retyped t l.sort }) (all_settled t ps) else typed f i j l ps
+  settled t (typed f i j l ps) = if takes_type l.sort then typed f i j (record l { sort = retyped t l.sort }) (all_settled t ps) else typed f i j l ps
 
   pub all_settled : TypeTree → Typeds TypeTree → Typeds TypeTree
   all_settled t none = none

@@ -98,6 +98,10 @@ abbrev pub is_nil : Stands → Bool
 is_nil sort.Nil = true
 is_nil _ = false
 
+-- whether it has no type of its own and takes that of its place
+abbrev pub takes_type : Stands → Bool
+takes_type x = is_open x || is_nil x
+
 -- the type that a node in a type's place is
 abbrev pub named_type : Stands → Option TypeTree
 named_type (sort.IsType t) = Some t
@@ -217,8 +221,9 @@ abbrev pub is_negative : Option Const → Bool
 is_negative (Some (const.Int (negsuc n) _)) = true
 is_negative _ = false
 
--- what is untyped takes the type; a constant keeps its value with its mark
+-- what is untyped takes the type, and so does `nil`; a constant keeps its value with its mark
 abbrev pub retyped : TypeTree → Stands → Stands
 retyped t (sort.Open u) = sort.Value t
+retyped t sort.Nil = sort.Value t
 retyped t (sort.OpenConstant c) = sort.Constant t c
 retyped t x = x

@@ -5,7 +5,7 @@ ghost use Rattle.go_types.specs.Tables.{type_of, rights_of};
 ghost use Rattle.type_tests.specs.Tests.{underlying_of};
 ghost use Rattle.go_typed.specs.Views.{sort_seen, KnownSort};
 ghost use Rattle.go_rules.specs.Sorts.{family_of_const, family_of_open, family_of_type, kind_of_const, kind_of_untyped, open_kind, own_type, constant_of};
-ghost use Rattle.go_rules.specs.Sorts.{is_open, is_constant, is_nil, family_of, is_family, same_family, suits, has_nil, represents};
+ghost use Rattle.go_rules.specs.Sorts.{is_open, takes_type, is_constant, is_nil, family_of, is_family, same_family, suits, has_nil, represents};
 
 use crate::family::{Family, OpenKind};
 use go_constants::{Basic, Const, represent};
@@ -114,6 +114,13 @@ pub fn is_nil(_types: &Types, sort: &Sort) -> bool
     ensures { result ≡ is_nil (sort_seen _types.now sort.now) }
 {
     matches!(sort, Sort::Nil)
+}
+
+/// Whether it has no type of its own and takes that of its place: an untyped value, or `nil`.
+pub fn takes_type(_types: &Types, sort: &Sort) -> bool
+    ensures { result ≡ takes_type (sort_seen _types.now sort.now) }
+{
+    matches!(sort, Sort::Open(_) | Sort::OpenConstant(_) | Sort::Nil)
 }
 
 /// The family of a type by its underlying type.

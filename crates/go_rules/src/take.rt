@@ -12,7 +12,7 @@ use crate::compare::compared_in;
 use crate::family::Family;
 use crate::operators::{Joint, common};
 use crate::shift::is_whole;
-use crate::sorts::{is_constant, is_family, type_family};
+use crate::sorts::{is_constant, is_family, is_nil, type_family};
 use go_typed::Sort;
 use go_types::{TypeId, Types};
 
@@ -93,7 +93,7 @@ pub fn is_integer_type(types: &Types, of: TypeId) -> bool
     is_family(Family::Integers, type_family(types, of))
 }
 
-/// What the operand of a conversion takes: a type of integers or booleans, else its default type.
+/// What the operand of a conversion takes: a type of integers or booleans, else its default type; `nil` takes the type.
 pub fn conversion_take(types: &Types, to: TypeId, operand: &Sort) -> Take
     requires to { to < length types.now.shapes }
     requires operand { KnownSort (length types.now.shapes) operand.now }
@@ -103,7 +103,7 @@ pub fn conversion_take(types: &Types, to: TypeId, operand: &Sort) -> Take
     if is_integer_type(types, to) && is_whole(types, operand) {
         return Take::As(to);
     }
-    if is_family(Family::Booleans, type_family(types, to)) {
+    if is_family(Family::Booleans, type_family(types, to)) || is_nil(types, operand) {
         return Take::As(to);
     }
     Take::Default

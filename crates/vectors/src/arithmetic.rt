@@ -1,5 +1,5 @@
 //! The table `arith`: kind, operator, two operands, and the value or the trap.
-use crate::tables::Table;
+use case_tables::table::Table;
 use go_base::Memory;
 use go_ints::{Kind, Op, Trap, arith, fits};
 use std::alloc::{AllocError, Global};

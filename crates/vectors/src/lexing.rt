@@ -3,7 +3,8 @@
 
 ghost use Rattle.std.specs.Prelude.{◌≤◌, length};
 
-use crate::tables::Table;
+use case_tables::digits::bytes_of;
+use case_tables::table::Table;
 use go_base::Memory;
 use go_tokens::error::LexError;
 use go_tokens::lex::lex;
@@ -37,25 +38,6 @@ impl Table for Lexing {
         } else {
             Ok(Some(got))
         }
-    }
-}
-
-/// The bytes that pairs of hexadecimal digits write.
-pub fn bytes_of(alloc: Global, text: &str) -> Result<Vec<u8>, Memory> {
-    let mut bytes = Vec::new(alloc);
-    for pair in text.as_bytes().chunks_exact(2) {
-        if let [high, low] = pair {
-            bytes.push(digit(*high) << 4 | digit(*low))?;
-        }
-    }
-    Ok(bytes)
-}
-
-fn digit(byte: u8) -> u8 {
-    match byte {
-        b'0'..=b'9' => byte - b'0',
-        b'a'..=b'f' => byte - b'a' + 10,
-        _ => 0,
     }
 }
 

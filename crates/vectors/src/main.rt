@@ -1,9 +1,8 @@
 //! Compares the crates with tables of cases whose answers come from outside.
 //!
 //! The answers of `arith`, `lexing`, `grammar` and `types` are those of Go's own compiler and packages. Those of `names` come
-//! from another reading of the language, made apart from these crates, since Go has other codes for its faults; so do those of
-//! `typing`, `listings` and `scripts`, which the whole program answers. The rows of `worked_files`, `worked_packages` and
-//! `worked_sessions` were worked out by hand.
+//! from another reading of the language, made apart from these crates, since Go has other codes for its faults. The rows of
+//! `worked_files` and `worked_packages` were worked out by hand.
 //!
 //! The tables lie in the folder that the program is run in, each as a file `NAME.tsv`. A table that
 //! is not there is passed over. Each difference is printed, and for each table a line, as
@@ -12,24 +11,16 @@
 
 mod arithmetic;
 mod lexing;
-mod listings;
 mod names;
 mod parsing;
-mod scripts;
-mod sessions;
-mod tables;
 mod types;
-mod typing;
 
 use arithmetic::Arithmetic;
+use case_tables::table::run;
 use lexing::Lexing;
-use listings::Listings;
 use names::Names;
 use parsing::Parsing;
-use scripts::Scripts;
-use tables::run;
 use types::TypeRelations;
-use typing::Typing;
 
 fn main(rt: HostRuntime) -> anyhow::Result<()> {
     run(&rt, &Arithmetic)?;
@@ -48,14 +39,5 @@ fn main(rt: HostRuntime) -> anyhow::Result<()> {
         &Names {
             name: "worked_packages",
         },
-    )?;
-    run(&rt, &Typing)?;
-    run(&rt, &Listings)?;
-    run(
-        &rt,
-        &Scripts {
-            name: "worked_sessions",
-        },
-    )?;
-    run(&rt, &Scripts { name: "scripts" })
+    )
 }

@@ -1,6 +1,6 @@
 //! Tables of packages: a number, the files in hexadecimal digits, divided by blanks, and `ok` or the fault of the names.
-use crate::lexing::bytes_of;
-use crate::tables::Table;
+use case_tables::digits::bytes_of;
+use case_tables::table::Table;
 use go_base::{Fault, Memory};
 use go_parse::{ParseError, parse};
 use go_scopes::error::ResolveError;

@@ -2,8 +2,8 @@
 
 ghost use Rattle.std.specs.Prelude.{◌≤◌, length};
 
-use crate::lexing::bytes_of;
-use crate::tables::Table;
+use case_tables::digits::bytes_of;
+use case_tables::table::Table;
 use go_base::Memory;
 use go_parse::{ParseError, parse};
 use go_tokens::error::LexError;

@@ -1,7 +1,7 @@
 //! The table `types`. A row `type` has a type, its underlying type, and whether it is comparable; a
 //! row `pair` has two types, whether they are identical, and whether a value of the first is
 //! assignable to the second. Types are written as in Go; `D0` to `D11` are declared types.
-use crate::tables::Table;
+use case_tables::table::Table;
 use go_base::{Bytes, Memory};
 use go_ints::Kind;
 use go_types::{Field, Fields, Shape, TypeId, TypeIds, Types};

@@ -6,7 +6,7 @@ use Rattle.go_typed.specs.declared.node.TypedNode.{TypedNode}
 use Rattle.go_typed.specs.Views.{seen, AllKnown}
 use Rattle.go_types.specs.Tables.{type_of}
 use Rattle.go_rules.specs.Settling.{settled}
-use Rattle.go_rules.specs.Sorts.{is_open}
+use Rattle.go_rules.specs.Sorts.{takes_type}
 use Rattle.go_typed.specs.Trees.{sort_of}
 use Rattle.go_exprs.proofs.Nodes.{known_at, known_set, changed_more, part_smaller, settled_then, known_then}
 use Rattle.go_exprs.proofs.settle.+settle.Goals as goal
@@ -57,8 +57,8 @@ returns-after-loop-part-clause-tree t c =
     let ms = c.deref_mut-part-items.result.now in
     let g = option_map (seen c.args.types.now) in
     let f = option_map (settled (type_of c.args.types.now.shapes c.args.of)) in
-    let open_node : is_open (sort_of (seen c.args.types.now c.args.node.now)) ≡ true = ap is_open (sym c.sort_of.ensures.tree) ∙ sym c.is_open.ensures ∙ c.if-is_open.true in
-    settled_then c.args.types.now (type_of c.args.types.now.shapes c.args.of) c.args.node.now _ _ ns ms open_node refl refl refl c.retype.ensures.tree refl refl refl refl refl refl refl refl c.deref_mut-part-items.ensures.value c.loop-part.auto.part-items
+    let takes_node : takes_type (sort_of (seen c.args.types.now c.args.node.now)) ≡ true = ap takes_type (sym c.sort_of.ensures.tree) ∙ sym c.takes_type.ensures ∙ c.if-takes_type.true in
+    settled_then c.args.types.now (type_of c.args.types.now.shapes c.args.of) c.args.node.now _ _ ns ms takes_node refl refl refl c.retype.ensures.tree refl refl refl refl refl refl refl refl c.deref_mut-part-items.ensures.value c.loop-part.auto.part-items
     (sym (ap (map g) (take_all c.loop-part.part-index ns (omega arith))) ∙ c.loop-part.invariant.parts ∙ ap (λ zs. map f (map g zs)) (take_all c.loop-part.part-index ms (omega arith)))
 
 pub returns-after-loop-part-clause-known : goal.returns-after-loop-part-clause-known

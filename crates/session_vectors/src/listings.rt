@@ -1,6 +1,6 @@
 //! The table `listings`: a number, the two options, the files, and the reply to `classes` with `; ` for each newline but the last.
 use crate::sessions::Session;
-use crate::tables::Table;
+use case_tables::table::Table;
 use go_base::Memory;
 use std::alloc::Global;
 

@@ -1,7 +1,8 @@
 //! The table `scripts`: a number, words, which call fails, the folder, the script, and then the status, what is written and
 //! the folder afterwards. Long bytes are pieces divided by `+`.
-use crate::sessions::{Session, pieces};
-use crate::tables::Table;
+use crate::sessions::Session;
+use case_tables::digits::pieces;
+use case_tables::table::Table;
 use go_base::Memory;
 use std::alloc::Global;
 

@@ -13,10 +13,18 @@ pub trait Table {
     fn name(&self) -> &'static str;
 
     /// What is wrong in a case with these fields, or nothing.
+    ///
+    /// # Errors
+    ///
+    /// Want of memory.
     fn difference(&self, alloc: Global, fields: &[&str]) -> Result<Option<String>, Memory>;
 }
 
 /// Tries each case of the table, prints each difference, and then how many cases agree.
+///
+/// # Errors
+///
+/// A file that can't be read, a line that can't be written, or want of memory.
 pub fn run<T: Table>(rt: &HostRuntime, table: &T) -> Result<()> {
     let path = format!(in rt.alloc(); "{}.tsv", table.name())?;
     let text = match fs::read_to_string(rt, path.as_str()) {

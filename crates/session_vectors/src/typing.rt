@@ -1,6 +1,6 @@
 //! The table `typing`: a number, the files in hexadecimal digits, divided by blanks, and `ok` or the fault of the whole check.
 use crate::sessions::Session;
-use crate::tables::Table;
+use case_tables::table::Table;
 use go_base::Memory;
 use std::alloc::Global;
 

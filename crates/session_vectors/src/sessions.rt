@@ -1,5 +1,5 @@
 //! Whole runs of the program over folders, scripts and sinks in memory, as the tables write them.
-use crate::lexing::bytes_of;
+use case_tables::digits::pieces;
 use clone_program::Goclone;
 use clone_server::serve::serve;
 use go_base::{Bytes, Memory, Name};
@@ -24,31 +24,6 @@ pub struct Ended {
     pub status: u8,
     pub written: Vec<u8>,
     folder: MemFolder,
-}
-
-/// The bytes that a piece writes: two digits for each, or a byte, `*` and how often it comes.
-fn push_piece(alloc: Global, bytes: &mut Vec<u8>, piece: &str) -> Result<(), Memory> {
-    let (digits, count) = match piece.split_once('*') {
-        None => (piece, 1),
-        Some((digits, count)) => (digits, count.parse::<usize>().unwrap_or(0)),
-    };
-    let part = bytes_of(alloc, digits)?;
-    for _ in 0..count {
-        bytes.extend_from_slice(&part)?;
-    }
-    Ok(())
-}
-
-/// The bytes that pieces divided by `+` write, and none for `-`.
-pub fn pieces(alloc: Global, text: &str) -> Result<Vec<u8>, Memory> {
-    let mut bytes = Vec::new(alloc);
-    if text == "-" {
-        return Ok(bytes);
-    }
-    for piece in text.split('+') {
-        push_piece(alloc, &mut bytes, piece)?;
-    }
-    Ok(bytes)
 }
 
 /// The name and the bytes of a file.

@@ -1,0 +1,3 @@
+mod Plans
+mod Meanings
+mod Contents
