@@ -22,7 +22,7 @@ use Rattle.package_numbers.specs.declared.numbers.Numbers.{Numbers}
 use Rattle.package_numbers.specs.Names.{hashes_of, windows_of}
 use Rattle.package_numbers.specs.Numbers.{has_body, hashes_in, numbers_in}
 use Rattle.package_numbers.proofs.Functions.{with_body, content-counted, renamed-counted}
-use Rattle.package_numbers.proofs.Hashes.{Names, hashes_by, hashes-mapped}
+use Rattle.package_numbers.proofs.Mapping.{Names, hashes_by, hashes-mapped}
 use Rattle.package_numbers.proofs.Names.{content_names, package_names, package-agrees, files-names, with_files}
 use Rattle.package_numbers.proofs.Read.{OfFiles, same-sources, checked_origins}
 use Rattle.package_numbers.proofs.Renamings.{UnderlyingRenamed, renamed-agrees}

@@ -1,9 +1,11 @@
 mod Words
-mod Hashes
+mod Mapping
 mod Names
 mod Holes
 mod Renamings
 pub mod Read
 mod Follows
-mod Origins
+mod Places
 mod Functions
+mod Steps
+mod Told

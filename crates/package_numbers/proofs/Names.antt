@@ -27,7 +27,7 @@ use Rattle.clone_window.specs.Sameness.{same_outline}
 use Rattle.alpha_hash.specs.Packages as packages
 use Rattle.alpha_hash.specs.Packages.{field_in, predeclared_text}
 use Rattle.package_numbers.specs.Names.{name_of, name_at, declared_name, declared_text, object_text}
-use Rattle.package_numbers.proofs.Hashes.{Names, Agree}
+use Rattle.package_numbers.proofs.Mapping.{Names, Agree}
 
 -- what names a content, and a package that the program holds
 abbrev pub content_names : Content → Names TypeTree
@@ -54,7 +54,7 @@ same-text p o [] ds = refl
 same-text p o (r ∷ rs) [] = refl
 same-text p o (r ∷ rs) (d ∷ ds) = ap (λ t. if same_outline (referent_outline r) o then print.name_of p (Some d) else t) (same-text p o rs ds)
 
-abbrev by-number : Outline → List ℕ → List ℕ
+abbrev pub by-number : Outline → List ℕ → List ℕ
 by-number o t = if nat_eq o.operator 5 then predeclared_text o.count known_names else (if nat_eq o.operator 6 then codes "fmt.Println" else t)
 
 same-object : (p : PackageView) (o : Outline) → object_text (content p) o ≡ packages.object_text p o
@@ -95,7 +95,7 @@ module _ (fs gs : List FileTree) (same : map source_of fs ≡ map source_of gs) 
       ap (λ t. if same_outline (referent_outline r) o then t else declared_text fs o rs ds) (file-name (Some d))
       ∙ ap (λ t. if same_outline (referent_outline r) o then name_of gs (Some d) else t) (file-object o rs ds)
 
-abbrev with_files : Content → List FileTree → Content
+abbrev pub with_files : Content → List FileTree → Content
 with_files c fs = record c { files = fs }
 
 module _ (c : Content) (gs : List FileTree) (same : map source_of c.files ≡ map source_of gs) where

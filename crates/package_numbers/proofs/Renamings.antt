@@ -20,7 +20,7 @@ use Rattle.clone_window.specs.declared.outline.Outline.{Outline}
 use Rattle.alpha_hash.specs.Packages.{field_in}
 use Rattle.go_print.specs.Names.{object_at}
 use Rattle.package_numbers.specs.Names.{name_of, name_at, declared_name, declared_text, object_text}
-use Rattle.package_numbers.proofs.Hashes.{Names, Agree}
+use Rattle.package_numbers.proofs.Mapping.{Names, Agree}
 use Rattle.package_numbers.proofs.Holes.{Into, OneToOne, pigeonhole}
 use Rattle.package_numbers.proofs.Names.{by-number, content_names}
 

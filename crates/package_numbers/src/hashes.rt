@@ -1,6 +1,7 @@
 //! The hashes of the windows of a package.
 
 ghost use Rattle.std.specs.Prelude.{◌≡◌, ◌≤◌, ◌++◌, map, nat_eq, IfOk, OnOk};
+ghost use Rattle.std.specs.HashSet as set;
 ghost use Rattle.std.specs.Set.{distinct_count};
 ghost use Rattle.clone_same.specs.Bodies.{bodies_of};
 ghost use Rattle.clone_classes.specs.Listing.{windows_of_all};
@@ -44,8 +45,8 @@ pub fn hashes_of<H: WindowHash>(
 fn push_numbers(hashes: &[(Window, u64)], out: &mut Vec<u64>) -> Result<(), AllocError>
     ensures { OnOk result (out.new.items ≡ out.old.items ++ map (λ x. x.1) hashes.now) }
 {
-    for (_, number) in hashes {
-        out.push(*number)?;
+    for hash in hashes {
+        out.push(hash.1)?;
     }
     Ok(())
 }
@@ -58,6 +59,13 @@ fn push_numbers(hashes: &[(Window, u64)], out: &mut Vec<u64>) -> Result<(), Allo
 pub fn distinct(alloc: Global, hashes: &[u64]) -> Result<u64, AllocError>
     ensures { IfOk result (λ n. n ≡ distinct_count nat_eq hashes.now) }
 {
-    let set: HashSet<u64> = hashes.iter().copied().collect(alloc)?;
+    let set = collected(alloc, hashes)?;
     Ok(set.len() as u64)
+}
+
+/// These numbers as a set.
+fn collected(alloc: Global, hashes: &[u64]) -> Result<HashSet<u64>, AllocError>
+    ensures { IfOk result (set.IsFromIterResult nat_eq hashes.now) }
+{
+    hashes.iter().copied().collect(alloc)
 }

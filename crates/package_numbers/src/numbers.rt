@@ -56,17 +56,23 @@ pub fn numbers_of(
 {
     numbers_follow_from_the_texts();
     let _types = checked.types();
-    if !are_all_placed(checked) {
+    if !are_all_placed(checked)? {
         return Err(Memory);
     }
     let hashes = hashes_of(alloc, &AlphaHash, checked, min, mass)?;
+    let files = number(checked.files().len())?;
+    let bytes = total_bytes(checked.files())?;
+    let functions = functions_with_body(checked.functions())?;
+    let windows = number(hashes.len())?;
+    let distinct = distinct(alloc, &hashes)?;
+    let classes = number(classes.len())?;
     Ok(Numbers {
-        files: number(checked.files().len())?,
-        bytes: total_bytes(checked.files()).ok_or(Memory)?,
-        functions: number(functions_with_body(checked.functions()))?,
-        windows: number(hashes.len())?,
-        hashes: distinct(alloc, &hashes)?,
-        classes: number(classes.len())?,
+        files,
+        bytes,
+        functions,
+        windows,
+        hashes: distinct,
+        classes,
     })
 }
 
