@@ -1,9 +1,7 @@
 //! The numbers of a package.
 
-ghost use Rattle.std.specs.Prelude.{◌≡◌, ◌≤◌, length, IfOk, IsTrue};
-ghost use Rattle.std.specs.Set.{distinct_count};
+ghost use Rattle.std.specs.Prelude.{◌≡◌, ◌≤◌, IfOk};
 ghost use Rattle.go_typed.specs.Contents.{Content};
-ghost use Rattle.go_typed.specs.Funcs.{tree_of};
 ghost use Rattle.go_package.specs.Checked.{IsChecked, IsCheckedPackage, texts_of};
 ghost use Rattle.clone_replies.specs.Classes.{classes_in};
 ghost use Rattle.clone_classes.specs.Listing.{members_of};
@@ -12,7 +10,7 @@ ghost use Rattle.package_numbers.specs.Numbers.{numbers_in};
 use crate::count::{functions_with_body, total_bytes};
 use crate::hashes::{distinct, hashes_of};
 use crate::laws::numbers_follow_from_the_texts;
-use crate::origins::are_all_placed;
+use crate::origins::all_placed;
 use go_base::Memory;
 use go_typed::checked::Checked;
 use go_typed::window::Class;
@@ -56,9 +54,7 @@ pub fn numbers_of(
 {
     numbers_follow_from_the_texts();
     let _types = checked.types();
-    if !are_all_placed(checked)? {
-        return Err(Memory);
-    }
+    all_placed(checked)?;
     let hashes = hashes_of(alloc, &AlphaHash, checked, min, mass)?;
     let files = number(checked.files().len())?;
     let bytes = total_bytes(checked.files())?;

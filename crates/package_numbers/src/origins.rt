@@ -1,6 +1,6 @@
 //! How many declared types names mean.
 
-ghost use Rattle.std.specs.Prelude.{◌≡◌, ◌+◌, length, count_by, IfOk, IsTrue};
+ghost use Rattle.std.specs.Prelude.{◌≡◌, ◌+◌, length, count_by, IfOk, OnOk};
 ghost use Rattle.go_package.specs.Checked.{origins};
 ghost use Rattle.go_package.specs.Knowledge.{is_type};
 
@@ -10,12 +10,16 @@ use go_tree::object::Declared;
 use go_tree::uses::Uses;
 use go_typed::checked::Checked;
 
-/// Whether as many declared types have a place as the names of the package mean. `Memory` also where these are too many.
-pub fn are_all_placed(checked: &Checked) -> Result<bool, Memory>
-    ensures { IfOk result (λ b. IsTrue b → length checked.now.origins ≡ length (origins checked.now.uses)) }
+/// As many declared types have a place as the names of the package mean. `Memory` where it isn't so, and where these are too many.
+pub fn all_placed(checked: &Checked) -> Result<(), Memory>
+    ensures { OnOk result (length checked.now.origins ≡ length (origins checked.now.uses)) }
 {
     let count = type_count(checked.uses())?;
-    Ok(count == checked.origins().len())
+    if count == checked.origins().len() {
+        Ok(())
+    } else {
+        Err(Memory)
+    }
 }
 
 /// How many declared types there are, in the package and in its functions.

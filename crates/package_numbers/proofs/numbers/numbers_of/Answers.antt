@@ -17,7 +17,7 @@ returns c = λ whole checked listed.
     let functions : c.in_ok-functions.functions ≡ count_by (λ f. has_body (tree_of f)) p.functions = c.in_ok-functions.ensures ∙ ap (count_by (λ f. has_body (tree_of f))) c.functions.ensures in
     let windows : c.in_ok-windows.windows ≡ length hs = c.in_ok-windows.ensures ∙ c.len.ensures ∙ c.in_ok-hashes.hashes.ok.0 in
     let distinct : c.in_ok-distinct.distinct ≡ distinct_count nat_eq hs = c.in_ok-distinct.ensures ∙ ap (distinct_count nat_eq) c.deref.ensures.value in
-    let placed : length p.origins ≡ length (origins p.uses) = c.in_ok-are_all_placed.ensures c.if-not-in_ok-are_all_placed.ensures in
+    let placed : length p.origins ≡ length (origins p.uses) = c.in_ok-all_placed.ensures in
     six-equal files bytes functions windows distinct c.in_ok-classes.ensures
     ∙ told (record { fewest = c.args.min; least = c.args.mass }) p whole hs c.args.classes.now c.types-types.ensures.stands.names
     (law.functions p whole c.requires.checked checked) (c.in_ok-hashes.ensures ∙ law.hashes (record { fewest = c.args.min; least = c.args.mass }) p whole c.requires.checked placed checked) listed
