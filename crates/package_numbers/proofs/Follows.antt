@@ -79,7 +79,7 @@ hashes-follow law bounds p c h placed k =
     let name = h.same.0 in
     let same = h.same.1 in
     let as_many : length h.given.origins ≡ length p.origins =
-        ap length (checked_origins (texts_of p) h.given h.checked) ∙ ap (λ u. length (origins u)) (sym same.uses) ∙ sym placed in
+    ap length (checked_origins (texts_of p) h.given h.checked) ∙ ap (λ u. length (origins u)) (sym same.uses) ∙ sym placed in
     sym (of-content bounds p) ∙ of-renamed law.underlying bounds name h.given (content p) same as_many ∙ one-hashes law bounds (texts_of p) h.given c h.checked k
 
 pub functions-follow : OfPackages → (p : PackageView) (c : Content) → IsCheckedPackage p → IsChecked (texts_of p) c → count_by (λ f. has_body (tree_of f)) p.functions ≡ with_body c.functions

@@ -8,7 +8,6 @@ use Rattle.go_typed.specs.Funcs.{FuncView, tree_of}
 use Rattle.go_typed.specs.Trees.{Typed, typed, none, more, skip, mapped}
 use Rattle.package_numbers.specs.Numbers.{has_body}
 
-
 count-mapped : {A B : Type 0} (g : A → B) (p : A → Bool) (q : B → Bool) → ((x : A) → q (g x) ≡ p x) → (xs : List A) → count_by q (map g xs) ≡ count_by p xs
 count-mapped g p q same [] = refl
 count-mapped g p q same (x ∷ xs) =

@@ -32,9 +32,9 @@ into-less f n m into one i p =
     let b = into n (omega arith) in
     let ne : f i ≡ f n → ⊥ = λ e. let z = one i n (omega (arith, p)) (omega arith) e in omega (arith, z, p) in
     by a b ne (avoids (f i) m (f n)) where
-  by : f i < suc m → f n < suc m → (f i ≡ f n → ⊥) → Avoids (f i) m (f n) (avoiding f m n i) → avoiding f m n i < m
-  by a b ne (inl w) = omega (arith, a, b, w.0, w.1, ne)
-  by a b ne (inr w) = omega (arith, a, w.0, w.1)
+      by : f i < suc m → f n < suc m → (f i ≡ f n → ⊥) → Avoids (f i) m (f n) (avoiding f m n i) → avoiding f m n i < m
+      by a b ne (inl w) = omega (arith, a, b, w.0, w.1, ne)
+      by a b ne (inr w) = omega (arith, a, w.0, w.1)
 
 one-less : (f : ℕ → ℕ) (n m : ℕ) → OneToOne f (suc n) → OneToOne (avoiding f m n) n
 one-less f n m one i j p q e = both (avoids (f i) m (f n)) (avoids (f j) m (f n)) where

@@ -94,9 +94,9 @@ module _ (name : ℕ → ℕ) (c d : Content) (h : IsRenamed name c d) (as_many 
   same-names n =
       ap (name_at d) (same-place n)
       ∙ placed (slice_get c.origins n) where
-    placed : (o : Option Origin) → name_at d o ≡ name_at c o
-    placed None = refl
-    placed (Some o) = ap (λ files. name_of files (declared_as d.uses (object_at o))) h.files ∙ ap (λ uses. name_of c.files (declared_as uses (object_at o))) h.uses
+        placed : (o : Option Origin) → name_at d o ≡ name_at c o
+        placed None = refl
+        placed (Some o) = ap (λ files. name_of files (declared_as d.uses (object_at o))) h.files ∙ ap (λ uses. name_of c.files (declared_as uses (object_at o))) h.uses
 
   same-object : (o : Outline) → object_text d o ≡ object_text c o
   same-object o =

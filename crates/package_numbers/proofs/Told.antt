@@ -20,7 +20,6 @@ use Rattle.package_numbers.specs.Names.{content_hash, hashes_of, windows_of}
 use Rattle.package_numbers.specs.Numbers.{has_body, hashes_in, numbers_in}
 use Rattle.package_numbers.proofs.Functions.{with_body}
 
-
 as-many : (ns : List (List ℕ)) (fs : List FileTree) → length ns ≡ length fs → length (texts_by ns fs) ≡ length fs
 as-many [] [] e = refl
 as-many [] (f ∷ fs) e = absurd (omega (arith, e))

@@ -7,7 +7,7 @@
 mod count;
 pub mod hashes;
 pub mod laws;
-mod origins;
 mod numbers;
+mod origins;
 
 pub use numbers::{Numbers, numbers_of};
