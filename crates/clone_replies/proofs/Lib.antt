@@ -1,5 +1,5 @@
-mod Mapped
+pub mod Mapped
 mod Masses
-mod Tested
+pub mod Tested
 mod Places
 mod Packages

@@ -146,12 +146,12 @@ module _ {T : Type 0} where
 -- ---- what sorts show
 
 module _ {T U : Type 0} (g : T → U) where
-  abbrev final_mapped : Final T → Final U
+  abbrev pub final_mapped : Final T → Final U
   final_mapped (of_type t) = of_type (g t)
   final_mapped (of_kind k) = of_kind k
   final_mapped of_none = of_none
 
-  final-mapped : (s : Sort T) → final (sort_mapped g s) ≡ final_mapped (final s)
+  pub final-mapped : (s : Sort T) → final (sort_mapped g s) ≡ final_mapped (final s)
   final-mapped Nothing = refl
   final-mapped Unknown = refl
   final-mapped Blank = refl
@@ -181,7 +181,7 @@ module _ {T U : Type 0} (g : T → U) where
   standing-mapped (OpenConstant c) = refl
   standing-mapped (Results t) = refl
 
-  value-mapped : (s : Sort T) → value_of (sort_mapped g s) ≡ value_of s
+  pub value-mapped : (s : Sort T) → value_of (sort_mapped g s) ≡ value_of s
   value-mapped Nothing = refl
   value-mapped Unknown = refl
   value-mapped Blank = refl
@@ -196,12 +196,12 @@ module _ {T U : Type 0} (g : T → U) where
   value-mapped (OpenConstant c) = refl
   value-mapped (Results t) = refl
 
-  sort-at-mapped : (sorts : List (Sort T)) (n : ℕ) → sort_at (map (sort_mapped g) sorts) n ≡ sort_mapped g (sort_at sorts n)
+  pub sort-at-mapped : (sorts : List (Sort T)) (n : ℕ) → sort_at (map (sort_mapped g) sorts) n ≡ sort_mapped g (sort_at sorts n)
   sort-at-mapped [] n = refl
   sort-at-mapped (s ∷ sorts) zero = refl
   sort-at-mapped (s ∷ sorts) (suc n) = sort-at-mapped sorts n
 
-  locals-in-mapped : (bs : List (Body T)) (n : ℕ) → locals_in (slice_get (map (body-mapped g) bs) n) ≡ map (sort_mapped g) (locals_in (slice_get bs n))
+  pub locals-in-mapped : (bs : List (Body T)) (n : ℕ) → locals_in (slice_get (map (body-mapped g) bs) n) ≡ map (sort_mapped g) (locals_in (slice_get bs n))
   locals-in-mapped [] n = refl
   locals-in-mapped (b ∷ bs) zero = refl
   locals-in-mapped (b ∷ bs) (suc n) = locals-in-mapped bs n

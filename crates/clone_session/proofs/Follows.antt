@@ -13,7 +13,7 @@ use Rattle.clone_same.specs.Bodies.{bodies_of}
 use Rattle.clone_classes.specs.Listing.{listing}
 use Rattle.clone_replies.specs.Classes.{body_in, classes_in, listed_package}
 use Rattle.clone_replies.specs.Listing.{listing_by, listing_reply}
-use Rattle.clone_session.proofs.Read.{OfFiles, same-sources}
+use Rattle.package_numbers.proofs.Read.{OfFiles, same-sources}
 use Rattle.clone_session.proofs.Spans.{same-listing}
 
 -- what is known of packages and their files

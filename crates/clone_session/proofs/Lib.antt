@@ -1,5 +1,4 @@
 mod Follows
-mod Read
 mod Spans
 mod Taken
 mod Runs

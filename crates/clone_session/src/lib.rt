@@ -1,8 +1,9 @@
 //! A session over the texts of a package: the texts are edited, the package is checked and run, and its clone classes are listed.
 //!
 //! The contract: `fault` is none exactly where the present package type-checks, and else the fault that is reported of it; `classes`
-//! are the clone classes of the present package by definition, and `run` is its run. Texts that were edited are checked again, so nothing is told of
-//! earlier ones. After a refusal and after want of memory the texts are as they were.
+//! are the clone classes of the present package by definition, `run` is its run, and `stat` gives its numbers. Texts that were
+//! edited are checked again, so nothing is told of earlier ones. After a refusal and after want of
+//! memory the texts are as they were.
 #![tactic(auto)]
 
 mod check;

@@ -17,6 +17,7 @@ ghost use Rattle.clone_replies.specs.Classes.{classes_in};
 ghost use Rattle.clone_replies.specs.Listing.{listing_reply};
 ghost use Rattle.go_run.specs.Runs.{outcome_view, refusal};
 ghost use Rattle.run_replies.specs.Contents.{run_in};
+ghost use Rattle.package_numbers.specs.Numbers.{numbers_in};
 ghost use Rattle.clone_session.specs.Session.{IsGoodVerdict, fault_in};
 ghost use Rattle.clone_session.specs.declared.verdict.Verdict.TheVariants as verdict;
 
@@ -33,6 +34,7 @@ use go_base::{Bytes, Fault, FileText, Memory, Name, Steps};
 use go_run::outcome::{Outcome, RunError};
 use go_typed::checked::Checked;
 use go_typed::window::Class;
+use package_numbers::{Numbers, numbers_of};
 use std::alloc::Global;
 use std::marker::{Brand, Model, PhantomData};
 use std::sync::ledger::{Blank, Ledger};
@@ -226,6 +228,19 @@ impl<C: Check> Session<C> {
         ensures { (c : Whole) → IsChecked self.now.texts c → Gives outcome_view refusal result (run_in c input.now turns) }
     {
         run_of(self.alloc, self.checked(), input, turns)
+    }
+
+    /// The numbers of the present package.
+    ///
+    /// # Errors
+    ///
+    /// Want of memory.
+    pub fn stat(&self) -> Result<Numbers, Memory>
+        requires { IsGoodVerdict self.now.verdict }
+        ensures { IfOk result (λ n. (c : Whole) → IsChecked self.now.texts c → n ≡ numbers_in self.now.bounds self.now.texts c) }
+    {
+        let classes = self.classes()?;
+        numbers_of(self.alloc, self.checked(), self.min, self.mass, &classes)
     }
 
     /// The reply to a command that reads or changes the texts, and none to a command of another sort.

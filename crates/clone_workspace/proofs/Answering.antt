@@ -5,7 +5,7 @@ use Rattle.clone_script.specs.declared.command.Command.{Command}
 use Rattle.clone_script.specs.declared.command.Command.TheVariants as command
 use Rattle.clone_server.specs.Session.{Settings}
 use Rattle.clone_texts.specs.Replies.{TextReply}
-use Rattle.clone_workspace.specs.Answers.{Answers, PackageReply, IsListing, IsUntold, bounds_of}
+use Rattle.clone_workspace.specs.Answers.{Answers, PackageReply, IsListing, IsNumbers, bounds_of}
 
 pub of-text : (s : Settings) (texts : List FileText) (c : Command) (reply : List ℕ) (after : List FileText) → TextReply texts c reply after → Answers s texts c reply after
 of-text s texts (command.Edit name start end text) reply after h = h
@@ -21,5 +21,6 @@ pub of-classes : (s : Settings) (texts : List FileText) (c : Command) (reply : L
     PackageReply (IsListing (bounds_of s)) texts reply → after ≡ texts → Answers s texts c reply after
 of-classes s texts c reply after e h k = subst (λ x. Answers s texts x reply after) (sym e) (h, k)
 
-pub of-stat : (s : Settings) (texts : List FileText) (c : Command) (reply : List ℕ) (after : List FileText) → c ≡ command.Stat → PackageReply IsUntold texts reply → after ≡ texts → Answers s texts c reply after
+pub of-stat : (s : Settings) (texts : List FileText) (c : Command) (reply : List ℕ) (after : List FileText) → c ≡ command.Stat →
+    PackageReply (IsNumbers (bounds_of s) texts) texts reply → after ≡ texts → Answers s texts c reply after
 of-stat s texts c reply after e h k = subst (λ x. Answers s texts x reply after) (sym e) (h, k)

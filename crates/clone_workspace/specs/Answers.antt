@@ -13,6 +13,7 @@ use Rattle.clone_server.specs.Session.{Settings}
 use Rattle.clone_texts.specs.Replies.{TextReply}
 use Rattle.clone_window.specs.declared.bounds.Bounds.{Bounds}
 use Rattle.clone_replies.specs.Listing.{listing_reply}
+use Rattle.package_numbers.specs.Numbers.{numbers_in, numbers_reply}
 
 -- which runs of statements are windows
 abbrev pub bounds_of : Settings → Bounds
@@ -42,9 +43,9 @@ pub data PackageReply (P : OfPackage) (texts : List FileText) (reply : List ℕ)
 abbrev pub IsListing : Bounds → OfPackage
 IsListing bounds c reply = reply ≡ listing_reply bounds c
 
--- of a package that type-checks `stat` has no reply yet
-abbrev pub IsUntold : OfPackage
-IsUntold c reply = ⊥
+-- its numbers, where it has these texts
+abbrev pub IsNumbers : Bounds → List FileText → OfPackage
+IsNumbers bounds texts c reply = reply ≡ numbers_reply (numbers_in bounds texts c)
 
 -- At these files a command gets this reply, and leaves these files. `save` and `quit` are not answered by the texts alone.
 abbrev pub Answers : Settings → List FileText → Command → List ℕ → List FileText → Type 0
@@ -53,6 +54,6 @@ Answers s texts (command.Add name text) reply after = TextReply texts (command.A
 Answers s texts (command.Remove name) reply after = TextReply texts (command.Remove name) reply after
 Answers s texts (command.Show name) reply after = TextReply texts (command.Show name) reply after
 Answers s texts command.Classes reply after = PackageReply (IsListing (bounds_of s)) texts reply × (after ≡ texts)
-Answers s texts command.Stat reply after = PackageReply IsUntold texts reply × (after ≡ texts)
+Answers s texts command.Stat reply after = PackageReply (IsNumbers (bounds_of s) texts) texts reply × (after ≡ texts)
 Answers s texts command.Save reply after = ⊥
 Answers s texts command.Quit reply after = ⊥

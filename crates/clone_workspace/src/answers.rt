@@ -3,8 +3,9 @@
 ghost use Rattle.std.specs.Prelude.{◌≡◌, ◌<◌, ◌≤◌, length, IfOk, IfSome, IsSome, OnOk, OnErr};
 ghost use Rattle.clone_session.specs.Session.{IsGoodVerdict};
 ghost use Rattle.clone_texts.specs.Replies.{TextReply};
-ghost use Rattle.clone_workspace.specs.Answers.{fault_line, Answers, IsListing, IsUntold, PackageReply, settings_of};
+ghost use Rattle.clone_workspace.specs.Answers.{fault_line, Answers, IsListing, IsNumbers, PackageReply, settings_of};
 
+use crate::numbers::numbers_line;
 use clone_script::{Command, fault_reply};
 use clone_session::{Check, Session};
 use go_base::{Bytes, Fault, Memory, Steps};
@@ -47,15 +48,15 @@ fn classes<C: Check>(alloc: Global, session: &mut Session<C>) -> Result<Bytes, M
     }
 }
 
-/// The reply to `stat`: of a package that type-checks there is none yet.
+/// The reply to `stat`.
 fn stat<C: Check>(alloc: Global, session: &mut Session<C>) -> Result<Bytes, Memory>
-    ensures reply { IfOk result (λ reply. PackageReply IsUntold session.old.texts reply) }
+    ensures reply { IfOk result (λ reply. PackageReply (IsNumbers session.old.bounds session.old.texts) session.old.texts reply) }
     ensures kept { session.new ≡ record session.old { verdict = session.new.verdict } }
 {
     refresh::<C, Brand>(session, Blank::new(3))?;
     match session.fault() {
         Some(fault) => fault_line(alloc, session, &fault),
-        None => Err(Memory),
+        None => numbers_line(alloc, session),
     }
 }
 

@@ -8,6 +8,7 @@ ghost use Rattle.clone_workspace.specs.Answers.{Answers};
 
 use clone_session::laws::listings_follow_from_the_texts;
 use go_package::laws::packages_have_one_answer;
+use package_numbers::laws::numbers_follow_from_the_texts;
 
 /// At given files a command has one reply, and leaves one package.
 pub fn one_reply()
@@ -15,5 +16,6 @@ pub fn one_reply()
         → Answers settings texts command reply after → Answers settings texts command other later → (reply ≡ other) × (after ≡ later) }
 {
     listings_follow_from_the_texts();
+    numbers_follow_from_the_texts();
     packages_have_one_answer();
 }

@@ -218,6 +218,42 @@ fn sessions(rt: HostRuntime) -> Result<(), Fail> {
     Ok(())
 }
 
+/// The numbers of a package, or its fault.
+#[test]
+fn numbers(rt: HostRuntime) -> Result<(), Fail> {
+    let rows = [
+        Row {
+            words: &["--mass", "11", "d"],
+            script: "stat\n",
+            ..listing_row(
+                &[("a.go", PLAIN)],
+                "stat files 1 bytes 125 functions 2 windows 2 hashes 1 classes 1\n",
+            )
+        },
+        Row {
+            words: &["--mass", "6", "d"],
+            script: "stat\n",
+            ..listing_row(
+                &[("a.go", OVERLAP)],
+                "stat files 1 bytes 57 functions 2 windows 6 hashes 3 classes 2\n",
+            )
+        },
+        Row {
+            script: "stat\n",
+            ..listing_row(
+                &[("a.go", "package p\n\nfunc f() {\n\tx := 1\n}\n")],
+                "fault 8 unusedvariable a.go:23-24\n",
+            )
+        },
+    ];
+    for row in &rows {
+        let (status, written) = run(rt.alloc(), row)?;
+        assert_eq!(rt; status, row.status, "status of {:?}", row.written);
+        assert_eq!(rt; written.as_slice(), row.written.as_bytes());
+    }
+    Ok(())
+}
+
 /// The fault that is reported of a package.
 #[test]
 fn faults(rt: HostRuntime) -> Result<(), Fail> {

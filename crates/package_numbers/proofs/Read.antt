@@ -14,7 +14,7 @@ use Rattle.go_tree.specs.File.{FileTree}
 use Rattle.go_tree.specs.Views.{view}
 use Rattle.go_typed.specs.Contents.{Content}
 use Rattle.go_package.specs.Sources.{Source, source_of}
-use Rattle.go_package.specs.Checked.{Typing, sources_answer, content_of, IsRead, AreRead, names_of, IsChecked}
+use Rattle.go_package.specs.Checked.{Typing, sources_answer, content_of, origins, IsRead, AreRead, names_of, IsChecked}
 
 -- what is known of single files
 pub record OfFiles : Type 0 where
@@ -72,3 +72,18 @@ checked_files xs c h = files_behind (names_of xs) h.files (map source_of h.files
 pub same-sources : OfFiles → (xs : List FileText) (c d : Content) → IsChecked xs c → IsChecked xs d → map source_of c.files ≡ map source_of d.files
 same-sources law xs c d h k =
     ap (map source_of) (sym (checked_files xs c h)) ∙ one_reading law 0 xs h.files k.files h.read k.read ∙ ap (map source_of) (checked_files xs d k)
+
+-- ---- where its declared types stand
+
+abbrev ArePlaced : Content → Type 0
+ArePlaced c = c.origins ≡ origins c.uses
+
+origins_behind : (names : List (List ℕ)) (fs : List FileTree) (ss : List Source) (r : Result Typing Failure) (c : Content) → answered names fs ss r ≡ Ok c → ArePlaced c
+unfolding answered
+origins_behind names fs ss (Ok t) c e = subst ArePlaced (same_ok (content_of names fs ss t) c e) refl
+origins_behind names fs ss (Err g) c e = absurd cc
+
+-- each declared type that its names mean has a place
+pub checked_origins : (xs : List FileText) (c : Content) → IsChecked xs c → c.origins ≡ origins c.uses
+unfolding answered
+checked_origins xs c h = origins_behind (names_of xs) h.files (map source_of h.files) (sources_answer (map source_of h.files)) c h.answer
