@@ -13,6 +13,8 @@ use Rattle.clone_server.specs.Session.{Settings}
 use Rattle.clone_texts.specs.Replies.{TextReply}
 use Rattle.clone_window.specs.declared.bounds.Bounds.{Bounds}
 use Rattle.clone_replies.specs.Listing.{listing_reply}
+use Rattle.run_replies.specs.Contents.{run_in}
+use Rattle.run_replies.specs.Replies.{run_words}
 
 -- which runs of statements are windows
 abbrev pub bounds_of : Settings → Bounds
@@ -42,6 +44,10 @@ pub data PackageReply (P : OfPackage) (texts : List FileText) (reply : List ℕ)
 abbrev pub IsListing : Bounds → OfPackage
 IsListing bounds c reply = reply ≡ listing_reply bounds c
 
+-- what came of its run with so many turns and this input
+abbrev pub IsRun : ℕ → List ℕ → OfPackage
+IsRun turns input c reply = reply ≡ run_words (run_in c input turns)
+
 -- of a package that type-checks `stat` has no reply yet
 abbrev pub IsUntold : OfPackage
 IsUntold c reply = ⊥
@@ -54,5 +60,6 @@ Answers s texts (command.Remove name) reply after = TextReply texts (command.Rem
 Answers s texts (command.Show name) reply after = TextReply texts (command.Show name) reply after
 Answers s texts command.Classes reply after = PackageReply (IsListing (bounds_of s)) texts reply × (after ≡ texts)
 Answers s texts command.Stat reply after = PackageReply IsUntold texts reply × (after ≡ texts)
+Answers s texts (command.Run turns input) reply after = PackageReply (IsRun turns input) texts reply × (after ≡ texts)
 Answers s texts command.Save reply after = ⊥
 Answers s texts command.Quit reply after = ⊥

@@ -6,7 +6,7 @@ ghost use Rattle.clone_script.specs.declared.command.Command.{Command as Line};
 ghost use Rattle.clone_server.specs.Session.{Settings};
 ghost use Rattle.clone_workspace.specs.Answers.{Answers};
 
-use clone_session::laws::listings_follow_from_the_texts;
+use clone_session::laws::{listings_follow_from_the_texts, runs_follow_from_the_texts};
 use go_package::laws::packages_have_one_answer;
 
 /// At given files a command has one reply, and leaves one package.
@@ -15,5 +15,6 @@ pub fn one_reply()
         → Answers settings texts command reply after → Answers settings texts command other later → (reply ≡ other) × (after ≡ later) }
 {
     listings_follow_from_the_texts();
+    runs_follow_from_the_texts();
     packages_have_one_answer();
 }
