@@ -25,12 +25,15 @@ use Rattle.clone_texts.specs.Replies.{IsRefusal, Changes}
 use Rattle.clone_window.specs.declared.bounds.Bounds.{Bounds}
 use Rattle.clone_replies.specs.Listing.{listing_reply}
 use Rattle.package_numbers.specs.Numbers.{numbers_in, numbers_reply}
-use Rattle.clone_workspace.specs.Answers.{Answers, OfPackage, PackageReply, good, faulty, IsListing, IsNumbers, bounds_of, fault_line}
+use Rattle.run_replies.specs.Contents.{run_in}
+use Rattle.run_replies.specs.Replies.{run_words}
+use Rattle.clone_workspace.specs.Answers.{Answers, OfPackage, PackageReply, good, faulty, IsListing, IsNumbers, IsRun, bounds_of, fault_line}
 
 pub record Laws : Type 0 where
   pub answer : (texts : List FileText) → HasOneAnswer texts
   pub listing : (bounds : Bounds) (texts : List FileText) (c d : Content) → IsChecked texts c → IsChecked texts d → listing_reply bounds c ≡ listing_reply bounds d
   pub numbers : (bounds : Bounds) (texts : List FileText) (c d : Content) → IsChecked texts c → IsChecked texts d → numbers_in bounds texts c ≡ numbers_in bounds texts d
+  pub run : (texts : List FileText) (c d : Content) (input : List ℕ) (turns : ℕ) → IsChecked texts c → IsChecked texts d → run_in c input turns ≡ run_in d input turns
 
 abbrev Same : List ℕ → List ℕ → List FileText → List FileText → Type 0
 Same reply other after later = (reply ≡ other) × (after ≡ later)
@@ -73,6 +76,9 @@ listings law bounds texts c d reply other h k p q = p ∙ law.listing bounds tex
 numbers-lines : Laws → (bounds : Bounds) (texts : List FileText) (c d : Content) (reply other : List ℕ) → IsChecked texts c → IsChecked texts d → IsNumbers bounds texts c reply → IsNumbers bounds texts d other → reply ≡ other
 numbers-lines law bounds texts c d reply other h k p q = p ∙ ap numbers_reply (law.numbers bounds texts c d h k) ∙ sym q
 
+runs : Laws → (turns : ℕ) (input : List ℕ) (texts : List FileText) (c d : Content) (reply other : List ℕ) → IsChecked texts c → IsChecked texts d → IsRun turns input c reply → IsRun turns input d other → reply ≡ other
+runs law turns input texts c d reply other h k p q = p ∙ ap run_words (law.run texts c d input turns h k) ∙ sym q
+
 pub one : Laws → (s : Settings) (texts : List FileText) (c : Command) (reply other : List ℕ) (after later : List FileText) → Answers s texts c reply after → Answers s texts c other later → Same reply other after later
 one law s texts (command.Edit name start end text) reply other after later h k = changes kinds.Edit texts (edit_answer texts name start end text) reply other after later h k
 one law s texts (command.Add name text) reply other after later h k = changes kinds.Add texts (add_answer texts name text) reply other after later h k
@@ -82,5 +88,7 @@ one law s texts command.Classes reply other after later h k =
     (package-reply law (IsListing (bounds_of s)) texts (listings law (bounds_of s) texts) reply other h.0 k.0, h.1 ∙ sym k.1)
 one law s texts command.Stat reply other after later h k =
     (package-reply law (IsNumbers (bounds_of s) texts) texts (numbers-lines law (bounds_of s) texts) reply other h.0 k.0, h.1 ∙ sym k.1)
+one law s texts (command.Run turns input) reply other after later h k =
+    (package-reply law (IsRun turns input) texts (runs law turns input texts) reply other h.0 k.0, h.1 ∙ sym k.1)
 one law s texts command.Save reply other after later h k = absurd h
 one law s texts command.Quit reply other after later h k = absurd h

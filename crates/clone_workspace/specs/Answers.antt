@@ -14,6 +14,8 @@ use Rattle.clone_texts.specs.Replies.{TextReply}
 use Rattle.clone_window.specs.declared.bounds.Bounds.{Bounds}
 use Rattle.clone_replies.specs.Listing.{listing_reply}
 use Rattle.package_numbers.specs.Numbers.{numbers_in, numbers_reply}
+use Rattle.run_replies.specs.Contents.{run_in}
+use Rattle.run_replies.specs.Replies.{run_words}
 
 -- which runs of statements are windows
 abbrev pub bounds_of : Settings → Bounds
@@ -47,6 +49,10 @@ IsListing bounds c reply = reply ≡ listing_reply bounds c
 abbrev pub IsNumbers : Bounds → List FileText → OfPackage
 IsNumbers bounds texts c reply = reply ≡ numbers_reply (numbers_in bounds texts c)
 
+-- what came of its run with so many turns and this input
+abbrev pub IsRun : ℕ → List ℕ → OfPackage
+IsRun turns input c reply = reply ≡ run_words (run_in c input turns)
+
 -- At these files a command gets this reply, and leaves these files. `save` and `quit` are not answered by the texts alone.
 abbrev pub Answers : Settings → List FileText → Command → List ℕ → List FileText → Type 0
 Answers s texts (command.Edit name start end text) reply after = TextReply texts (command.Edit name start end text) reply after
@@ -55,5 +61,6 @@ Answers s texts (command.Remove name) reply after = TextReply texts (command.Rem
 Answers s texts (command.Show name) reply after = TextReply texts (command.Show name) reply after
 Answers s texts command.Classes reply after = PackageReply (IsListing (bounds_of s)) texts reply × (after ≡ texts)
 Answers s texts command.Stat reply after = PackageReply (IsNumbers (bounds_of s) texts) texts reply × (after ≡ texts)
+Answers s texts (command.Run turns input) reply after = PackageReply (IsRun turns input) texts reply × (after ≡ texts)
 Answers s texts command.Save reply after = ⊥
 Answers s texts command.Quit reply after = ⊥

@@ -6,6 +6,7 @@ ghost use Rattle.clone_texts.specs.Replies.{TextReply};
 ghost use Rattle.clone_workspace.specs.Answers.{fault_line, Answers, IsListing, IsNumbers, PackageReply, settings_of};
 
 use crate::numbers::numbers_line;
+use crate::run::ran;
 use clone_script::{Command, fault_reply};
 use clone_session::{Check, Session};
 use go_base::{Bytes, Fault, Memory, Steps};
@@ -14,7 +15,7 @@ use std::marker::Brand;
 use std::sync::ledger::{Blank, Ledger};
 
 /// Brings what is known up to the present texts, under a counter of its own.
-fn refresh<C: Check, L: Ledger>(session: &mut Session<C>, blank: Blank) -> Result<(), Memory>
+pub fn refresh<C: Check, L: Ledger>(session: &mut Session<C>, blank: Blank) -> Result<(), Memory>
     requires name { blank.name ≡ L.name }
     requires parts { blank.parts ≡ L.parts }
     requires room { 3 ≤ blank.parts }
@@ -26,7 +27,11 @@ fn refresh<C: Check, L: Ledger>(session: &mut Session<C>, blank: Blank) -> Resul
 }
 
 /// The line of a fault of the present package.
-fn fault_line<C: Check>(alloc: Global, session: &Session<C>, fault: &Fault) -> Result<Bytes, Memory>
+pub fn fault_line<C: Check>(
+    alloc: Global,
+    session: &Session<C>,
+    fault: &Fault,
+) -> Result<Bytes, Memory>
     ensures { IfOk result (λ reply. reply ≡ fault_line session.now.texts fault.now) }
 {
     if fault.span.file < session.files() {
@@ -81,6 +86,7 @@ pub fn answer<C: Check>(
     match command {
         Command::Classes => classes(alloc, session),
         Command::Stat => stat(alloc, session),
+        Command::Run { turns, input } => ran(alloc, session, u64::from(*turns), input.as_slice()),
         Command::Save | Command::Quit => Err(Memory),
         _ => text(session, command),
     }

@@ -6,7 +6,7 @@ ghost use Rattle.clone_script.specs.declared.command.Command.{Command as Line};
 ghost use Rattle.clone_server.specs.Session.{Settings};
 ghost use Rattle.clone_workspace.specs.Answers.{Answers};
 
-use clone_session::laws::listings_follow_from_the_texts;
+use clone_session::laws::{listings_follow_from_the_texts, runs_follow_from_the_texts};
 use go_package::laws::packages_have_one_answer;
 use package_numbers::laws::numbers_follow_from_the_texts;
 
@@ -17,5 +17,6 @@ pub fn one_reply()
 {
     listings_follow_from_the_texts();
     numbers_follow_from_the_texts();
+    runs_follow_from_the_texts();
     packages_have_one_answer();
 }
