@@ -17,7 +17,7 @@ use Rattle.go_rules.specs.declared.family.OpenKind.{OpenKind}
 use Rattle.go_rules.specs.Names.{object_form, declared_form, form_or_type, name_form, name_sort}
 use Rattle.go_rules.specs.Scopes.{Scope, Hint, member, declares, free}
 use Rattle.go_rules.specs.Settling.{Part, Take, stay, default, as_type, settled, all_settled, defaulted, given}
-use Rattle.go_rules.specs.Sorts.{Stands, is_open, open_kind, retyped, default_type}
+use Rattle.go_rules.specs.Sorts.{Stands, takes_type, open_kind, retyped, default_type}
 use Rattle.go_rules.specs.Tables.{Parts, is_held, held, all_held, is_type, leaf, cut, first_cut, is_make_call, call_parts, has_no_low, bounds_of, bracketed_parts, is_package, selector_parts, behind_first, layout, callee_form, key_form, selector_form, bracketed_form, on_first, form_by, takes, take_optional, all_given, own_faults, is_sound, built_by, built, hint, part_scope}
 use Rattle.go_rules.specs.Typing.{typing, typings}
 use Rattle.window_places.proofs.Nested.{Flat, AllFlat, plain, shape, shapes, flat-alike}
@@ -62,7 +62,7 @@ either-shape false x y z h k = k
 mutual
   shape-settled : (t : TypeTree) (x : Part) → shape (settled t x) ≡ shape x
   shape-settled t (typed f i j l ps) =
-      either-shape (is_open l.sort) (typed f i j (record l { sort = retyped t l.sort }) (all_settled t ps)) (typed f i j l ps) (typed f i j l ps) (ap (typed f i j plain) (shapes-settled t ps)) refl
+      either-shape (takes_type l.sort) (typed f i j (record l { sort = retyped t l.sort }) (all_settled t ps)) (typed f i j l ps) (typed f i j l ps) (ap (typed f i j plain) (shapes-settled t ps)) refl
 
   shapes-settled : (t : TypeTree) (ps : Typeds TypeTree) → shapes (all_settled t ps) ≡ shapes ps
   shapes-settled t none = refl
