@@ -10,7 +10,7 @@ use Rattle.go_package.specs.Single.{HasOneAnswer}
 use Rattle.go_package.specs.Sources.{Source, source_of}
 use Rattle.go_run.specs.Runs.{run_package}
 use Rattle.run_replies.specs.Contents.{run_in, tokens_of}
-use Rattle.clone_session.proofs.Read.{OfFiles, same-sources}
+use Rattle.package_numbers.proofs.Read.{OfFiles, same-sources}
 
 -- what is known of runs of packages and of their files
 pub record OfRuns : Type 0 where

@@ -77,12 +77,19 @@ fn words_of(alloc: Global, text: &str) -> Result<Vec<String>, Memory> {
     Ok(words)
 }
 
-/// The last of the words.
+/// The folder among the words: the first one that is no option and no number of one.
 fn dir_of(words: &str) -> &str {
-    match words.rsplit_once(' ') {
-        Some((_, dir)) => dir,
-        None => words,
+    let mut is_number = false;
+    for word in words.split(' ') {
+        if is_number {
+            is_number = false;
+        } else if word == "--min" || word == "--mass" {
+            is_number = true;
+        } else if !word.starts_with("--") {
+            return word;
+        }
     }
+    words
 }
 
 impl Session<'_> {
