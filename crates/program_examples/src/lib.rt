@@ -5,3 +5,5 @@
 
 #[cfg(test)]
 mod rows;
+#[cfg(test)]
+mod runs;

@@ -9,18 +9,21 @@ use std::test::Fail;
 
 /// A folder, and what a run over it is to write.
 #[derive(Clone, Copy)]
-struct Row {
-    words: &'static [&'static str],
-    files: &'static [(&'static str, &'static str)],
-    script: &'static str,
+pub struct Row {
+    pub words: &'static [&'static str],
+    pub files: &'static [(&'static str, &'static str)],
+    pub script: &'static str,
     /// The numbers of the calls that fail: of the folder, of the script and of the sink; 0 is none.
-    failing: [u64; 3],
-    status: u8,
-    written: &'static str,
+    pub failing: [u64; 3],
+    pub status: u8,
+    pub written: &'static str,
 }
 
 /// The row of these files, the word `d` and the script `classes`, where nothing fails.
-const fn listing_row(files: &'static [(&'static str, &'static str)], written: &'static str) -> Row {
+pub const fn listing_row(
+    files: &'static [(&'static str, &'static str)],
+    written: &'static str,
+) -> Row {
     Row {
         words: &["d"],
         files,
@@ -31,7 +34,8 @@ const fn listing_row(files: &'static [(&'static str, &'static str)], written: &'
     }
 }
 
-fn run(alloc: Global, row: &Row) -> Result<(u8, Vec<u8>), Fail> {
+/// The status of a run, what it wrote, and the folder afterwards.
+pub fn run_over(alloc: Global, row: &Row) -> Result<(u8, Vec<u8>, MemFolder), Fail> {
     let mut words = Vec::new(alloc);
     for word in row.words {
         words.push(String::from_str(alloc, word)?)?;
@@ -50,7 +54,13 @@ fn run(alloc: Global, row: &Row) -> Result<(u8, Vec<u8>), Fail> {
         &mut script,
         &mut out,
     );
-    Ok((status, Vec::from_slice(alloc, out.written())?))
+    Ok((status, Vec::from_slice(alloc, out.written())?, folder))
+}
+
+/// The status of a run, and what it wrote.
+pub fn run(alloc: Global, row: &Row) -> Result<(u8, Vec<u8>), Fail> {
+    let (status, written, _) = run_over(alloc, row)?;
+    Ok((status, written))
 }
 
 const PLAIN: &str =
@@ -155,12 +165,12 @@ fn sessions(rt: HostRuntime) -> Result<(), Fail> {
             "fault 12 representable a.go:21-29\n",
         ),
         Row {
-            script: "classes\nsave\n",
+            script: "classes\nrun 100 2\nAB\nsave\n",
             ..listing_row(
                 &[("a.go", TOTALS)],
                 "classes 5\nclass 1 members 2 statements 2 mass 28\na.go:91-164\na.go:237-310\nclass 2 members 2 statements 3 mass 33\na.go:91-191\na.go:237-338\n\
         class 3 members 2 statements 4 mass 35\na.go:91-203\na.go:237-350\nclass 4 members 2 statements 2 mass 30\na.go:101-191\na.go:247-338\n\
-        class 5 members 2 statements 3 mass 32\na.go:101-203\na.go:247-350\nok save 1\n",
+        class 5 members 2 statements 3 mass 32\na.go:101-203\na.go:247-350\nended 33\ntotal 197\nweight 197\nlarge large\n\nok save 1\n",
             )
         },
         Row {
