@@ -63,7 +63,7 @@ pub fn run(alloc: Global, row: &Row) -> Result<(u8, Vec<u8>), Fail> {
     Ok((status, written))
 }
 
-const PLAIN: &str =
+pub const PLAIN: &str =
     "package main\n\nfunc f(a int) int {\n\tb := a + 1\n\tb = b * 2\n\treturn b\n}\n\nfunc g(x int) int {\n\ty := x + 5\n\ty = y * 2\n\treturn y\n}\n";
 
 const OVERLAP: &str = "package p\n\nfunc f() {}\n\nfunc g() {\n\tf()\n\tf()\n\tf()\n\tf()\n}\n";
@@ -85,7 +85,7 @@ const TOTALS: &str =
         func main() {\n\tvar ps []point\n\tfor c := readByte(); c >= 0; c = readByte() {\n\t\tps = append(ps, point{c, len(ps) + 1})\n\t}\n\
         \tfmt.Println(kind(total(ps)), kind(weigh(ps)))\n}\n";
 
-const PLAIN_LISTING: &str =
+pub const PLAIN_LISTING: &str =
     "classes 2\nclass 1 members 2 statements 2 mass 10\na.go:35-56\na.go:91-112\nclass 2 members 2 statements 3 mass 12\na.go:35-66\na.go:91-122\n";
 
 const USAGE: &str = "usage: goclone [--min N] [--mass N] DIR\n";
