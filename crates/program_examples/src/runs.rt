@@ -2,6 +2,7 @@
 
 use crate::rows::{Row, listing_row, run, run_over};
 use go_base::Name;
+use port_io::MemFolder;
 use std::test::Fail;
 
 const TWO: &[(&str, &str)] = &[("a.go", "package p\n"), ("b.go", "package p\n")];
@@ -107,56 +108,77 @@ fn outcomes(rt: HostRuntime) -> Result<(), Fail> {
     Ok(())
 }
 
+/// A run where a call fails, and the file `a.go` afterwards, none where its own write may have failed.
+#[derive(Clone, Copy)]
+struct Failure {
+    row: Row,
+    text: Option<&'static str>,
+}
+
 /// Two edits, each saved, where one call fails.
-const fn saving(failing: [u64; 3], status: u8, written: &'static str) -> Row {
-    Row {
+const fn saving(
+    failing: [u64; 3],
+    status: u8,
+    written: &'static str,
+    text: Option<&'static str>,
+) -> Failure {
+    let row = Row {
         script: "edit a.go 8 9 1\nq\nsave\nedit a.go 8 9 1\nr\nsave\n",
         failing,
         status,
         ..listing_row(TWO, written)
-    }
+    };
+    Failure { row, text }
 }
 
 const ALL: &str = "ok edit\nok save 2\nok edit\nok save 2\n";
+
+/// Whether the folder of the rows holds this text under a name.
+fn holds(folder: &MemFolder, name: &Name, text: &str) -> bool {
+    match folder.find("d", name) {
+        Some(bytes) => bytes.as_slice() == text.as_bytes(),
+        None => false,
+    }
+}
 
 /// Each call of the folder, the script and the sink fails in turn: the status, what was written, and the file `a.go` afterwards,
 /// where its own write didn't fail.
 #[test]
 fn failures(rt: HostRuntime) -> Result<(), Fail> {
     let rows = [
-        (saving([1, 0, 0], 4, ""), Some("package p\n")),
-        (saving([2, 0, 0], 4, ""), Some("package p\n")),
-        (saving([3, 0, 0], 4, ""), Some("package p\n")),
-        (saving([4, 0, 0], 4, ""), Some("package p\n")),
-        (saving([5, 0, 0], 7, "ok edit\n"), None),
-        (saving([6, 0, 0], 7, "ok edit\n"), Some("package q\n")),
-        (saving([7, 0, 0], 7, "ok edit\nok save 2\nok edit\n"), None),
-        (
-            saving([8, 0, 0], 7, "ok edit\nok save 2\nok edit\n"),
+        saving([1, 0, 0], 4, "", Some("package p\n")),
+        saving([2, 0, 0], 4, "", Some("package p\n")),
+        saving([3, 0, 0], 4, "", Some("package p\n")),
+        saving([4, 0, 0], 4, "", Some("package p\n")),
+        saving([5, 0, 0], 7, "ok edit\n", None),
+        saving([6, 0, 0], 7, "ok edit\n", Some("package q\n")),
+        saving([7, 0, 0], 7, "ok edit\nok save 2\nok edit\n", None),
+        saving(
+            [8, 0, 0],
+            7,
+            "ok edit\nok save 2\nok edit\n",
             Some("package r\n"),
         ),
-        (saving([9, 0, 0], 0, ALL), Some("package r\n")),
-        (saving([0, 1, 0], 5, ""), Some("package p\n")),
-        (saving([0, 2, 0], 5, ALL), Some("package r\n")),
-        (saving([0, 0, 1], 6, ""), Some("package p\n")),
-        (saving([0, 0, 2], 6, "ok edit\n"), Some("package q\n")),
-        (
-            saving([0, 0, 3], 6, "ok edit\nok save 2\n"),
-            Some("package q\n"),
-        ),
-        (
-            saving([0, 0, 4], 6, "ok edit\nok save 2\nok edit\n"),
+        saving([9, 0, 0], 0, ALL, Some("package r\n")),
+        saving([0, 1, 0], 5, "", Some("package p\n")),
+        saving([0, 2, 0], 5, ALL, Some("package r\n")),
+        saving([0, 0, 1], 6, "", Some("package p\n")),
+        saving([0, 0, 2], 6, "ok edit\n", Some("package q\n")),
+        saving([0, 0, 3], 6, "ok edit\nok save 2\n", Some("package q\n")),
+        saving(
+            [0, 0, 4],
+            6,
+            "ok edit\nok save 2\nok edit\n",
             Some("package r\n"),
         ),
     ];
     let name = Name::of(rt.alloc(), b"a.go")?;
-    for (row, text) in &rows {
-        let (status, written, folder) = run_over(rt.alloc(), row)?;
-        assert_eq!(rt; status, row.status, "status of {:?}", row.failing);
-        assert_eq!(rt; written.as_slice(), row.written.as_bytes());
-        if let Some(text) = text {
-            let held = folder.find("d", &name).map(|bytes| bytes.as_slice());
-            assert_eq!(rt; held, Some(text.as_bytes()));
+    for case in &rows {
+        let (status, written, folder) = run_over(rt.alloc(), &case.row)?;
+        assert_eq!(rt; status, case.row.status, "status of {:?}", case.row.failing);
+        assert_eq!(rt; written.as_slice(), case.row.written.as_bytes());
+        if let Some(text) = case.text {
+            assert!(rt; holds(&folder, &name, text), "after {:?}", case.row.failing);
         }
     }
     Ok(())
