@@ -14,9 +14,9 @@ enum Rest {
     Bad(&'static [u8]),
 }
 
-/// The commands of a script, and what stands behind them. `extract` and `run` are no commands yet.
+/// The commands of a script, and what stands behind them. `extract` is no command yet.
 const SCRIPTS: [(&[&[u8]], Rest); 10] = [
-    (&[b"classes\n"], Rest::Bad(b"run 10 0\n\n")),
+    (&[b"classes\n", b"run 10 0\n\n"], Rest::Front(b"")),
     (&[b"stat\n"], Rest::Front(b"")),
     (&[b"classes\n"], Rest::Bad(b"extract 1 h 1 2\n")),
     (
