@@ -9,5 +9,3 @@ mod folders;
 mod rows;
 #[cfg(test)]
 mod runs;
-#[cfg(test)]
-mod windows;
