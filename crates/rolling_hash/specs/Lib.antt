@@ -1,3 +1,4 @@
 pub mod Shown
 pub mod Rolling
 pub mod Starts
+pub mod Fields
