@@ -2,12 +2,13 @@
 //!
 //! The contract: `fault` is none exactly where the present package type-checks, and else the fault that is reported of it; `classes`
 //! are the clone classes of the present package by definition, `run` is its run, and `stat` gives its numbers. Texts that were
-//! edited are checked again, so nothing is told of earlier ones. After a refusal and after want of
+//! edited are checked again, and their windows put into an index anew, so nothing is told of earlier ones. After a refusal and after want of
 //! memory the texts are as they were.
 #![tactic(auto)]
 
 mod check;
 mod copy;
+mod indexed;
 pub mod laws;
 mod run;
 mod session;
