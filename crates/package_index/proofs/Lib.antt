@@ -1,1 +1,2 @@
-mod Entering
+pub mod Entering
+pub mod Members

@@ -10,9 +10,11 @@ use clone_classes::listed::listed;
 use go_base::Memory;
 use go_typed::checked::Checked;
 use go_typed::window::Class;
+use index_classes::laws::groups_are_the_classes;
 use rolling_hash::field_blind::UnconditionalHash;
 use std::alloc::Global;
 use window_index::index::Index;
+use window_places::laws::windows_lie_in_order;
 
 /// The clone classes of a package that type-checks, from an index that holds its windows: the same, in the same order, as by
 /// comparing every window with every other.
@@ -29,6 +31,9 @@ pub fn classes<H: UnconditionalHash + Drop>(
     requires holds { HoldsPackage H.number checked.now index.now }
     ensures { IfOk result (λ cs. members_of cs.items ≡ listing nat_eq index.now.bounds (bodies_of checked.now.functions)) }
 {
+    groups_are_the_classes();
+    windows_lie_in_order();
+    let _bounds = index.bounds();
     let groups = index.groups(alloc)?;
     listed(alloc, checked, groups)
 }

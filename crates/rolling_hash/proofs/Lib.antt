@@ -3,4 +3,3 @@ pub mod Declared
 pub mod Rows
 pub mod Runs
 pub mod Last
-pub mod FieldBlind

@@ -31,7 +31,7 @@ pub struct FieldBlindHash;
 
 impl WindowHash for FieldBlindHash {
     ghost use Rattle.rolling_hash.specs.Fields.{field_blind_hash};
-    ghost use Rattle.rolling_hash.proofs.FieldBlind.{blind-lawful};
+    ghost use Rattle.rolling_hash.specs.FieldBlind.{blind-lawful};
 
     ghost number = { λ h p w. field_blind_hash p w };
 
@@ -51,7 +51,7 @@ impl WindowHash for FieldBlindHash {
 }
 
 impl UnconditionalHash for FieldBlindHash {
-    ghost use Rattle.rolling_hash.proofs.FieldBlind.{blind-alone};
+    ghost use Rattle.rolling_hash.specs.FieldBlind.{blind-alone};
 
     ghost alone = { λ h. blind-alone };
 }
