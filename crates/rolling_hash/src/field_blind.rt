@@ -26,7 +26,7 @@ impl UnconditionalHash for ConstantHash {
 
 /// The rolling number of windows in which each field has the empty name. So windows that are the same have one number, also where
 /// nothing is known of which fields they select.
-#[derive(Clone, Copy, Debug)]
+#[derive(Clone, Copy, Debug, Default)]
 pub struct FieldBlindHash;
 
 impl WindowHash for FieldBlindHash {
