@@ -57,12 +57,18 @@ lower-apart k at l = by (nat_eq k at) refl where
 pub before-apart : (at : ℕ) (xs : List (Window × ℕ)) → AllByRecursion (IsBefore at) xs → AllByRecursion (λ x. is_of at x.0 ≡ false) xs
 before-apart at xs h = all-weaker (IsBefore at) (λ x. is_of at x.0 ≡ false) (λ x l. lower-apart x.0.func at l) xs h
 
+below-next : (k at : ℕ) → k < at → k < at + 1
+below-next k at l = omega (arith, l)
+
+here-below : (k at : ℕ) → k ≡ at → k < at + 1
+here-below k at e = omega (arith, e)
+
 before-next : (at : ℕ) (xs ys zs : List (Window × ℕ)) → AllByRecursion (IsBefore at) xs → AllByRecursion (λ x. is_of at x.0 ≡ true) ys → IsPermutation (xs ++ ys) zs → AllByRecursion (IsBefore (at + 1)) zs
 before-next at xs ys zs h k m =
-    let P : Window × ℕ → Type 0 = IsBefore (at + 1) in
-    let front : AllByRecursion P xs = all-weaker (IsBefore at) P (λ x l. omega (arith, l)) xs h in
-    let back : AllByRecursion P ys = all-weaker (λ x. is_of at x.0 ≡ true) P (λ x e. let s : x.0.func ≡ at = eqb-true x.0.func at e in omega (arith, s)) ys k in
-    recursion_from_All P zs (All-permutation P (xs ++ ys) zs m (All-append P xs ys (All-from_recursion P xs front) (All-from_recursion P ys back)))
+    let front : AllByRecursion (IsBefore (at + 1)) xs = all-weaker (IsBefore at) (IsBefore (at + 1)) (λ x l. below-next x.0.func at l) xs h in
+    let back : AllByRecursion (IsBefore (at + 1)) ys = all-weaker (λ x. is_of at x.0 ≡ true) (IsBefore (at + 1)) (λ x e. here-below x.0.func at (eqb-true x.0.func at e)) ys k in
+    recursion_from_All (IsBefore (at + 1)) zs (All-permutation (IsBefore (at + 1)) (xs ++ ys) zs m
+    (All-append (IsBefore (at + 1)) xs ys (All-from_recursion (IsBefore (at + 1)) xs front) (All-from_recursion (IsBefore (at + 1)) ys back)))
 
 -- ---- the index
 
@@ -72,9 +78,13 @@ pub record IsInSoFar {H : Type 0} (number : H → PackageView → Window → ℕ
   pub bounds_are : index.bounds ≡ bounds
   pub fits : FitsPackage number p index
   pub before : AllByRecursion (IsBefore at) (held index.buckets)
-  pub all : IsPermutation (numbered (number hash p) (windows_from bounds p.functions 0)) (held index.buckets ++ numbered (number hash p) (windows_from bounds p.functions at))
-  pub entered : now.entered + length (windows_from bounds p.functions at) ≡ was.entered + length (windows_from bounds p.functions 0)
+  pub all : IsPermutation (numbered (number hash p) (windows_of_all bounds 0 (bodies_of p.functions))) (held index.buckets ++ numbered (number hash p) (windows_from bounds p.functions at))
+  pub entered : now.entered + length (windows_from bounds p.functions at) ≡ was.entered + length (windows_of_all bounds 0 (bodies_of p.functions))
   pub checked : now.checked ≡ was.checked
+
+all-behind : {A : Type 0} (xs : List A) → drop 0 xs ≡ xs
+all-behind [] = refl
+all-behind (x ∷ xs) = refl
 
 -- an index of nothing
 pub none-in : {H : Type 0} (number : H → PackageView → Window → ℕ) (p : PackageView) (hash : H) (bounds : Bounds) (index : IndexView H) (was : Counts) →
@@ -85,8 +95,9 @@ none-in number p hash bounds index was e =
       bounds_are = refl;
       fits = record { known = tt; numbers = tt; filled = tt; groups = tt; distinct = tt };
       before = tt;
-      all = IsPermutation-refl (numbered (number hash p) (windows_from bounds p.functions 0));
-      entered = refl;
+      all = subst (λ (fs : List FuncView). IsPermutation (numbered (number hash p) (windows_of_all bounds 0 (bodies_of p.functions))) (numbered (number hash p) (windows_of_all bounds 0 (bodies_of fs))))
+          (sym (all-behind p.functions)) (IsPermutation-refl (numbered (number hash p) (windows_of_all bounds 0 (bodies_of p.functions))));
+      entered = ap (λ (fs : List FuncView). was.entered + length (windows_of_all bounds 0 (bodies_of fs))) (all-behind p.functions);
       checked = refl;
     })
 
@@ -119,7 +130,7 @@ more-in {H} number p hash bounds old new at func f was now later h e n s fits mo
     let here : func ≡ at = n ∙ own-place p.functions at f h e in
     let us = numbered (number hash p) (windows_of_func bounds bodies at) in
     let rest = numbered (number hash p) (windows_from bounds p.functions (at + 1)) in
-    let all = numbered (number hash p) (windows_from bounds p.functions 0) in
+    let all = numbered (number hash p) (windows_of_all bounds 0 (bodies_of p.functions)) in
     let moves : IsPermutation (held old.buckets ++ us) (held new.buckets) =
     subst (λ l. IsPermutation (held old.buckets ++ l) (held new.buckets)) (came number p hash bounds old at func s.hash_is s.bounds_are here) moved in
     let split : held old.buckets ++ numbered (number hash p) (windows_from bounds p.functions at) ≡ (held old.buckets ++ us) ++ rest =
@@ -140,7 +151,7 @@ more-in {H} number p hash bounds old new at func f was now later h e n s fits mo
 -- no function more is counted than there are
 pub part-in : {H : Type 0} (number : H → PackageView → Window → ℕ) (p : PackageView) (hash : H) (bounds : Bounds) (old : IndexView H) (at func : ℕ) (f : FuncView) (was now later : Counts) →
     are_numbered 0 p.functions ≡ true → slice_get p.functions at ≡ Some f → func ≡ f.number → IsInSoFar number p hash bounds old at was now →
-    later.entered ≤ now.entered + length (windows_of_func old.bounds (bodies_of p.functions) func) → later.entered ≤ was.entered + length (windows_from bounds p.functions 0)
+    later.entered ≤ now.entered + length (windows_of_func old.bounds (bodies_of p.functions) func) → later.entered ≤ was.entered + length (windows_of_all bounds 0 (bodies_of p.functions))
 part-in number p hash bounds old at func f was now later h e n s few =
     omega (arith, s.entered, few, many p bounds old at func s.bounds_are (n ∙ own-place p.functions at f h e), count-left p bounds at f h e)
 
@@ -158,7 +169,7 @@ none-left bounds fs at l = ap (λ gs. windows_of_all bounds at (bodies_of gs)) (
 pub all-in : {H : Type 0} (number : H → PackageView → Window → ℕ) (p : PackageView) (hash : H) (bounds : Bounds) (index : IndexView H) (at : ℕ) (was now : Counts) → length p.functions ≤ at →
     IsInSoFar number p hash bounds index at was now → HoldsPackage number p index
 all-in {H} number p hash bounds index at was now l s =
-    let all = numbered (number hash p) (windows_from bounds p.functions 0) in
+    let all = numbered (number hash p) (windows_of_all bounds 0 (bodies_of p.functions)) in
     let ends : held index.buckets ++ numbered (number hash p) (windows_from bounds p.functions at) ≡ held index.buckets =
     ap (λ ws. held index.buckets ++ numbered (number hash p) ws) (none-left bounds p.functions at l) ∙ append-nil (held index.buckets) in
     let whole : IsPermutation all (held index.buckets) = subst (λ hs. IsPermutation all hs) ends s.all in
@@ -169,6 +180,7 @@ all-in {H} number p hash bounds index at was now l s =
     }
 
 pub counts-in : {H : Type 0} (number : H → PackageView → Window → ℕ) (p : PackageView) (hash : H) (bounds : Bounds) (index : IndexView H) (at : ℕ) (was now : Counts) → length p.functions ≤ at →
-    IsInSoFar number p hash bounds index at was now → now.entered ≡ was.entered + length (windows_from bounds p.functions 0)
+    IsInSoFar number p hash bounds index at was now → now.entered ≡ was.entered + length (windows_of_all bounds 0 (bodies_of p.functions))
 counts-in number p hash bounds index at was now l s =
-    omega (arith, s.entered, ap length (none-left bounds p.functions at l))
+    let none : length (windows_from bounds p.functions at) ≡ 0 = ap length (none-left bounds p.functions at l) in
+    omega (arith, s.entered, none)
