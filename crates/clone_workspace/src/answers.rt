@@ -16,7 +16,10 @@ use std::marker::Brand;
 use std::sync::ledger::{Blank, Ledger};
 
 /// Brings what is known up to the present texts, under a counter of its own.
-pub fn refresh<C: Check, H: UnconditionalHash + Copy + Drop, L: Ledger>(session: &mut Session<C, H>, blank: Blank) -> Result<(), Memory>
+pub fn refresh<C: Check, H: UnconditionalHash + Copy + Drop, L: Ledger>(
+    session: &mut Session<C, H>,
+    blank: Blank,
+) -> Result<(), Memory>
     requires name { blank.name ≡ L.name }
     requires parts { blank.parts ≡ L.parts }
     requires room { 3 ≤ blank.parts }
@@ -43,7 +46,10 @@ pub fn fault_line<C: Check, H: UnconditionalHash + Copy + Drop>(
 }
 
 /// The reply to `classes`.
-fn classes<C: Check, H: UnconditionalHash + Copy + Drop>(alloc: Global, session: &mut Session<C, H>) -> Result<Bytes, Memory>
+fn classes<C: Check, H: UnconditionalHash + Copy + Drop>(
+    alloc: Global,
+    session: &mut Session<C, H>,
+) -> Result<Bytes, Memory>
     ensures reply { IfOk result (λ reply. PackageReply (IsListing session.old.bounds) session.old.texts reply) }
     ensures kept { session.new ≡ record session.old { verdict = session.new.verdict } }
 {
@@ -55,7 +61,10 @@ fn classes<C: Check, H: UnconditionalHash + Copy + Drop>(alloc: Global, session:
 }
 
 /// The reply to `stat`.
-fn stat<C: Check, H: UnconditionalHash + Copy + Drop>(alloc: Global, session: &mut Session<C, H>) -> Result<Bytes, Memory>
+fn stat<C: Check, H: UnconditionalHash + Copy + Drop>(
+    alloc: Global,
+    session: &mut Session<C, H>,
+) -> Result<Bytes, Memory>
     ensures reply { IfOk result (λ reply. PackageReply (IsNumbers session.old.bounds session.old.texts) session.old.texts reply) }
     ensures kept { session.new ≡ record session.old { verdict = session.new.verdict } }
 {
@@ -67,7 +76,10 @@ fn stat<C: Check, H: UnconditionalHash + Copy + Drop>(alloc: Global, session: &m
 }
 
 /// The reply to a command on texts.
-fn text<C: Check, H: UnconditionalHash + Copy + Drop>(session: &mut Session<C, H>, command: &Command) -> Result<Bytes, Memory>
+fn text<C: Check, H: UnconditionalHash + Copy + Drop>(
+    session: &mut Session<C, H>,
+    command: &Command,
+) -> Result<Bytes, Memory>
     ensures reply { IfOk result (λ reply. TextReply session.old.texts command.now reply session.new.texts) }
     ensures bounds { session.new.bounds ≡ session.old.bounds }
     ensures err { OnErr result (session.new.texts ≡ session.old.texts) }

@@ -13,7 +13,10 @@ use rolling_hash::field_blind::UnconditionalHash;
 use std::alloc::Global;
 
 /// The line of the numbers of the present package.
-pub fn numbers_line<C: Check, H: UnconditionalHash + Copy + Drop>(alloc: Global, session: &Session<C, H>) -> Result<Bytes, Memory>
+pub fn numbers_line<C: Check, H: UnconditionalHash + Copy + Drop>(
+    alloc: Global,
+    session: &Session<C, H>,
+) -> Result<Bytes, Memory>
     requires { IsGoodVerdict session.now.verdict }
     ensures { IfOk result (λ reply. (c : Whole) → IsChecked session.now.texts c → reply ≡ numbers_reply (numbers_in session.now.bounds session.now.texts c)) }
 {

@@ -87,7 +87,10 @@ fn push_statement(
         6 => text.push_str("\tif a > b {\n")?,
         7 => text.push_str("\tfor a < 10 {\n")?,
         8 => {
-            let line = format!(in alloc; "\tn{statement} := a + {}\n\tb = n{statement}\n", numbers.below(3))?;
+            let line = format!(in alloc;
+                "\tn{statement} := a + {}\n\tb = n{statement}\n",
+                numbers.below(3)
+            )?;
             text.push_str(line.as_str())?;
         }
         _ => push_simple(alloc, numbers, function, text)?,
