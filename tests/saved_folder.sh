@@ -9,7 +9,7 @@ mkdir "$room/before" "$room/after"
 printf 'package main\n\nfunc f(a int) int {\n\tb := a + 1\n\treturn b\n}\n' >"$room/before/a.go"
 printf 'package main\n\nfunc f(a int) int {\n\tb := a + 2\n\treturn b\n}\n' >"$room/after/a.go"
 printf 'package main\n' >"$room/after/b.go"
-{ printf 'show 64\n'; cat "$room/after/a.go"; printf '\nshow 13\n'; cat "$room/after/b.go"; printf '\n'; } >"$room/shown"
+{ printf 'show 58\n'; cat "$room/after/a.go"; printf '\nshow 13\n'; cat "$room/after/b.go"; printf '\n'; } >"$room/shown"
 
 printf 'edit a.go 44 45 1\n2\nadd b.go 13\npackage main\n\nsave\n' | "$program" "$room/before" >"$room/said" || exit 1
 printf 'ok edit\nok add\nok save 2\n' | cmp - "$room/said" || exit 1
