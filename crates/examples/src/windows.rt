@@ -26,36 +26,49 @@ fn node(
 
 /// A value at one token.
 fn operand(alloc: Global, form: Form, token: u32) -> Option<TypedNode> {
-    node(form, (token, token + 1), Sort::Value(INT), Vec::new(alloc))
+    node(
+        form,
+        (token, token.saturating_add(1)),
+        Sort::Value(INT),
+        Vec::new(alloc),
+    )
 }
 
-/// A statement from a token on that gives the local `b` a local and a literal with an operator between them.
+/// A statement that gives its target, at its first token, a local and a literal with an operator between them.
 fn statement(
     alloc: Global,
     form: Form,
-    first: u32,
+    tokens: (u32, u32),
     target: Form,
     local: u32,
     operator: Arithmetic,
 ) -> Result<Option<TypedNode>, Fail> {
-    let x = operand(alloc, Form::Local(local), first + 2);
-    let y = operand(alloc, Form::Literal, first + 4);
+    let value = (tokens.0.saturating_add(2), tokens.1);
+    let x = operand(alloc, Form::Local(local), value.0);
+    let y = operand(alloc, Form::Literal, value.1.saturating_sub(1));
     let value = node(
         Form::Binary(Operator::Compute(operator)),
-        (first + 2, first + 5),
+        value,
         Sort::Value(INT),
         vec![in alloc; x, y]?,
     );
-    let parts = vec![in alloc; operand(alloc, target, first), value]?;
-    Ok(node(form, (first, first + 5), Sort::Nothing, parts))
+    let parts = vec![in alloc; operand(alloc, target, tokens.0), value]?;
+    Ok(node(form, tokens, Sort::Nothing, parts))
 }
 
 /// `func f(a int) int { b := a + 1; b = b * 2; return b }`, whose locals are `a` and `b`.
 fn plain(alloc: Global) -> Result<TypedFunc, Fail> {
     let define = Form::Define(1);
-    let first = statement(alloc, define, 8, Form::New(1), 0, Arithmetic::Add)?;
+    let first = statement(alloc, define, (8, 13), Form::New(1), 0, Arithmetic::Add)?;
     let assign = Form::Assign(1);
-    let second = statement(alloc, assign, 14, Form::Local(1), 1, Arithmetic::Multiply)?;
+    let second = statement(
+        alloc,
+        assign,
+        (14, 19),
+        Form::Local(1),
+        1,
+        Arithmetic::Multiply,
+    )?;
     let value = operand(alloc, Form::Local(1), 21);
     let last = node(
         Form::Return,
@@ -71,18 +84,17 @@ fn plain(alloc: Global) -> Result<TypedFunc, Fail> {
         calls: false,
     };
     let root = TypedNode::new(Form::Function, 0, 24, label, vec![in alloc; body]?);
-    let mut tokens: Vec<Option<u32>> = vec![in alloc; None; 24]?;
-    for token in [3usize, 10] {
-        tokens[token] = Some(0);
-    }
-    for token in [8usize, 14, 16, 21] {
-        tokens[token] = Some(1);
+    let mut tokens = Vec::new(alloc);
+    for token in 0..24 {
+        tokens.push(match token {
+            3 | 10 => Some(0),
+            8 | 14 | 16 | 21 => Some(1),
+            _ => None,
+        })?;
     }
     let locals = vec![in alloc; Sort::Value(INT), Sort::Value(INT)]?;
     let parameters = vec![in alloc; Some(0)]?;
-    Ok(typed_func(
-        alloc, 0, INT, parameters, locals, tokens, root,
-    )?)
+    Ok(typed_func(alloc, 0, INT, parameters, locals, tokens, root)?)
 }
 
 #[test]
