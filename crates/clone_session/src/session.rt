@@ -1,6 +1,6 @@
 //! A session.
 
-ghost use Rattle.std.specs.Prelude.{◌≡◌, ◌≤◌, ◌<◌, ◌-◌, Some, None, IsSome, IsSomeAnd, IfSome, IfNone, IfOk, IfErr, OnOk, OnErr, is_some, length, map, min, take, drop, nat_eq, slice_get};
+ghost use Rattle.std.specs.Prelude.{◌≡◌, ◌≤◌, ◌<◌, ◌+◌, ◌-◌, Some, None, IsSome, IsSomeAnd, IfSome, IfNone, IfOk, IfErr, OnOk, OnErr, is_some, length, min, take, drop, slice_get};
 ghost use Rattle.std.specs.Option.{option_map};
 ghost use Rattle.go_base.specs.Gives.{Gives};
 ghost use Rattle.go_base.specs.Package.{IsPackage};
@@ -9,8 +9,7 @@ ghost use Rattle.edit_apply.specs.Answers.{edit_refusal, edit_answer, add_answer
 ghost use Rattle.go_scopes.specs.Views.{failure_of};
 ghost use Rattle.go_typed.specs.Contents.{Content as Whole};
 ghost use Rattle.go_package.specs.Checked.{IsChecked, IsCheckedPackage, IsGood, IsReported, texts_of};
-ghost use Rattle.clone_same.specs.Bodies.{bodies_of};
-ghost use Rattle.clone_classes.specs.Listing.{listing, members_of};
+ghost use Rattle.clone_classes.specs.Listing.{members_of};
 ghost use Rattle.clone_texts.specs.Replies.{TextReply, IsOther};
 ghost use Rattle.clone_window.specs.declared.bounds.Bounds.{Bounds as Limits};
 ghost use Rattle.clone_replies.specs.Classes.{classes_in};
@@ -18,14 +17,14 @@ ghost use Rattle.clone_replies.specs.Listing.{listing_reply};
 ghost use Rattle.go_run.specs.Runs.{outcome_view, refusal};
 ghost use Rattle.run_replies.specs.Contents.{run_in};
 ghost use Rattle.package_numbers.specs.Numbers.{numbers_in};
-ghost use Rattle.clone_session.specs.Session.{IsGoodVerdict, fault_in};
+ghost use Rattle.clone_session.specs.Session.{IsGoodVerdict, fault_in, windows_entered};
 ghost use Rattle.clone_session.specs.declared.verdict.Verdict.TheVariants as verdict;
 
 use crate::check::Check;
+use crate::indexed::{classes_of, indexed};
 use crate::laws::listings_follow_from_the_texts;
 use crate::run::run_of;
 use crate::verdict::{Verdict, verdict_of};
-use clone_classes::pairwise::pairwise;
 use clone_replies::class_reply;
 use clone_script::Command;
 use clone_texts::{answer, file_at};
@@ -35,27 +34,32 @@ use go_run::outcome::{Outcome, RunError};
 use go_typed::checked::Checked;
 use go_typed::window::Class;
 use package_numbers::{Numbers, numbers_of};
+use rolling_hash::field_blind::UnconditionalHash;
 use std::alloc::Global;
-use std::marker::{Brand, Model, PhantomData};
-use std::sync::ledger::{Blank, Ledger};
+use std::marker::{Model, PhantomData};
+use std::sync::ledger::Ledger;
+use window_index::index::Index;
 
-/// A session: the present texts of a package, and what the check says of them, where it was asked since they changed.
+/// A session: the present texts of a package, and what the check says of them, where it was asked since they changed. Beside a
+/// package that type-checks stands the index of its windows.
 #[derive(Drop)]
-pub struct Session<C> {
+pub struct Session<C, H: UnconditionalHash> {
     alloc: Global,
     texts: Texts,
     min: u32,
     mass: u32,
+    hash: H,
     verdict: Option<Verdict>,
+    index: Option<Index<H>>,
     check: PhantomData<C>,
 }
 
-impl<C> Model for Session<C> {
+impl<C, H: UnconditionalHash> Model for Session<C, H> {
     ghost use Rattle.std.specs.Coded.{codes};
     ghost use Rattle.std.specs.Prelude.{IfSome};
     ghost use Rattle.go_tree.specs.contracts.node.Node as n;
     ghost use Rattle.go_typed.specs.contracts.node.TypedNode as e;
-    ghost use Rattle.clone_session.specs.Session.{SessionView, AreBounds, IsOf};
+    ghost use Rattle.clone_session.specs.Session.{SessionView, AreBounds, IsIndexed, IsOf};
 
     ghost Value = { SessionView };
 
@@ -63,16 +67,24 @@ impl<C> Model for Session<C> {
 
     ghost view = { λ s. record { texts = s.texts; bounds = record { fewest = s.min; least = s.mass }; verdict = s.verdict } };
 
-    ghost invariant = { λ s. AreBounds (record { fewest = s.min; least = s.mass }) × IfSome s.verdict (IsOf s.texts) };
+    ghost invariant = { λ s. AreBounds (record { fewest = s.min; least = s.mass }) × IfSome s.verdict (IsOf s.texts)
+        × IsIndexed H.number (record { fewest = s.min; least = s.mass }) s.verdict s.index };
 }
 
-impl<C: Check> Session<C> {
-    /// A session that begins with these files. Windows have from `min` to 32 statements and at least this mass.
+impl<C: Check, H: UnconditionalHash + Copy + Drop> Session<C, H> {
+    /// A session that begins with these files. Windows have from `min` to 32 statements and at least this mass; they are found by
+    /// this hash.
     ///
     /// # Errors
     ///
     /// Want of memory.
-    pub fn load(alloc: Global, files: Vec<FileText>, min: u32, mass: u32) -> Result<Self, Memory>
+    pub fn load(
+        alloc: Global,
+        files: Vec<FileText>,
+        min: u32,
+        mass: u32,
+        hash: H,
+    ) -> Result<Self, Memory>
         requires package { IsPackage files.items }
         requires some { 1 ≤ min }
         requires at_most { min ≤ 32 }
@@ -85,7 +97,9 @@ impl<C: Check> Session<C> {
             texts: Texts::load(alloc, files)?,
             min,
             mass,
+            hash,
             verdict: None,
+            index: None,
             check: PhantomData,
         })
     }
@@ -102,6 +116,7 @@ impl<C: Check> Session<C> {
     {
         self.texts.edit(name, start, end, new)?;
         self.verdict = None;
+        self.index = None;
         Ok(())
     }
 
@@ -117,6 +132,7 @@ impl<C: Check> Session<C> {
     {
         self.texts.add(name, bytes)?;
         self.verdict = None;
+        self.index = None;
         Ok(())
     }
 
@@ -133,24 +149,29 @@ impl<C: Check> Session<C> {
     {
         self.texts.remove(name)?;
         self.verdict = None;
+        self.index = None;
         Ok(())
     }
 
-    /// Brings what is known up to the present texts.
+    /// Brings what is known up to the present texts: they are checked, and the windows of a package that type-checks are put into a
+    /// new index, each once.
     ///
     /// # Errors
     ///
     /// Want of memory. Then the texts are as before, and the next call works anew from them.
-    pub fn refresh<L: Ledger>(&mut self, _steps: &mut Steps<L>) -> Result<(), Memory>
+    pub fn refresh<L: Ledger>(&mut self, steps: &mut Steps<L>) -> Result<(), Memory>
         ensures kept { self.new ≡ record self.old { verdict = self.new.verdict } }
         ensures fresh { OnOk result (IsSome self.new.verdict) }
         ensures anew { OnErr result (self.new.verdict ≡ None) }
+        ensures entered { OnOk result (steps.new.entered ≡ steps.old.entered + windows_entered self.old.bounds self.old.verdict self.new.verdict) }
     {
         if self.is_fresh() {
             return Ok(());
         }
         let verdict = verdict_of::<C>(self.alloc, &self.texts)?;
+        let index = indexed(self.alloc, &verdict, self.hash, self.min, self.mass, steps)?;
         self.verdict = Some(verdict);
+        self.index = index;
         Ok(())
     }
 
@@ -196,13 +217,12 @@ impl<C: Check> Session<C> {
         requires { IsGoodVerdict self.now.verdict }
         ensures { IfOk result (λ cs. (c : Whole) → IsChecked self.now.texts c → members_of cs.items ≡ classes_in self.now.bounds c) }
     {
-        classes_of::<Brand>(
-            self.alloc,
-            self.checked(),
-            self.min,
-            self.mass,
-            Blank::new(3),
-        )
+        match (&self.verdict, &self.index) {
+            (Some(Verdict::Good(package)), Some(index)) => {
+                classes_of(self.alloc, package.package(), index)
+            }
+            _ => unreachable!(),
+        }
     }
 
     /// The listing of the clone classes of the present package.
@@ -255,6 +275,7 @@ impl<C: Check> Session<C> {
         ensures err { OnErr result (self.new.texts ≡ self.old.texts) }
     {
         self.verdict = None;
+        self.index = None;
         answer(self.alloc, &mut self.texts, command)
     }
 
@@ -301,30 +322,6 @@ impl<C: Check> Session<C> {
     {
         self.texts.text_at(name, from, buf)
     }
-}
-
-/// The clone classes of a package that type-checks, found under a counter of their own.
-fn classes_of<L: Ledger>(
-    alloc: Global,
-    checked: &Checked,
-    min: u32,
-    mass: u32,
-    blank: Blank,
-) -> Result<Vec<Class>, Memory>
-    requires name { blank.name ≡ L.name }
-    requires parts { blank.parts ≡ L.parts }
-    requires room { 3 ≤ blank.parts }
-    requires some { 1 ≤ min }
-    requires at_most { min ≤ 32 }
-    requires heavy { 1 ≤ mass }
-    requires light { mass ≤ 1000 }
-    requires checked { IsCheckedPackage checked.now }
-    ensures { IfOk result (λ cs. (c : Whole) → IsChecked (texts_of checked.now) c → members_of cs.items ≡ classes_in (record { fewest = min; least = mass }) c) }
-{
-    listings_follow_from_the_texts();
-    let _count = checked.types().count();
-    let mut steps = Steps::<L>::new(blank);
-    pairwise(alloc, checked, min, mass, &mut steps)
 }
 
 /// The listing of the clone classes of a package that type-checks.

@@ -10,12 +10,16 @@ use crate::run::ran;
 use clone_script::{Command, fault_reply};
 use clone_session::{Check, Session};
 use go_base::{Bytes, Fault, Memory, Steps};
+use rolling_hash::field_blind::UnconditionalHash;
 use std::alloc::Global;
 use std::marker::Brand;
 use std::sync::ledger::{Blank, Ledger};
 
 /// Brings what is known up to the present texts, under a counter of its own.
-pub fn refresh<C: Check, L: Ledger>(session: &mut Session<C>, blank: Blank) -> Result<(), Memory>
+pub fn refresh<C: Check, H: UnconditionalHash + Copy + Drop, L: Ledger>(
+    session: &mut Session<C, H>,
+    blank: Blank,
+) -> Result<(), Memory>
     requires name { blank.name ≡ L.name }
     requires parts { blank.parts ≡ L.parts }
     requires room { 3 ≤ blank.parts }
@@ -27,9 +31,9 @@ pub fn refresh<C: Check, L: Ledger>(session: &mut Session<C>, blank: Blank) -> R
 }
 
 /// The line of a fault of the present package.
-pub fn fault_line<C: Check>(
+pub fn fault_line<C: Check, H: UnconditionalHash + Copy + Drop>(
     alloc: Global,
-    session: &Session<C>,
+    session: &Session<C, H>,
     fault: &Fault,
 ) -> Result<Bytes, Memory>
     ensures { IfOk result (λ reply. reply ≡ fault_line session.now.texts fault.now) }
@@ -42,11 +46,14 @@ pub fn fault_line<C: Check>(
 }
 
 /// The reply to `classes`.
-fn classes<C: Check>(alloc: Global, session: &mut Session<C>) -> Result<Bytes, Memory>
+fn classes<C: Check, H: UnconditionalHash + Copy + Drop>(
+    alloc: Global,
+    session: &mut Session<C, H>,
+) -> Result<Bytes, Memory>
     ensures reply { IfOk result (λ reply. PackageReply (IsListing session.old.bounds) session.old.texts reply) }
     ensures kept { session.new ≡ record session.old { verdict = session.new.verdict } }
 {
-    refresh::<C, Brand>(session, Blank::new(3))?;
+    refresh::<C, H, Brand>(session, Blank::new(3))?;
     match session.fault() {
         Some(fault) => fault_line(alloc, session, &fault),
         None => session.listing(),
@@ -54,11 +61,14 @@ fn classes<C: Check>(alloc: Global, session: &mut Session<C>) -> Result<Bytes, M
 }
 
 /// The reply to `stat`.
-fn stat<C: Check>(alloc: Global, session: &mut Session<C>) -> Result<Bytes, Memory>
+fn stat<C: Check, H: UnconditionalHash + Copy + Drop>(
+    alloc: Global,
+    session: &mut Session<C, H>,
+) -> Result<Bytes, Memory>
     ensures reply { IfOk result (λ reply. PackageReply (IsNumbers session.old.bounds session.old.texts) session.old.texts reply) }
     ensures kept { session.new ≡ record session.old { verdict = session.new.verdict } }
 {
-    refresh::<C, Brand>(session, Blank::new(3))?;
+    refresh::<C, H, Brand>(session, Blank::new(3))?;
     match session.fault() {
         Some(fault) => fault_line(alloc, session, &fault),
         None => numbers_line(alloc, session),
@@ -66,7 +76,10 @@ fn stat<C: Check>(alloc: Global, session: &mut Session<C>) -> Result<Bytes, Memo
 }
 
 /// The reply to a command on texts.
-fn text<C: Check>(session: &mut Session<C>, command: &Command) -> Result<Bytes, Memory>
+fn text<C: Check, H: UnconditionalHash + Copy + Drop>(
+    session: &mut Session<C, H>,
+    command: &Command,
+) -> Result<Bytes, Memory>
     ensures reply { IfOk result (λ reply. TextReply session.old.texts command.now reply session.new.texts) }
     ensures bounds { session.new.bounds ≡ session.old.bounds }
     ensures err { OnErr result (session.new.texts ≡ session.old.texts) }
@@ -75,9 +88,9 @@ fn text<C: Check>(session: &mut Session<C>, command: &Command) -> Result<Bytes, 
 }
 
 /// The reply to a command that is neither `save` nor `quit`.
-pub fn answer<C: Check>(
+pub fn answer<C: Check, H: UnconditionalHash + Copy + Drop>(
     alloc: Global,
-    session: &mut Session<C>,
+    session: &mut Session<C, H>,
     command: &Command,
 ) -> Result<Bytes, Memory>
     ensures reply { IfOk result (λ reply. Answers (settings_of session.old.bounds) session.old.texts command.now reply session.new.texts) }

@@ -9,10 +9,14 @@ ghost use Rattle.package_numbers.specs.Numbers.{numbers_in, numbers_reply};
 use clone_script::stat_reply;
 use clone_session::{Check, Session};
 use go_base::{Bytes, Memory};
+use rolling_hash::field_blind::UnconditionalHash;
 use std::alloc::Global;
 
 /// The line of the numbers of the present package.
-pub fn numbers_line<C: Check>(alloc: Global, session: &Session<C>) -> Result<Bytes, Memory>
+pub fn numbers_line<C: Check, H: UnconditionalHash + Copy + Drop>(
+    alloc: Global,
+    session: &Session<C, H>,
+) -> Result<Bytes, Memory>
     requires { IsGoodVerdict session.now.verdict }
     ensures { IfOk result (λ reply. (c : Whole) → IsChecked session.now.texts c → reply ≡ numbers_reply (numbers_in session.now.bounds session.now.texts c)) }
 {

@@ -11,15 +11,16 @@ ghost use Rattle.clone_workspace.specs.Answers.{IsRun, PackageReply};
 use crate::answers::{fault_line, refresh};
 use clone_session::{Check, Session};
 use go_base::{Bytes, Memory};
+use rolling_hash::field_blind::UnconditionalHash;
 use run_replies::reply::reply_to;
 use std::alloc::Global;
 use std::marker::Brand;
 use std::sync::ledger::Blank;
 
 /// The reply to the run of a package that type-checks.
-fn run_reply<C: Check>(
+fn run_reply<C: Check, H: UnconditionalHash + Copy + Drop>(
     alloc: Global,
-    session: &Session<C>,
+    session: &Session<C, H>,
     turns: u64,
     input: &[u8],
 ) -> Result<Bytes, Memory>
@@ -31,16 +32,16 @@ fn run_reply<C: Check>(
 }
 
 /// The reply to `run`.
-pub fn ran<C: Check>(
+pub fn ran<C: Check, H: UnconditionalHash + Copy + Drop>(
     alloc: Global,
-    session: &mut Session<C>,
+    session: &mut Session<C, H>,
     turns: u64,
     input: &[u8],
 ) -> Result<Bytes, Memory>
     ensures reply { IfOk result (λ reply. PackageReply (IsRun turns input.now) session.old.texts reply) }
     ensures kept { session.new ≡ record session.old { verdict = session.new.verdict } }
 {
-    refresh::<C, Brand>(session, Blank::new(3))?;
+    refresh::<C, H, Brand>(session, Blank::new(3))?;
     match session.fault() {
         Some(fault) => fault_line(alloc, session, &fault),
         None => run_reply(alloc, session, turns, input),

@@ -8,12 +8,13 @@ use clone_script::Command;
 use clone_server::Workspace;
 use clone_session::{Check, Session};
 use go_base::{Bytes, FileText, Memory};
+use rolling_hash::field_blind::UnconditionalHash;
 use std::alloc::Global;
 
-/// A session that answers the commands of a script.
+/// A session that answers the commands of a script, over a check and a hash of windows.
 #[derive(Drop)]
-pub struct PackageWorkspace<C> {
-    session: Session<C>,
+pub struct PackageWorkspace<C, H: UnconditionalHash> {
+    session: Session<C, H>,
 }
 
 /// Whether there are windows of from `min` to 32 statements and at least this mass.
@@ -23,7 +24,7 @@ fn are_bounds(min: u32, mass: u32) -> bool
     1 <= min && min <= 32 && 1 <= mass && mass <= 1000
 }
 
-impl<C: Check> Workspace for PackageWorkspace<C> {
+impl<C: Check, H: UnconditionalHash + Default + Copy + Drop> Workspace for PackageWorkspace<C, H> {
     ghost use Rattle.clone_workspace.specs.Answers.{Answers, settings_of};
 
     ghost files = { λ w. w.session.texts };
@@ -36,7 +37,7 @@ impl<C: Check> Workspace for PackageWorkspace<C> {
         if !are_bounds(min, mass) {
             return Err(Memory);
         }
-        let session = Session::load(alloc, texts, min, mass)?;
+        let session = Session::load(alloc, texts, min, mass, H::default())?;
         Ok(PackageWorkspace { session })
     }
 

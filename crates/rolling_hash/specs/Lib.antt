@@ -1,3 +1,5 @@
 pub mod Shown
 pub mod Rolling
 pub mod Starts
+pub mod Fields
+pub mod FieldBlind

@@ -1,11 +1,6 @@
 //! The hash that tells names of locals and constants of holes not apart.
 
-ghost use Rattle.std.specs.Prelude.{◌≡◌, ◌++◌, ◌∷◌, [], true, IfOk, OnOk};
-ghost use Rattle.alpha_hash.specs.Packages.{window_hash};
-ghost use Rattle.alpha_hash.specs.Sharing.{numbered};
-ghost use Rattle.rolling_hash.specs.Starts.{IsStart, covers};
-
-use crate::start::Start;
+use crate::numbered::numbers_of;
 use alpha_hash::window_hash::{WindowHash, windows_of_function};
 use go_base::Memory;
 use go_typed::checked::Checked;
@@ -33,54 +28,6 @@ impl WindowHash for AlphaHash {
         mass: u32,
     ) -> Result<Vec<(Window, u64)>, Memory> {
         let windows = windows_of_function(alloc, checked, func, min, mass)?;
-        numbers_of(alloc, checked, &windows)
+        numbers_of(alloc, checked, true, &windows)
     }
-}
-
-/// Windows with their numbers. Those from one start stand together, and are numbered in one pass.
-fn numbers_of(
-    alloc: Global,
-    checked: &Checked,
-    windows: &[Window],
-) -> Result<Vec<(Window, u64)>, Memory>
-    ensures { IfOk result (λ v. v.items ≡ numbered (window_hash checked.now) windows.now) }
-{
-    let mut out = Vec::with_capacity(alloc, windows.len())?;
-    let Some(first) = windows.first() else {
-        return Ok(out);
-    };
-    let mut start = Start::of(alloc, checked, *first)?;
-    for window in windows {
-        start = push_numbered(alloc, checked, start, *window, &mut out)?;
-    }
-    Ok(out)
-}
-
-/// Puts a window with its number behind the others, and tells where it begins.
-fn push_numbered(
-    alloc: Global,
-    checked: &Checked,
-    start: Start,
-    window: Window,
-    out: &mut Vec<(Window, u64)>,
-) -> Result<Start, Memory>
-    requires { IsStart checked.now start }
-    ensures start { IfOk result (IsStart checked.now) }
-    ensures pushed { OnOk result (out.new.items ≡ out.old.items ++ (window, window_hash checked.now window) ∷ []) }
-{
-    let start = reached(alloc, checked, start, window)?;
-    out.push((window, start.number(window.count)))?;
-    Ok(start)
-}
-
-/// The start of a window: this one, if it is the same.
-fn reached(alloc: Global, checked: &Checked, start: Start, window: Window) -> Result<Start, Memory>
-    requires { IsStart checked.now start }
-    ensures start { IfOk result (IsStart checked.now) }
-    ensures covers { IfOk result (λ s. covers s window ≡ true) }
-{
-    if start.covers(window) {
-        return Ok(start);
-    }
-    Start::of(alloc, checked, window)
 }

@@ -29,6 +29,8 @@ use type_tests::underlying;
 pub struct Names<'a> {
     pub checked: &'a Checked,
     pub locals: &'a [Sort],
+    /// Whether the names of fields are told; else each field has the empty name.
+    pub fields: bool,
 }
 
 /// The name of what an outline of a name shows that names no local.
@@ -135,11 +137,14 @@ fn text_in(file: &File, token: u32) -> &[u8]
     }
 }
 
-/// The name of the field of this place of a value.
+/// The name of the field of this place of a value; the empty one where fields are not told.
 pub fn field_text<'a>(names: Names<'a>, owner: &Sort, field: u32) -> &'a [u8]
     requires { knows_sort names (sort_view owner.now) ≡ true }
     ensures { result.now ≡ field_of (naming names.entry) (final (sort_view owner.now)) field }
 {
+    if !names.fields {
+        return b"";
+    }
     match owner {
         Sort::Type(ty) => field_name(names.checked.types(), *ty, field),
         Sort::Value(ty) => field_name(names.checked.types(), *ty, field),

@@ -1,5 +1,7 @@
 //! The table `listings`: a number, the two options, the files, and the reply to `classes` with `; ` for each newline but the last.
-use crate::sessions::Session;
+//! Each listing is made in three ways, and all are compared with the reply.
+use crate::agreement::{Case, listings};
+use crate::sessions::{Session, folder_of};
 use case_tables::table::Table;
 use go_base::Memory;
 use std::alloc::Global;
@@ -23,11 +25,28 @@ impl Table for Listings {
             script: Vec::from_slice(alloc, b"classes\n")?,
         };
         let ended = session.ended(alloc)?;
-        if ended.status == 0 && ended.written.as_slice() == lines(alloc, reply)?.as_bytes() {
+        if ended.status != 0 || ended.written.as_slice() != lines(alloc, reply)?.as_bytes() {
+            return Ok(Some(ended.shown(alloc)?));
+        }
+        let mut case = Case {
+            folder: folder_of(alloc, "d", folder, Vec::new(alloc))?,
+            dir: String::from_str(alloc, "d")?,
+            min: min.parse::<u32>().unwrap_or(0),
+            mass: mass.parse::<u32>().unwrap_or(0),
+        };
+        if is_listed(alloc, &mut case, &ended.written)? {
             Ok(None)
         } else {
-            Ok(Some(ended.shown(alloc)?))
+            Ok(Some(String::from_str(alloc, "three listings")?))
         }
+    }
+}
+
+/// Whether this is the listing of a package, made in each of three ways, or the line of a fault that it has.
+fn is_listed(alloc: Global, case: &mut Case, written: &[u8]) -> Result<bool, Memory> {
+    match listings(alloc, case)? {
+        Some(listings) => Ok(listings.agree() && listings.own.as_slice() == written),
+        None => Ok(written.starts_with(b"fault ")),
     }
 }
 

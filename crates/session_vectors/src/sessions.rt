@@ -38,7 +38,7 @@ fn file_of(alloc: Global, text: &str) -> Result<(Name, Vec<u8>), Memory> {
 }
 
 /// The folder that holds these files, of whose calls the ones with these numbers fail.
-fn folder_of(
+pub fn folder_of(
     alloc: Global,
     dir: &str,
     files: &str,

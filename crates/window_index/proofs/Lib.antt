@@ -5,3 +5,4 @@ pub mod Entering
 pub mod Keeping
 pub mod Owners
 pub mod Counting
+pub mod Staying

@@ -3,16 +3,18 @@
 ghost use Rattle.std.specs.Prelude.{◌≡◌, ◌≤◌, ◌<◌, ◌+◌, ◌++◌, ◌∷◌, [], ℕ, false, length, filter, take, IfOk, OnOk, OnErr};
 ghost use Rattle.std.specs.List.{AllByRecursion};
 ghost use Rattle.std.specs.List.Sorted.{IsPermutation};
+ghost use Rattle.go_typed.specs.Packages.{PackageView as Package};
 ghost use Rattle.clone_same.specs.Bodies.{bodies_of};
 ghost use Rattle.clone_classes.specs.Listing.{members_of};
 ghost use Rattle.alpha_hash.specs.Sharing.{numbered, windows_of_func};
 ghost use Rattle.window_index.specs.Buckets.{all_entered, entered, groups_in, held, is_of, is_some_left, is_two, left, same_in, without};
 ghost use Rattle.window_index.specs.Counting.{group_count, rivals};
-ghost use Rattle.window_index.specs.Fitting.{FitsPackage};
+ghost use Rattle.window_index.specs.Fitting.{AreBounds, FitsPackage};
 ghost use Rattle.window_index.specs.Groups.{count_at, groups_there, joined_at};
 
 use crate::groups::Groups;
 use alpha_hash::window_hash::WindowHash;
+use clone_window::bounds::Bounds;
 use go_base::{Memory, Steps};
 use go_typed::checked::Checked;
 use go_typed::window::{Class, Window};
@@ -92,9 +94,10 @@ impl<H: WindowHash + Drop> Index<H> {
         }
     }
 
-    /// Takes out the windows of a function.
+    /// Takes out the windows of a function. So an index that fits a package fits it afterwards.
     pub fn leave(&mut self, func: u32)
-        ensures { self.new ≡ record self.old { buckets = left func self.old.buckets } }
+        ensures gone { self.new ≡ record self.old { buckets = left func self.old.buckets } }
+        ensures fits { (p : Package) → FitsPackage H.number p self.old → FitsPackage H.number p self.new }
     {
         take_out(&mut self.buckets, func);
     }
@@ -110,6 +113,17 @@ impl<H: WindowHash + Drop> Index<H> {
         let mut classes = Vec::new(alloc);
         push_all_classes(&self.buckets, alloc, &mut classes)?;
         Ok(classes)
+    }
+
+    /// Which runs of statements are windows.
+    pub fn bounds(&self) -> Bounds
+        ensures bounds { result ≡ self.now.bounds }
+        ensures within { AreBounds self.now.bounds }
+    {
+        Bounds {
+            fewest: self.min,
+            least: self.mass,
+        }
     }
 
     /// How many distinct hashes the windows have that are held.
