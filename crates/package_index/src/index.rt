@@ -1,6 +1,6 @@
 //! The index of a package.
 
-ghost use Rattle.std.specs.Prelude.{◌≡◌, ◌≤◌, ◌+◌, ◌×◌, length, IfOk, OnOk};
+ghost use Rattle.std.specs.Prelude.{◌≡◌, ◌≤◌, ◌+◌, length, IfOk, OnOk};
 ghost use Rattle.clone_same.specs.Bodies.{bodies_of};
 ghost use Rattle.clone_classes.specs.Listing.{windows_of_all};
 ghost use Rattle.package_index.specs.Holding.{HoldsPackage};

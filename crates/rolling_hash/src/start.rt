@@ -37,7 +37,12 @@ impl Start {
     /// # Errors
     ///
     /// Want of memory.
-    pub fn of(alloc: Global, checked: &Checked, fields: bool, window: Window) -> Result<Start, Memory>
+    pub fn of(
+        alloc: Global,
+        checked: &Checked,
+        fields: bool,
+        window: Window,
+    ) -> Result<Start, Memory>
         ensures start { IfOk result (IsStart fields checked.now) }
         ensures covers { IfOk result (λ s. covers s window ≡ true) }
     {
@@ -76,7 +81,12 @@ fn number_at(numbers: &[u64], place: usize) -> u64
 }
 
 /// The numbers of the first statements of a run, none of them to all, with or without the names of fields.
-fn numbers_from(alloc: Global, checked: &Checked, fields: bool, run: Window) -> Result<Vec<u64>, Memory>
+fn numbers_from(
+    alloc: Global,
+    checked: &Checked,
+    fields: bool,
+    run: Window,
+) -> Result<Vec<u64>, Memory>
     ensures { IfOk result (λ v. (n : ℕ) → n ≤ run.count → number_at v.items n ≡ hash_told fields checked.now (with_count run n)) }
 {
     let _types = checked.types();
