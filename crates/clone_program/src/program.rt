@@ -7,8 +7,7 @@ ghost use Rattle.go_scopes.specs.Views.{failure_of};
 ghost use Rattle.go_package.specs.Checked.{IsReported, texts_of};
 ghost use Rattle.go_reading.specs.Reading.{check_refusal};
 
-use clone_session::Check;
-use clone_workspace::PackageWorkspace;
+use clone_workspace::{Check, PackageWorkspace};
 use go_base::FileText;
 use go_checked::CheckedPackage;
 use go_reading::CheckError;

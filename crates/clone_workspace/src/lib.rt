@@ -11,4 +11,5 @@ mod numbers;
 mod run;
 mod workspace;
 
+pub use clone_session::Check;
 pub use workspace::PackageWorkspace;

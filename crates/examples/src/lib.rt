@@ -1,4 +1,4 @@
-//! Worked examples, run through the public calls of the lowest crates, of the types and the script.
+//! Worked examples, run through the public calls of the lowest crates, of the types, of typed functions and the script.
 //!
 //! Each crate's contract says what its calls answer; the tests here compare a few answers with values from outside, and call
 //! what takes memory where there is enough of it. They stand in a crate of their own, since the check of a crate with tests
@@ -15,3 +15,5 @@ mod script;
 mod texts;
 #[cfg(test)]
 mod types;
+#[cfg(test)]
+mod windows;

@@ -23,7 +23,7 @@ use Rattle.go_package.specs.Bodies.{local_type, count_types}
 use Rattle.go_stmt_rules.specs.Seen.{locals_in, KnownLocals}
 use Rattle.go_body_frames.specs.declared.state.Surroundings.{Surroundings}
 use Rattle.go_body_frames.specs.State.{names_in}
-use Rattle.go_walk.specs.Walks.{found_in, tree_in, frame_in}
+pub use Rattle.go_walk.specs.Walks.{found_in, tree_in, frame_in, frame_behind}
 use Rattle.go_bodies.specs.declared.body.Walked.{Walked}
 
 -- ---- scopes

@@ -23,7 +23,7 @@ use Rattle.go_package.specs.Answer.{Environment}
 use Rattle.go_package.specs.Bodies.{Surroundings, Functions, functions_from, those_of, variables_of}
 use Rattle.go_package.specs.Checked.{Typing, surroundings_of, content_of, origins}
 use Rattle.go_package_types.specs.Answers.{environment_seen}
-use Rattle.go_bodies.specs.Bodies.{KnownObjects, KnownFunction}
+use Rattle.go_functions.specs.Functions.{KnownObjects, KnownFunction}
 use Rattle.go_functions.specs.Functions.{package_in, around_in, specified, functions_seen}
 use Rattle.go_functions.proofs.Rows.{contents_stay, around_stays}
 use Rattle.go_check.specs.Checks.{sources_in, functions_behind, bodies_behind}

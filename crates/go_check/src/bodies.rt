@@ -2,13 +2,11 @@
 ghost use Rattle.std.specs.Prelude.{◌≡◌, Err, length};
 ghost use Rattle.go_base.specs.Gives.{Meets};
 ghost use Rattle.type_tests.specs.Extends.{Extends};
-ghost use Rattle.go_bodies.specs.Bodies.{KnownObjects};
-ghost use Rattle.go_functions.specs.Functions.{AreFiles, check_failure};
+ghost use Rattle.go_functions.specs.Functions.{AreFiles, KnownObjects, check_failure};
 ghost use Rattle.go_check.specs.Checks.{functions_behind, ShowsBodies};
 
-use go_bodies::laws::functions_stay;
 use go_declarations::specifications;
-use go_functions::{type_functions, type_variables};
+use go_functions::{functions_stay, type_functions, type_variables};
 use go_reading::CheckError;
 use go_tree::file::File;
 use go_tree::uses::Uses;

@@ -11,8 +11,7 @@ ghost use Rattle.go_scopes.specs.Views.{failure_of};
 ghost use Rattle.go_contexts.specs.Expressions.{failure_named};
 ghost use Rattle.go_package.specs.Checked.{names_of, AreRead, files_answer};
 ghost use Rattle.go_package_types.specs.Answers.{AreLexedFiles, environment_seen};
-ghost use Rattle.go_bodies.specs.Bodies.{KnownObjects};
-ghost use Rattle.go_functions.specs.Functions.{AreFiles, check_failure};
+ghost use Rattle.go_functions.specs.Functions.{AreFiles, KnownObjects, check_failure};
 ghost use Rattle.go_check.specs.Checks.{bodies_behind, declarations_behind};
 
 use crate::assembly::assembled;

@@ -26,7 +26,7 @@ use Rattle.go_package.specs.Answer as answers
 use Rattle.go_package.specs.Bodies.{Surroundings, Behind, behind_read, based_tree, function_in, moved_fault, placed, portion_of, tree_read, variable_of, variables_by}
 use Rattle.go_package.specs.Declarations.{Specification}
 use Rattle.go_package.specs.Sources.{Package, tokens_in}
-use Rattle.go_walk.specs.Walks.{frame_in}
+use Rattle.go_bodies.specs.Bodies.{frame_in}
 use Rattle.go_bodies.specs.Bodies.{variables_answer}
 use Rattle.go_functions.specs.Functions.{behind_seen, IsMoved, IsPlain, check_failure}
 use Rattle.go_functions.proofs.Plain.{plain_rights, based_plain}

@@ -19,7 +19,7 @@ use Rattle.go_stmts.specs.Laying.{told, layout, form_by}
 use Rattle.go_stmts.specs.Rules.{own_faults, built_by}
 use Rattle.go_stmts.specs.Reading.{Found, read, Readings, all_read, reading, readings, after, completed, closed_on, closed}
 use Rattle.go_stmts.specs.Reading.{back, beginning, holding, held_faults, is_statement, is_new, declares_sort, declares_name, declares_all, left_out, left_out_faults}
-use Rattle.go_walk.specs.Walks.{frame_in, frame_behind}
+use Rattle.go_bodies.specs.Bodies.{frame_in, frame_behind}
 use Rattle.go_functions.specs.Functions.{ArePlain, IsPlain}
 
 -- ---- what is declared behind it

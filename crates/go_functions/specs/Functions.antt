@@ -27,6 +27,7 @@ use Rattle.go_reading.specs.declared.error.CheckError.TheVariants as errors
 use Rattle.go_stmts.specs.Bodies.{based}
 use Rattle.go_stmts.specs.Reading.{is_statement}
 use Rattle.go_package.specs.Answer.{specifications}
+pub use Rattle.go_bodies.specs.Bodies.{KnownObjects, KnownFunction}
 use Rattle.go_package.specs.Bodies.{Surroundings, Behind, Functions, moved_fault, those_of}
 use Rattle.go_package.specs.Declarations.{Specification}
 use Rattle.go_package.specs.Sources.{Package, source_of, package_of, tokens_in}

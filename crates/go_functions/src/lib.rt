@@ -12,4 +12,5 @@ pub mod laws;
 pub mod variables;
 
 pub use functions::type_functions;
+pub use go_bodies::laws::functions_stay;
 pub use variables::type_variables;
