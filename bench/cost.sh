@@ -72,7 +72,8 @@ make_statements() {
 cost() {
     local commands=$1 process
     shift
-    mkfifo "$room/script"
+    : >"$room/replies"
+    mkfifo "$room/script" || return 1
     "$program" "$@" <"$room/script" >"$room/replies" &
     process=$!
     exec 4>"$room/script"
@@ -92,10 +93,10 @@ cost() {
 listing_row() {
     local name=$1 folder=$2 checked listed windows
     shift 2
-    read -r checked _ < <(cost classes --min 32 --mass 1000 "$folder") || return 1
-    read -r listed memory < <(cost classes "$@" "$folder") || return 1
+    checked=$(cost classes --min 32 --mass 1000 "$folder") || return 1
+    listed=$(cost classes "$@" "$folder") || return 1
     windows=$(printf 'stat\n' | "$program" "$@" "$folder" | awk '{ print $9, $13 }')
-    echo "| $name | ${windows% *} | ${windows#* } | $checked | $listed | $memory |"
+    echo "| $name | ${windows% *} | ${windows#* } | ${checked% *} | ${listed% *} | ${listed#* } |"
 }
 
 echo
