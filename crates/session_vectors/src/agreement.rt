@@ -128,6 +128,6 @@ fn counted<L: Ledger>(
 /// # Errors
 ///
 /// Want of memory.
-pub fn listings(alloc: Global, case: &mut Case) -> Result<Option<Listings>, Memory> {
+pub fn listed_thrice(alloc: Global, case: &mut Case) -> Result<Option<Listings>, Memory> {
     counted::<Brand>(alloc, case, Blank::new(3))
 }

@@ -1,6 +1,6 @@
 //! The table `listings`: a number, the two options, the files, and the reply to `classes` with `; ` for each newline but the last.
 //! Each listing is made in three ways, and all are compared with the reply.
-use crate::agreement::{Case, listings};
+use crate::agreement::{Case, listed_thrice};
 use crate::sessions::{Session, folder_of};
 use case_tables::table::Table;
 use go_base::Memory;
@@ -44,7 +44,7 @@ impl Table for Listings {
 
 /// Whether this is the listing of a package, made in each of three ways, or the line of a fault that it has.
 fn is_listed(alloc: Global, case: &mut Case, written: &[u8]) -> Result<bool, Memory> {
-    match listings(alloc, case)? {
+    match listed_thrice(alloc, case)? {
         Some(listings) => Ok(listings.agree() && listings.own.as_slice() == written),
         None => Ok(written.starts_with(b"fault ")),
     }

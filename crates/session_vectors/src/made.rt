@@ -1,6 +1,6 @@
 //! The table `made`: a number, a seed, and the two options. From the seed a package is made, which type-checks; its clone classes
 //! are listed in three ways, and the listings are compared.
-use crate::agreement::{Case, listings};
+use crate::agreement::{Case, listed_thrice};
 use case_tables::table::Table;
 use go_base::{Memory, Name};
 use port_io::MemFolder;
@@ -29,7 +29,7 @@ impl Table for Made {
             min: min.parse::<u32>().unwrap_or(0),
             mass: mass.parse::<u32>().unwrap_or(0),
         };
-        match listings(alloc, &mut case)? {
+        match listed_thrice(alloc, &mut case)? {
             Some(listings) if listings.agree() => Ok(None),
             Some(_) => Ok(Some(format!(in alloc; "three listings of {:?}", text.as_str())?)),
             None => Ok(Some(format!(in alloc; "a fault in {:?}", text.as_str())?)),

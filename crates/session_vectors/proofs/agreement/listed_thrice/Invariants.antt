@@ -1,4 +1,4 @@
-use Rattle.session_vectors.proofs.agreement.listings.Given as goal
+use Rattle.session_vectors.proofs.agreement.listed_thrice.Given as goal
 
 abbrev pub ghosts-counted : goal.ghosts-counted
 ghosts-counted a = record { name = a.blank.name; parts = a.blank.parts }
