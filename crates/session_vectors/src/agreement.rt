@@ -1,7 +1,7 @@
 //! The listing of one package made in three ways: under the program's own hash, under one that tells no windows apart, and by
 //! comparing every window with every other.
 
-ghost use Rattle.std.specs.Prelude.{◌≡◌, ◌≤◌};
+ghost use Rattle.std.specs.Prelude.{◌≡◌, ◌≤◌, IfOk};
 ghost use Rattle.go_base.specs.Package.{IsPackage};
 
 use alpha_hash::window_hash::ConstantHash;
