@@ -5,8 +5,8 @@ use Rattle.go_grammar.specs.declared.kind.Kind.{Kind}
 use Rattle.go_grammar.specs.declared.kind.Kind.TheVariants as kind
 use Rattle.go_grammar.specs.declared.kind.Sort.{Sort}
 use Rattle.go_grammar.specs.declared.kind.Sort.TheVariants as sort
-use Rattle.go_grammar.specs.Trees.{Tree, node, Trees, none, more, skip, kind_of, first, last, parts}
-use Rattle.go_grammar.specs.Grammar.{is_name, ends_named, count}
+use Rattle.go_grammar.specs.Trees.{Tree, node, Trees}
+use Rattle.go_grammar.specs.Grammar.{is_name, count}
 use Rattle.go_splice.specs.Places.{carry, carries}
 use Rattle.go_tree.specs.Views.{part_at}
 use Rattle.go_tree.specs.declared.context.Entity.{Entity}
@@ -25,7 +25,7 @@ use Rattle.go_tree.specs.Contexts as contexts
 use Rattle.go_tree.specs.Contexts.{is_there, opens, block_in, role_in, site_in, specification_in, source_in, source_at, has_values, group_in, specified, defined, ranged, is_called, is_package, package_value, initial_in, called_in, if_name, if_first, field_role, key_role, parameter_role, entry_role, value_site, values_site, column_site, typed_site, sequence_site, length_site, element_site, function_site, enter}
 use Rattle.go_tree.specs.Events.{pass, begin}
 use Rattle.head_objects.specs.Told.{place_of, site_of}
-use Rattle.head_objects.proofs.Rows.{kind_carried, count_carried, there_carried}
+use Rattle.head_objects.proofs.Rows.{count_carried, there_carried}
 
 -- what a name is for: it is declared so, or it is a field, a key or a parameter, or it is looked up
 pub data Purpose : Type 0 where

@@ -1,10 +1,10 @@
 -- What trees tell that lie outside all bodies, and what a body tells.
-use Rattle.std.proofs.Common.{◌≡◌, ◌∙◌, ℕ, zero, suc, ◌<◌, ◌≤◌, Bool, true, false, List, [], ◌∷◌, ◌++◌, Some, None, refl, sym, ap, arith}
+use Rattle.std.proofs.Common.{◌≡◌, ◌∙◌, ℕ, suc, ◌<◌, ◌≤◌, Bool, true, false, List, [], ◌∷◌, ◌++◌, Some, None, refl, ap, arith}
 use Rattle.std.specs.Prelude.{if◌then◌else◌, ◌&&◌, not}
 use Rattle.go_grammar.specs.declared.kind.Kind.{Kind}
 use Rattle.go_grammar.specs.declared.kind.Kind.TheVariants as kind
 use Rattle.go_grammar.specs.declared.kind.Sort.TheVariants as sort
-use Rattle.go_grammar.specs.Trees.{Tree, node, Trees, none, more, skip, first, last}
+use Rattle.go_grammar.specs.Trees.{Tree, node, Trees, none, more, skip}
 use Rattle.go_grammar.specs.Grammar.{ends_named}
 use Rattle.go_tree.specs.declared.context.Block.TheVariants as block
 use Rattle.go_tree.specs.declared.context.Role.{Role}
@@ -14,11 +14,11 @@ use Rattle.go_tree.specs.declared.event.Declaration.{Declaration}
 use Rattle.go_tree.specs.declared.event.Event.{Event}
 use Rattle.go_tree.specs.declared.event.Event.TheVariants as event
 use Rattle.go_tree.specs.Contexts.{is_package, opens, block_in, enter}
-use Rattle.go_tree.specs.Events.{name_events, second_defaults, own_events, statement_events, is_more, pass, begin, events, events_of}
+use Rattle.go_tree.specs.Events.{name_events, own_events, statement_events, is_more, pass, begin, events, events_of}
 use Rattle.go_names.specs.Orders.{AreInOrder, EachDeclared}
 use Rattle.go_names.proofs.Inside.{is_top, IsInner, AreInner, true_false}
 use Rattle.go_names.proofs.Nesting.{each_append, statement_each, misplaced_each, second_each}
-use Rattle.head_objects.specs.Told.{Told, declares, asks, new_name, asked_name, tell, told}
+use Rattle.head_objects.specs.Told.{declares, asks, new_name, asked_name, tell, told}
 use Rattle.head_objects.proofs.Telling.{no_token}
 
 order_grows : (i j : ℕ) (es : List Event) → AreInOrder i j es → i ≤ j

@@ -1,8 +1,7 @@
 -- A name of the package block is declared outside of bodies, and by no `:=`.
-use Rattle.std.proofs.Common.{◌≡◌, ◌∙◌, ℕ, zero, suc, ◌<◌, ◌≤◌, inl, inr, Bool, true, false, List, [], ◌∷◌, ◌++◌, Option, Some, None, refl, sym, ap, subst, arith}
+use Rattle.std.proofs.Common.{◌≡◌, ℕ, zero, suc, ◌<◌, ◌≤◌, inl, inr, Bool, true, false, List, [], ◌∷◌, ◌++◌, Option, Some, None, refl, sym, subst, arith}
 use Rattle.std.specs.Prelude.{if◌then◌else◌, nat_lt}
 use Rattle.go_tokens.specs.declared.token.TokenKind.{TokenKind}
-use Rattle.go_tokens.specs.Tokens.{kinds}
 use Rattle.go_grammar.specs.declared.kind.Kind.{Kind}
 use Rattle.go_grammar.specs.declared.kind.Kind.TheVariants as kind
 use Rattle.go_grammar.specs.declared.kind.Place.TheVariants as place
@@ -21,7 +20,7 @@ use Rattle.go_tree.specs.declared.event.Declaration.{Declaration}
 use Rattle.go_tree.specs.declared.event.Event.{Event}
 use Rattle.go_tree.specs.declared.event.Event.TheVariants as event
 use Rattle.go_tree.specs.Contexts.{is_there, is_package, is_called, specified, file_context, role_in, enter, called_in, if_name, if_first, field_role, key_role, parameter_role, entry_role}
-use Rattle.go_tree.specs.Events.{name_events, second_defaults, own_events, statement_events, function_events, declaration_events, is_more, pass, begin, events, events_of}
+use Rattle.go_tree.specs.Events.{name_events, own_events, statement_events, function_events, declaration_events, is_more, pass, begin, events, events_of}
 use Rattle.go_names.specs.Orders.{EachDeclared}
 use Rattle.go_names.proofs.Inside.{is_top, IsInner, AreInner, derives_inner, spells_inner, rule_inner, top_function, each_between, true_false}
 use Rattle.go_names.proofs.Nesting.{each_append, each_map, statement_each, misplaced_each, second_each}

@@ -1,5 +1,5 @@
 -- The objects of a package are told by the heads of its files.
-use Rattle.std.proofs.Common.{◌≡◌, ◌∙◌, ℕ, zero, suc, ◌+◌, Bool, true, false, List, [], ◌∷◌, ◌++◌, map, length, Option, Some, None, refl, sym, ap, subst, arith}
+use Rattle.std.proofs.Common.{◌≡◌, ◌∙◌, ℕ, suc, ◌+◌, Bool, true, false, List, [], ◌∷◌, ◌++◌, map, length, Option, Some, None, refl, sym, ap, arith}
 use Rattle.std.specs.Prelude.{if◌then◌else◌, ◌&&◌, not, slice_get, option_map}
 use Rattle.std.proofs.lemmas.List.{map-append, length-map}
 use Rattle.std.proofs.lemmas.Option.{slice_get-map}
@@ -7,7 +7,6 @@ use Rattle.go_tokens.specs.declared.token.Token.{Token}
 use Rattle.go_tokens.specs.Tokens.{TokenList, kinds, text_of}
 use Rattle.go_grammar.specs.Trees.{parts}
 use Rattle.go_tree.specs.declared.context.Entity.{Entity}
-use Rattle.go_tree.specs.declared.context.Manner.{Manner}
 use Rattle.go_tree.specs.declared.context.Manner.TheVariants as manner
 use Rattle.go_tree.specs.declared.event.Declaration.{Declaration}
 use Rattle.go_tree.specs.declared.event.Event.{Event}
@@ -16,17 +15,16 @@ use Rattle.go_tree.specs.declared.object.Declared.{Declared}
 use Rattle.go_tree.specs.Contexts.{is_package}
 use Rattle.go_tree.specs.Declarations.{Found, found_in, found_from, may_be_reused, is_reused, is_new, new_among}
 use Rattle.go_tree.specs.Units.{word, text_in, is_blank, bytes_at}
-use Rattle.go_tree.specs.Units as names
 use Rattle.go_tree.specs.Uses.{declared_by, declared_in_package}
-use Rattle.go_typed.specs.Packages.{Counts, no_counts, counted, referent_of, referents, referents_from}
+use Rattle.go_typed.specs.Packages.{Counts, no_counts, counted, referent_of, referents_from}
 use Rattle.go_names.specs.Orders.{EachDeclared}
 use Rattle.go_heads.specs.Functions.{AreRead}
-use Rattle.go_heads.specs.Heads.{File, IsRead, Head, head_of, heads, in_bodies, outside, place_outside, texts}
+use Rattle.go_heads.specs.Heads.{File, Head, head_of, heads, in_bodies, place_outside, texts}
 use Rattle.go_heads.proofs.Counting.{stands_outside}
 use Rattle.go_heads.proofs.Files.{first_same, others_same, some_not_none}
 use Rattle.go_heads.proofs.Functions.{same_some}
-use Rattle.head_objects.specs.Objects.{unit_of, units_of, package_objects, file_there, file_in, text_at, head_place, SameObject, KeepsObjects}
-use Rattle.head_objects.specs.Told.{NewName, Told, declares, asks, new_name, tell, told, placed, file_events, told_outside}
+use Rattle.head_objects.specs.Objects.{units_of, package_objects, file_there, file_in, text_at, head_place, SameObject, KeepsObjects}
+use Rattle.head_objects.specs.Told.{Told, declares, asks, new_name, told, placed, file_events, told_outside}
 use Rattle.head_objects.proofs.Declared.{IsHeaded, file_headed}
 use Rattle.head_objects.proofs.Outside.{heads_told}
 

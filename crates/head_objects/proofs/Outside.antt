@@ -1,6 +1,6 @@
 -- What a file tells outside the bodies of its functions is what its outline tells.
-use Rattle.std.proofs.Common.{◌≡◌, ◌∙◌, ℕ, zero, suc, ◌+◌, ◌-◌, ◌<◌, ◌≤◌, Bool, true, false, List, [], ◌∷◌, ◌++◌, map, Some, None, refl, sym, ap, subst, arith}
-use Rattle.std.specs.Prelude.{if◌then◌else◌, ◌&&◌, not, nat_lt}
+use Rattle.std.proofs.Common.{◌≡◌, ◌∙◌, ℕ, suc, ◌+◌, ◌-◌, ◌<◌, ◌≤◌, Bool, true, false, List, [], ◌∷◌, ◌++◌, map, Some, refl, sym, ap, subst, arith}
+use Rattle.std.specs.Prelude.{if◌then◌else◌, ◌&&◌, not}
 use Rattle.std.proofs.lemmas.Bool.{lt-ltb}
 use Rattle.go_tokens.specs.declared.token.TokenKind.{TokenKind}
 use Rattle.go_tokens.specs.Tokens.{kinds}
@@ -9,7 +9,7 @@ use Rattle.go_grammar.specs.declared.kind.Kind.TheVariants as kind
 use Rattle.go_grammar.specs.declared.kind.Place.TheVariants as place
 use Rattle.go_grammar.specs.declared.kind.Category.TheVariants as category
 use Rattle.go_grammar.specs.Categories.{within}
-use Rattle.go_grammar.specs.Trees.{Tree, node, Trees, none, more, skip, kind_of, first, last, parts}
+use Rattle.go_grammar.specs.Trees.{Tree, node, Trees, none, more, skip, first, last, parts}
 use Rattle.go_grammar.specs.Grammar.{IsFile, rule, Derives, ends_named}
 use Rattle.go_splice.specs.Places.{carry, carries}
 use Rattle.go_splice.proofs.Order.{tree_order}
@@ -20,11 +20,10 @@ use Rattle.go_tree.specs.declared.context.Context.{Context}
 use Rattle.go_tree.specs.declared.event.Event.{Event}
 use Rattle.go_tree.specs.Contexts.{is_there, source_at, file_context, enter}
 use Rattle.go_tree.specs.Events.{statement_events, function_events, declaration_events, is_more, pass, begin, events, events_of}
-use Rattle.go_names.proofs.Inside.{IsInner, AreInner, spells_inner, derives_inner, rule_inner, true_false}
-use Rattle.go_names.proofs.Nesting.{each_append}
+use Rattle.go_names.proofs.Inside.{IsInner, spells_inner, derives_inner, rule_inner, true_false}
 use Rattle.go_names.proofs.Rising.{IsLaidOut, derives_laid, events_order}
 use Rattle.go_names.specs.Orders.{EachDeclared}
-use Rattle.go_heads.specs.Heads.{File, IsRead, head_of, body_of, is_within, in_bodies, place_outside, without_body, without_bodies, outline}
+use Rattle.go_heads.specs.Heads.{File, IsRead, head_of, in_bodies, place_outside, without_body, without_bodies, outline}
 use Rattle.go_heads.proofs.Bodies.{inside}
 use Rattle.go_heads.proofs.Counting.{place_next, place_order}
 use Rattle.go_heads.proofs.Files.{one_outline}

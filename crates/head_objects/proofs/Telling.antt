@@ -1,11 +1,11 @@
 -- What a tree tells of names, where its tokens stand at other places: any tree that holds no function and no file.
-use Rattle.std.proofs.Common.{◌≡◌, ◌∙◌, ℕ, zero, suc, Bool, true, false, List, [], ◌∷◌, ◌++◌, map, Some, None, refl, sym, ap}
+use Rattle.std.proofs.Common.{◌≡◌, ◌∙◌, ℕ, suc, Bool, true, false, List, [], ◌∷◌, ◌++◌, map, Some, None, refl, sym, ap}
 use Rattle.std.specs.Prelude.{if◌then◌else◌, ◌&&◌, ◌||◌, not}
 use Rattle.std.proofs.lemmas.List.{map-append}
 use Rattle.go_grammar.specs.declared.kind.Kind.{Kind}
 use Rattle.go_grammar.specs.declared.kind.Kind.TheVariants as kind
 use Rattle.go_grammar.specs.declared.kind.Sort.TheVariants as sort
-use Rattle.go_grammar.specs.Trees.{Tree, node, Trees, none, more, skip, kind_of, first, last}
+use Rattle.go_grammar.specs.Trees.{Tree, node, Trees, none, more, skip, kind_of, first}
 use Rattle.go_grammar.specs.Grammar.{ends_named}
 use Rattle.go_splice.specs.Places.{carry, carries}
 use Rattle.go_tree.specs.declared.context.Entity.TheVariants as entity
@@ -14,13 +14,12 @@ use Rattle.go_tree.specs.declared.context.Role.{Role}
 use Rattle.go_tree.specs.declared.context.Role.TheVariants as role
 use Rattle.go_tree.specs.declared.context.Site.{Site}
 use Rattle.go_tree.specs.declared.context.Context.{Context}
-use Rattle.go_tree.specs.declared.event.Declaration.{Declaration}
 use Rattle.go_tree.specs.declared.event.Event.{Event}
 use Rattle.go_tree.specs.declared.event.Event.TheVariants as event
 use Rattle.go_tree.specs.Contexts.{is_package, enter}
 use Rattle.go_tree.specs.Events.{name_events, misplaced, is_default, default_events, second_defaults, own_events, statement_events, is_more, pass, begin, events, events_of}
 use Rattle.go_names.proofs.Inside.{is_top, IsInner, AreInner, true_false}
-use Rattle.head_objects.specs.Told.{NewName, Told, declares, asks, new_name, asked_name, tell, told, place_of, site_of, placed}
+use Rattle.head_objects.specs.Told.{Told, declares, asks, new_name, asked_name, tell, told, site_of, placed}
 use Rattle.head_objects.proofs.Rows.{ends_carried, more_carried}
 use Rattle.head_objects.proofs.Alike.{Purpose, new, member, looked_up, purpose, purpose_at, Alike, source_alike, enter_alike, begin_alike, pass_alike}
 
