@@ -32,7 +32,7 @@ use Rattle.go_heads.proofs.Outlines.{Sits, AllSit, OthersSit, file_sat}
 use Rattle.head_objects.proofs.Clear.{IsLocal, block_declares}
 use Rattle.head_objects.proofs.Outside.{block_kind}
 
-each_both : (Q R S : Declaration → Type 0) (es : List Event) → ((d : Declaration) → Q d → R d → S d) → EachDeclared Q es → EachDeclared R es → EachDeclared S es
+pub each_both : (Q R S : Declaration → Type 0) (es : List Event) → ((d : Declaration) → Q d → R d → S d) → EachDeclared Q es → EachDeclared R es → EachDeclared S es
 each_both Q R S [] f q r = tt
 each_both Q R S (event.Declaration d ∷ es) f q r = (f d q.0 r.0, each_both Q R S es f q.1 r.1)
 each_both Q R S (e ∷ es) f q r = each_both Q R S es f q r

@@ -3,5 +3,5 @@ mod Alike
 mod Telling
 mod Clear
 mod Outside
-mod Declared
-mod Objects
+pub mod Declared
+pub mod Objects

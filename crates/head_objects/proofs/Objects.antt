@@ -38,12 +38,12 @@ pub record Entry : Type 0 where
 abbrev pub entry : List File → Declared → Entry
 entry fs d = record { file = d.file; place = head_place fs d.file d.name; text = text_at fs d.file d.name; entity = d.entity }
 
-abbrev text_there : Option (List ℕ) → List ℕ
+abbrev pub text_there : Option (List ℕ) → List ℕ
 text_there None = []
 text_there (Some w) = w
 
 -- the text at a place of a head
-abbrev head_text : File → ℕ → List ℕ
+abbrev pub head_text : File → ℕ → List ℕ
 head_text f k = text_there (slice_get (head_of f).texts k)
 
 -- the objects that a file declares, by what it tells
@@ -60,7 +60,7 @@ there_same : (l : TokenList) (n : ℕ) → word l n ≡ text_there (slice_get (t
 there_same l n = there_mapped l (slice_get l.tokens n) ∙ ap text_there (sym (slice_get-map (text_of l) l.tokens n))
 
 -- a token outside of bodies has the text at its place in the head
-head_word : (f : File) (n : ℕ) → in_bodies (parts f.tree) n ≡ false → head_text f (place_outside (in_bodies (parts f.tree)) n) ≡ word f.tokens n
+pub head_word : (f : File) (n : ℕ) → in_bodies (parts f.tree) n ≡ false → head_text f (place_outside (in_bodies (parts f.tree)) n) ≡ word f.tokens n
 head_word f n e = ap text_there (stands_outside (in_bodies (parts f.tree)) (texts f.tokens) n e) ∙ sym (there_same f.tokens n)
 
 -- ---- one file
@@ -157,11 +157,11 @@ declared_append (d ∷ ds) es = ap (λ xs. if is_package d.it.block then declare
 
 -- the files from the number n on
 module _ (all : List File) where
-  abbrev StandFrom : ℕ → List File → Type 0
+  abbrev pub StandFrom : ℕ → List File → Type 0
   StandFrom n [] = Unit {0}
   StandFrom n (f ∷ fs) = (file_in all n ≡ f) × StandFrom (suc n) fs
 
-  stand_from : (n : ℕ) (fs : List File) → ((k : ℕ) → file_in all (n + k) ≡ file_there (slice_get fs k)) → StandFrom n fs
+  pub stand_from : (n : ℕ) (fs : List File) → ((k : ℕ) → file_in all (n + k) ≡ file_there (slice_get fs k)) → StandFrom n fs
   stand_from n [] h = tt
   stand_from n (f ∷ fs) h =
       let here : n ≡ n + 0 = omega arith in

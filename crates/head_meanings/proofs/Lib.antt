@@ -1,0 +1,3 @@
+mod Scopes
+mod Imports
+mod Meanings
