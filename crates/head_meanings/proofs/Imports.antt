@@ -1,5 +1,5 @@
 -- What a file imports is told by its head.
-use Rattle.std.proofs.Common.{◌≡◌, ◌∙◌, ℕ, zero, suc, ◌<◌, ◌≤◌, Bool, true, false, List, [], ◌∷◌, ◌++◌, map, Option, Some, None, refl, sym, ap, arith}
+use Rattle.std.proofs.Common.{◌≡◌, ◌∙◌, ℕ, suc, ◌<◌, ◌≤◌, Bool, true, false, List, [], ◌∷◌, ◌++◌, map, Some, None, refl, sym, ap, arith}
 use Rattle.std.specs.Prelude.{if◌then◌else◌, nat_le, nat_lt, ◌&&◌, ◌||◌, slice_get}
 use Rattle.std.proofs.lemmas.List.{map-append}
 use Rattle.go_tokens.specs.declared.token.TokenKind.{TokenKind}
@@ -29,12 +29,12 @@ use Rattle.go_tree.specs.declared.context.Context.{Context}
 use Rattle.go_tree.specs.declared.event.Event.{Event}
 use Rattle.go_tree.specs.declared.event.Event.TheVariants as event
 use Rattle.go_tree.specs.Contexts.{is_there, file_context, enter}
-use Rattle.go_tree.specs.Events.{name_events, misplaced, is_default, default_events, second_defaults, function_events, declaration_events, own_events, statement_events, is_more, pass, begin, events, events_of}
+use Rattle.go_tree.specs.Events.{name_events, misplaced, is_default, default_events, second_defaults, function_events, own_events, statement_events, is_more, pass, begin, events, events_of}
 use Rattle.go_tree.specs.Imports.{is_fmt_value, imports_fmt}
 use Rattle.go_tree.specs.Units.{word}
 use Rattle.go_names.proofs.Inside.{true_false}
 use Rattle.go_names.proofs.Layers.{and_both}
-use Rattle.go_heads.specs.Heads.{File, IsRead, Head, head_of, in_bodies, place_outside, without_body, without_bodies, outline}
+use Rattle.go_heads.specs.Heads.{File, IsRead, Head, head_of, in_bodies, place_outside, outline}
 use Rattle.go_heads.proofs.Files.{one_outline}
 use Rattle.go_heads.proofs.Outlines.{OthersSit, file_sat, plain_same}
 use Rattle.head_objects.specs.Told.{file_events}

@@ -4,17 +4,14 @@ use Rattle.std.specs.Prelude.{if◌then◌else◌, ◌&&◌, nat_eq, nat_le, nat
 use Rattle.std.proofs.lemmas.Bool.Decides.{nat_tests}
 use Rattle.go_tokens.specs.declared.token.TokenKind.{TokenKind}
 use Rattle.go_tokens.specs.Spellings.{same_text}
-use Rattle.go_tokens.specs.Tokens.{TokenList, kinds}
+use Rattle.go_tokens.specs.Tokens.{kinds}
 use Rattle.go_grammar.specs.declared.kind.Category.TheVariants as category
-use Rattle.go_grammar.specs.Grammar.{IsFile}
-use Rattle.go_grammar.specs.Trees.{Tree, last, parts}
+use Rattle.go_grammar.specs.Trees.{last, parts}
 use Rattle.go_tree.specs.declared.context.Block.{Block}
 use Rattle.go_tree.specs.declared.context.Block.TheVariants as block
 use Rattle.go_tree.specs.declared.context.Scope.{Scope}
-use Rattle.go_tree.specs.declared.event.Declaration.{Declaration}
 use Rattle.go_tree.specs.declared.event.Event.{Event}
 use Rattle.go_tree.specs.declared.event.Event.TheVariants as event
-use Rattle.go_tree.specs.declared.object.Declared.{Declared}
 use Rattle.go_tree.specs.declared.object.Extent.{Extent}
 use Rattle.go_tree.specs.declared.object.Object.{Object}
 use Rattle.go_tree.specs.declared.object.Object.TheVariants as object
@@ -24,7 +21,7 @@ use Rattle.go_tree.specs.Events.{events}
 use Rattle.go_tree.specs.Extents.{covers, extent_by, extent_of}
 use Rattle.go_tree.specs.Imports.{imports_fmt}
 use Rattle.go_tree.specs.Meanings.{Meaning, Numbers, first_numbers, own_number, behind_shared, numbers_behind, numbered, imported_meaning, imported_from, meanings, meaning_at}
-use Rattle.go_tree.specs.Objects.{predeclared_object, object_by, object_at}
+use Rattle.go_tree.specs.Objects.{predeclared_object, object_by}
 use Rattle.go_tree.specs.Units.{word, is_blank}
 use Rattle.go_tree.specs.Units as names
 use Rattle.go_tree.specs.Uses.{declared_by, declared_in_package}
@@ -42,7 +39,7 @@ use Rattle.go_heads.specs.Functions.{AreRead}
 use Rattle.go_heads.specs.Heads.{File, IsRead, Head, head_of, heads, in_bodies}
 use Rattle.go_heads.proofs.Files.{first_same, others_same, some_not_none}
 use Rattle.head_meanings.specs.Meanings.{StandsOutside, meant_at, KeepsMeanings}
-use Rattle.head_objects.specs.Objects.{units_of, package_objects, file_there, file_in, text_at, head_place}
+use Rattle.head_objects.specs.Objects.{units_of, package_objects, file_in, text_at, head_place}
 use Rattle.head_objects.specs.Told.{file_events}
 use Rattle.head_meanings.proofs.Imports.{imports_same}
 use Rattle.head_objects.proofs.Objects.{Entry, entry, head_text, text_there, head_word, StandFrom, stand_from, entries_same}

@@ -1,5 +1,5 @@
 -- Locals are in scope in bodies alone.
-use Rattle.std.proofs.Common.{◌≡◌, ◌∙◌, ℕ, zero, suc, ◌<◌, ◌≤◌, ◌⊎◌, inl, inr, Bool, true, false, List, [], ◌∷◌, ◌++◌, Option, Some, None, refl, sym, ap, arith}
+use Rattle.std.proofs.Common.{◌≡◌, ◌∙◌, ℕ, suc, ◌<◌, ◌≤◌, ◌⊎◌, inl, inr, Bool, true, false, List, [], ◌∷◌, ◌++◌, Option, Some, None, refl, ap, arith}
 use Rattle.std.specs.Prelude.{if◌then◌else◌, nat_lt}
 use Rattle.go_tokens.specs.declared.token.TokenKind.{TokenKind}
 use Rattle.go_grammar.specs.declared.kind.Kind.{Kind}
@@ -7,7 +7,7 @@ use Rattle.go_grammar.specs.declared.kind.Kind.TheVariants as kind
 use Rattle.go_grammar.specs.declared.kind.Place.TheVariants as place
 use Rattle.go_grammar.specs.declared.kind.Category.TheVariants as category
 use Rattle.go_grammar.specs.Trees.{Tree, node, Trees, none, more, skip, first, last, parts}
-use Rattle.go_grammar.specs.Grammar.{IsFile, rule, Derives, ends_named}
+use Rattle.go_grammar.specs.Grammar.{IsFile, rule, ends_named}
 use Rattle.go_splice.proofs.Order.{tree_order}
 use Rattle.go_tree.specs.Views.{part_at}
 use Rattle.go_tree.specs.declared.context.Block.{Block}
@@ -26,7 +26,7 @@ use Rattle.go_names.proofs.Inside.{is_top, IsInner, AreInner, derives_inner, spe
 use Rattle.go_names.proofs.Layers.{Function, AreLayered, derives_layered}
 use Rattle.go_names.proofs.Nesting.{Lies, IsOnly, ScopeGives, each_append, each_map, statement_each, plain_only, body_behind, self_gives, function_nested, file_follows}
 use Rattle.go_names.proofs.Outer.{is_outer, is_function, IsOutside, AreOutside, derives_outside, IsNone, IsOuterContext, own_outer, block_outer, role_outer, parameters_outer}
-use Rattle.go_names.proofs.Rising.{IsLaidOut, LieIn, derives_laid, events_order}
+use Rattle.go_names.proofs.Rising.{IsLaidOut, derives_laid, events_order}
 use Rattle.go_heads.specs.Heads.{in_bodies}
 use Rattle.go_heads.proofs.Bodies.{inside}
 use Rattle.go_heads.proofs.Functions.{Framed, framed, some_none, same_some}
