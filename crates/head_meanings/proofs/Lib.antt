@@ -1,3 +1,4 @@
 mod Scopes
 mod Imports
 mod Meanings
+mod Lookups
