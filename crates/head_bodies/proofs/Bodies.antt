@@ -45,7 +45,7 @@ mutual
 
 -- ---- one function
 
-abbrev Tells : Tree → Type 0
+abbrev pub Tells : Tree → Type 0
 Tells t = (end : ℕ) → events (file_context end) t ≡ map (moved_event (first t)) (events (file_context 0) (carry (λ n. n - first t) t))
 
 module _ (ts : List TokenKind) where
@@ -56,7 +56,7 @@ module _ (ts : List TokenKind) where
       ∙ ap (events (file_context (i + 0))) (sym (tree_back i t (derives_ordered ts t category.Declaration h) (omega arith)))
       ∙ events_moved i (file_context 0) (carry (λ n. n - i) t)
 
-  tells : (t : Tree) → is_function (kind_of t) ≡ true → Derives ts category.Declaration t → Tells t
+  pub tells : (t : Tree) → is_function (kind_of t) ≡ true → Derives ts category.Declaration t → Tells t
   tells (node k i j ps) e h =
       let f : k ≡ kind.FunctionDeclaration = function_kind k e in
       subst (λ x. Tells (node x i j ps)) (sym f) (declared_tells i j ps (subst (λ x. Derives ts category.Declaration (node x i j ps)) f h))

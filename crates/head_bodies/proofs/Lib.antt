@@ -1,2 +1,5 @@
 mod Ends
 mod Bodies
+mod Blocks
+mod Fresh
+mod Names
