@@ -1,5 +1,5 @@
 -- The blocks of what a tree declares begin inside the tree, or in front of it.
-use Rattle.std.proofs.Common.{◌≡◌, ℕ, zero, suc, ◌<◌, ◌≤◌, Bool, true, false, List, [], ◌∷◌, ◌++◌, Option, Some, None, refl, arith}
+use Rattle.std.proofs.Common.{◌≡◌, ℕ, zero, suc, ◌<◌, ◌≤◌, Bool, true, false, ◌++◌, Option, Some, None, refl, arith}
 use Rattle.std.specs.Prelude.{if◌then◌else◌}
 use Rattle.go_grammar.specs.declared.kind.Kind.{Kind}
 use Rattle.go_grammar.specs.declared.kind.Kind.TheVariants as kind
@@ -14,7 +14,7 @@ use Rattle.go_tree.specs.declared.context.Role.TheVariants as role
 use Rattle.go_tree.specs.declared.context.Context.{Context}
 use Rattle.go_tree.specs.declared.event.Declaration.{Declaration}
 use Rattle.go_tree.specs.Contexts.{opens, block_in, role_in, parameters_in, is_called, specified, defined, ranged, called_in, if_name, if_first, field_role, key_role, parameter_role, entry_role, enter}
-use Rattle.go_tree.specs.Events.{name_events, second_defaults, own_events, statement_events, is_more, pass, begin, events, events_of}
+use Rattle.go_tree.specs.Events.{name_events, own_events, statement_events, is_more, pass, begin, events, events_of}
 use Rattle.go_names.specs.Orders.{EachDeclared}
 use Rattle.go_names.proofs.Inside.{is_top, IsInner, AreInner, true_false}
 use Rattle.go_names.proofs.Nesting.{each_append, statement_each, misplaced_each, second_each}

@@ -1,13 +1,12 @@
 -- A function tells by itself what it tells in its file.
-use Rattle.std.proofs.Common.{◌≡◌, ◌∙◌, ℕ, zero, suc, ◌+◌, ◌-◌, ◌<◌, ◌≤◌, Bool, true, false, List, [], ◌∷◌, ◌++◌, map, Some, None, refl, sym, ap, subst, arith}
+use Rattle.std.proofs.Common.{◌≡◌, ◌∙◌, ℕ, zero, suc, ◌+◌, ◌-◌, ◌≤◌, Bool, true, false, List, [], ◌∷◌, ◌++◌, map, Some, refl, sym, ap, subst, arith}
 use Rattle.std.specs.Prelude.{slice_get, if◌then◌else◌}
 use Rattle.go_tokens.specs.declared.token.TokenKind.{TokenKind}
 use Rattle.go_tokens.specs.Tokens.{kinds}
-use Rattle.go_grammar.specs.declared.kind.Kind.{Kind}
 use Rattle.go_grammar.specs.declared.kind.Kind.TheVariants as kind
 use Rattle.go_grammar.specs.declared.kind.Category.TheVariants as category
 use Rattle.go_grammar.specs.Trees.{Tree, node, Trees, none, more, skip, kind_of, first, last, parts}
-use Rattle.go_grammar.specs.Grammar.{IsFile, Derives}
+use Rattle.go_grammar.specs.Grammar.{Derives}
 use Rattle.go_splice.specs.Lists.{InOrder, Ordered}
 use Rattle.go_splice.specs.Places.{carry, carries}
 use Rattle.go_splice.proofs.Order.{tree_order, derives_ordered}
@@ -15,12 +14,11 @@ use Rattle.go_tree.specs.Contexts.{file_context}
 use Rattle.go_tree.specs.Events.{events}
 use Rattle.go_tree.specs.Lists.{is_function, functions}
 use Rattle.go_names.specs.Moved.{moved, all_moved, moved_event}
-use Rattle.go_names.proofs.Inside.{true_false}
 use Rattle.go_names.proofs.Moved.{events_moved}
 use Rattle.go_heads.specs.Functions.{Function, functions_in, all_functions, AreRead}
-use Rattle.go_heads.specs.Heads.{File, IsRead, in_bodies}
+use Rattle.go_heads.specs.Heads.{File, in_bodies}
 use Rattle.go_heads.proofs.Functions.{same_some, some_none}
-use Rattle.go_heads.proofs.Outlines.{Sits, AllSit, OthersSit, file_sat, function_kind}
+use Rattle.go_heads.proofs.Outlines.{AllSit, OthersSit, file_sat, function_kind}
 use Rattle.head_bodies.specs.Bodies.{TellsByItself}
 use Rattle.head_bodies.proofs.Ends.{function_end}
 

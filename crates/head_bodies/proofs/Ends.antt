@@ -1,5 +1,5 @@
 -- Where a block ends doesn't count for what stands in expressions, in signatures and in inner blocks.
-use Rattle.std.proofs.Common.{◌≡◌, ◌∙◌, ℕ, zero, suc, Bool, true, false, List, [], ◌∷◌, ◌++◌, Some, None, refl, sym, ap, subst}
+use Rattle.std.proofs.Common.{◌≡◌, ◌∙◌, ℕ, suc, Bool, true, false, List, [], ◌++◌, refl, sym, ap, subst}
 use Rattle.go_tokens.specs.declared.token.TokenKind.{TokenKind}
 use Rattle.go_grammar.specs.declared.kind.Kind.{Kind}
 use Rattle.go_grammar.specs.declared.kind.Kind.TheVariants as kind
@@ -10,7 +10,6 @@ use Rattle.go_grammar.specs.Grammar.{Derives, ends_named}
 use Rattle.go_tree.specs.declared.context.Role.{Role}
 use Rattle.go_tree.specs.declared.context.Role.TheVariants as role
 use Rattle.go_tree.specs.declared.context.Context.{Context}
-use Rattle.go_tree.specs.declared.event.Event.{Event}
 use Rattle.go_tree.specs.Contexts.{end_in, file_context, enter}
 use Rattle.go_tree.specs.Events.{name_events, own_events, statement_events, declaration_events, is_more, pass, begin, events, events_of}
 use Rattle.go_names.proofs.Layers.{Function, Holding, layer, IsPlain, ArePlain, AreLayered, derives_layered}

@@ -2,4 +2,4 @@ mod Ends
 mod Bodies
 mod Blocks
 mod Fresh
-mod Names
+pub mod Names

@@ -1,15 +1,14 @@
 -- The names that a function declares in its package are those that it declares by itself.
-use Rattle.std.proofs.Common.{◌≡◌, ◌∙◌, ℕ, zero, suc, ◌+◌, ◌-◌, ◌<◌, ◌≤◌, Bool, true, false, List, [], ◌∷◌, ◌++◌, map, Some, None, refl, sym, ap, subst, append_assoc, arith}
+use Rattle.std.proofs.Common.{◌≡◌, ◌∙◌, ℕ, zero, suc, ◌+◌, ◌-◌, ◌<◌, ◌≤◌, Bool, true, false, List, [], ◌∷◌, ◌++◌, map, Some, refl, sym, ap, subst, append_assoc, arith}
 use Rattle.std.specs.Prelude.{if◌then◌else◌, nat_eq, nat_lt, slice_get}
 use Rattle.std.proofs.lemmas.Bool.Decides.{nat_tests}
 use Rattle.go_tokens.specs.declared.token.TokenKind.{TokenKind}
 use Rattle.go_tokens.specs.Tokens.{TokenList, kinds}
-use Rattle.go_grammar.specs.declared.kind.Kind.{Kind}
 use Rattle.go_grammar.specs.declared.kind.Kind.TheVariants as kind
 use Rattle.go_grammar.specs.declared.kind.Place.TheVariants as place
 use Rattle.go_grammar.specs.declared.kind.Category.TheVariants as category
 use Rattle.go_grammar.specs.Trees.{Tree, node, Trees, none, more, skip, kind_of, first, last, parts}
-use Rattle.go_grammar.specs.Grammar.{IsFile, rule, Derives, Spells, ends_named}
+use Rattle.go_grammar.specs.Grammar.{IsFile, rule, Derives, ends_named}
 use Rattle.go_splice.specs.Lists.{InOrder, Ordered}
 use Rattle.go_splice.proofs.Order.{tree_order, row_order, derives_ordered}
 use Rattle.go_tree.specs.declared.context.Block.{Block}
@@ -21,30 +20,29 @@ use Rattle.go_tree.specs.declared.event.Event.{Event}
 use Rattle.go_tree.specs.declared.event.Event.TheVariants as event
 use Rattle.go_tree.specs.Contexts.{is_there, is_package, file_context, enter}
 use Rattle.go_tree.specs.Declarations.{Found, found, found_in, found_from, found_event, new_among}
-use Rattle.go_tree.specs.Events.{statement_events, function_events, declaration_events, is_more, pass, begin, events, events_of}
+use Rattle.go_tree.specs.Events.{function_events, declaration_events, is_more, pass, begin, events, events_of}
 use Rattle.go_tree.specs.Lists.{is_function, functions}
 use Rattle.go_tree.specs.Views.{part_at}
 use Rattle.go_tree.specs.Units.{word}
-use Rattle.go_tree.specs.Units as names
 use Rattle.go_names.specs.Moved.{moved_block, moved_declaration, moved_event}
 use Rattle.go_names.specs.Orders.{EachDeclared}
 use Rattle.go_names.proofs.Inside.{IsInner, derives_inner, spells_inner, rule_inner, each_between, true_false}
-use Rattle.go_names.proofs.Nesting.{each_append, each_map, statement_each}
-use Rattle.go_names.proofs.Rising.{IsLaidOut, derives_laid, events_order}
-use Rattle.go_heads.specs.Functions.{AreRead, alone, texts_from}
+use Rattle.go_names.proofs.Nesting.{each_append, each_map}
+use Rattle.go_names.proofs.Rising.{derives_laid, events_order}
+use Rattle.go_heads.specs.Functions.{AreRead, alone}
 use Rattle.go_heads.specs.Heads.{File, IsRead, in_bodies}
 use Rattle.go_heads.proofs.Functions.{some_none, same_some}
-use Rattle.go_heads.proofs.Outlines.{Sits, AllSit, OthersSit, file_sat, function_kind}
+use Rattle.go_heads.proofs.Outlines.{Sits, AllSit, OthersSit, file_sat}
 use Rattle.head_objects.specs.Objects.{units_of}
 use Rattle.head_objects.specs.Told.{file_events}
 use Rattle.head_objects.proofs.Declared.{IsHeaded, file_headed, each_both}
 use Rattle.head_bodies.specs.Bodies.{function_events as own_tells}
-use Rattle.head_bodies.specs.Names.{text_there, own_text, found_by, own_names, own_declarations, in_file, DeclaresByItself}
+use Rattle.head_bodies.specs.Names.{own_text, found_by, in_file, DeclaresByItself}
 use Rattle.head_bodies.proofs.Blocks.{In, IsIn, tree_in}
-use Rattle.head_bodies.proofs.Bodies.{Tells, tells}
+use Rattle.head_bodies.proofs.Bodies.{tells}
 use Rattle.head_bodies.proofs.Fresh.{Every, every_append, each_unmap, texts_at, Aside, other_aside, same_aside, found_moved, Fine, all_new, one_fine}
 
-found_append : (n : ℕ) (l : TokenList) (es fs : List Event) → found_in n l (es ++ fs) ≡ found_in n l es ++ found_in n l fs
+pub found_append : (n : ℕ) (l : TokenList) (es fs : List Event) → found_in n l (es ++ fs) ≡ found_in n l es ++ found_in n l fs
 found_append n l [] fs = refl
 found_append n l (event.Declaration d ∷ es) fs = ap (found_event n l (event.Declaration d)) (found_append n l es fs)
 found_append n l (e ∷ es) fs = found_append n l es fs
@@ -114,10 +112,10 @@ module _ (ts : List TokenKind) (p : ℕ → Bool) (e : ℕ) where
       (tree_in i j inner b (derives_inner ts b category.Block refl h.derives.1.2.1) (derives_laid ts b category.Block h.derives.1.2.1) (omega (arith, order.1.0, in_s, order.1.2.0)) order.1.2.2 tt tt tt) tt))
 
   -- the context of a declaration in the file
-  abbrev around_part : ℕ → ℕ → Trees → ℕ → Tree → Bool → Context
+  abbrev pub around_part : ℕ → ℕ → Trees → ℕ → Tree → Bool → Context
   around_part i j ps n d b = enter file kind.File i j ps (ends_named ps) n d b
 
-  function_there : (i j : ℕ) (ps : Trees) (n k l : ℕ) (qs : Trees) (b : Bool) → Derives ts category.Declaration (node kind.FunctionDeclaration k l qs)
+  pub function_there : (i j : ℕ) (ps : Trees) (n k l : ℕ) (qs : Trees) (b : Bool) → Derives ts category.Declaration (node kind.FunctionDeclaration k l qs)
       → events (around_part i j ps n (node kind.FunctionDeclaration k l qs) b) (node kind.FunctionDeclaration k l qs) ≡ events file (node kind.FunctionDeclaration k l qs)
   function_there i j ps n k l none b h = absurd h.1
   function_there i j ps n k l (skip qs) b h = absurd h.1
@@ -176,7 +174,7 @@ module _ (ts : List TokenKind) (p : ℕ → Bool) (e : ℕ) where
     pub back : EachDeclared (IsIn (last t) e) behind
     pub blocks : EachDeclared (IsIn (first t) (last t)) (events file t)
 
-  abbrev AllStand : List Event → List Tree → Type 0
+  abbrev pub AllStand : List Event → List Tree → Type 0
   AllStand es [] = Unit {0}
   AllStand es (t ∷ us) = Stands es t × AllStand es us
 
@@ -216,7 +214,7 @@ module _ (ts : List TokenKind) (p : ℕ → Bool) (e : ℕ) where
       )
 
   -- the functions of a file
-  imports_next : (d : Tree) → Derives ts category.Imports d → pass file d ≡ file
+  pub imports_next : (d : Tree) → Derives ts category.Imports d → pass file d ≡ file
   imports_next (node kind.Imports i j ps) h = refl
   imports_next (node k i j ps) h = absurd (true_false false h.0 refl)
 

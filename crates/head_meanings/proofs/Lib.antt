@@ -1,4 +1,4 @@
-mod Scopes
+pub mod Scopes
 mod Imports
 mod Meanings
 mod Lookups

@@ -1,9 +1,8 @@
 -- The names that are looked up outside of bodies are the same in packages with equal heads, with their objects.
-use Rattle.std.proofs.Common.{◌≡◌, ◌∙◌, ℕ, zero, suc, ◌+◌, ◌-◌, ◌<◌, ◌≤◌, ◌⊎◌, inl, inr, Bool, true, false, List, [], ◌∷◌, map, length, Option, Some, None, refl, sym, ap, subst, arith}
+use Rattle.std.proofs.Common.{◌≡◌, ◌∙◌, ℕ, zero, suc, ◌+◌, ◌-◌, ◌<◌, ◌≤◌, ◌⊎◌, inl, inr, Bool, true, false, List, [], ◌∷◌, map, length, Option, Some, refl, sym, ap, subst, arith}
 use Rattle.std.specs.Prelude.{if◌then◌else◌, ◌&&◌, not, nat_eq, slice_get}
 use Rattle.std.proofs.lemmas.Bool.Decides.{nat_tests}
 use Rattle.go_tokens.specs.declared.token.Token.{Token}
-use Rattle.go_tokens.specs.declared.token.TokenKind.{TokenKind}
 use Rattle.go_tokens.specs.Tokens.{TokenList, kinds}
 use Rattle.go_grammar.specs.declared.kind.Category.TheVariants as category
 use Rattle.go_grammar.specs.Trees.{last, parts}
@@ -11,7 +10,6 @@ use Rattle.go_tree.specs.declared.event.Event.{Event}
 use Rattle.go_tree.specs.declared.event.Event.TheVariants as event
 use Rattle.go_tree.specs.declared.object.Object.{Object}
 use Rattle.go_tree.specs.Contexts.{is_package, file_context}
-use Rattle.go_tree.specs.Events.{events}
 use Rattle.go_tree.specs.Meanings.{Meaning, meanings}
 use Rattle.go_tree.specs.Objects.{object_at, own_object, token_object, token_objects, objects_from}
 use Rattle.go_tree.specs.Units.{word}
@@ -23,10 +21,10 @@ use Rattle.go_heads.specs.Heads.{File, IsRead, head_of, heads, in_bodies, place_
 use Rattle.go_heads.proofs.Counting.{place_next, place_order}
 use Rattle.go_heads.proofs.Files.{first_same, others_same, some_not_none}
 use Rattle.go_heads.proofs.Functions.{same_some, some_none}
-use Rattle.head_objects.specs.Objects.{units_of, file_there, file_in, text_at, head_place}
-use Rattle.head_objects.specs.Told.{Told, declares, asks, new_name, asked_name, tell, told, placed, file_events, told_outside}
+use Rattle.head_objects.specs.Objects.{units_of, file_there, file_in}
+use Rattle.head_objects.specs.Told.{Told, declares, asks, new_name, asked_name, told, placed, file_events, told_outside}
 use Rattle.head_meanings.specs.Lookups.{HasUse, IsLookedUp, AtOnePlace, KeepsLookups}
-use Rattle.head_meanings.specs.Meanings.{meant_at, KeepsMeanings}
+use Rattle.head_meanings.specs.Meanings.{meant_at}
 use Rattle.head_meanings.proofs.Meanings.{meanings_kept}
 
 -- ---- the object of a name that is looked up

@@ -45,7 +45,7 @@ each_right Q (e ∷ es) fs h = each_right Q es fs h
 
 -- ---- outside of functions all is declared in the package block
 
-abbrev Shared : Declaration → Type 0
+abbrev pub Shared : Declaration → Type 0
 Shared d = IsOuter d.block
 
 node_shared : (c : Context) (k : Kind) (i j : ℕ) (ps : Trees) → IsOutside (node k i j ps) → is_top k ≡ false → IsOuterContext c
@@ -57,7 +57,7 @@ node_shared c k i j ps (inr o) x g go =
     (go o.0 o.1)
 
 mutual
-  tree_shared : (c : Context) (t : Tree) → IsOutside t → IsInner t → IsOuterContext c → EachDeclared Shared (events c t)
+  pub tree_shared : (c : Context) (t : Tree) → IsOutside t → IsInner t → IsOuterContext c → EachDeclared Shared (events c t)
   tree_shared c (node k i j ps) o x g =
       node_shared c k i j ps o x.0 g (λ e a. parts_shared (begin c k) k i j ps 0 ps e a x.1 (record { block = g.block; role = g.role; parameters = g.parameters }))
 
