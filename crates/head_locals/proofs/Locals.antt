@@ -1,14 +1,13 @@
 -- The locals of a package are those of its functions by themselves.
-use Rattle.std.proofs.Common.{◌≡◌, ◌∙◌, ℕ, zero, suc, ◌+◌, ◌<◌, ◌≤◌, Bool, true, false, List, [], ◌∷◌, ◌++◌, map, Option, Some, None, refl, sym, ap, subst, append_assoc, arith}
-use Rattle.std.specs.Prelude.{if◌then◌else◌, ◌&&◌, not, nat_lt, slice_get}
+use Rattle.std.proofs.Common.{◌≡◌, ◌∙◌, ℕ, zero, suc, ◌+◌, ◌<◌, Bool, true, false, List, [], ◌∷◌, ◌++◌, map, Some, refl, sym, ap, subst, append_assoc, arith}
+use Rattle.std.specs.Prelude.{if◌then◌else◌, ◌&&◌, not, slice_get}
 use Rattle.std.proofs.lemmas.Bool.{lt-ltb}
 use Rattle.go_tokens.specs.declared.token.TokenKind.{TokenKind}
 use Rattle.go_tokens.specs.Tokens.{TokenList, kinds}
-use Rattle.go_grammar.specs.declared.kind.Kind.{Kind}
 use Rattle.go_grammar.specs.declared.kind.Kind.TheVariants as kind
 use Rattle.go_grammar.specs.declared.kind.Place.TheVariants as place
 use Rattle.go_grammar.specs.declared.kind.Category.TheVariants as category
-use Rattle.go_grammar.specs.Trees.{Tree, node, Trees, none, more, skip, kind_of, first, last, parts}
+use Rattle.go_grammar.specs.Trees.{Tree, node, Trees, none, more, skip, first, last, parts}
 use Rattle.go_grammar.specs.Grammar.{IsFile, rule, Derives}
 use Rattle.go_splice.proofs.Order.{tree_order, derives_ordered}
 use Rattle.go_tree.specs.declared.context.Block.{Block}
@@ -21,9 +20,8 @@ use Rattle.go_tree.specs.declared.event.Event.{Event}
 use Rattle.go_tree.specs.declared.event.Event.TheVariants as event
 use Rattle.go_tree.specs.declared.object.Declared.{Declared}
 use Rattle.go_tree.specs.Contexts.{is_there, is_package, file_context}
-use Rattle.go_tree.specs.Declarations.{Found, found, found_in, found_from, is_function, is_reused, is_new, new_among, declarations}
-use Rattle.go_tree.specs.Events.{statement_events, function_events, declaration_events, is_more, pass, begin, events, events_of}
-use Rattle.go_tree.specs.Lists as lists
+use Rattle.go_tree.specs.Declarations.{Found, found, found_in, found_from, is_function, is_reused, is_new, new_among}
+use Rattle.go_tree.specs.Events.{function_events, is_more, pass, begin, events, events_of}
 use Rattle.go_tree.specs.Lists.{functions}
 use Rattle.go_tree.specs.Units.{word, is_blank, bytes_at}
 use Rattle.go_names.specs.Moved.{moved_block}
@@ -31,18 +29,18 @@ use Rattle.go_tree.specs.Uses as names
 use Rattle.go_tree.specs.Uses.{declared_by, begins_function, function_locals, uses}
 use Rattle.go_tree.specs.Views.{part_at}
 use Rattle.go_names.specs.Orders.{EachDeclared, IsOuter}
-use Rattle.go_names.proofs.Inside.{IsInner, AreInner, derives_inner, spells_inner, rule_inner, function_rule, IsOther, tree_other, parts_other, true_false}
+use Rattle.go_names.proofs.Inside.{IsInner, derives_inner, spells_inner, rule_inner, function_rule, IsOther, tree_other, parts_other, true_false}
 use Rattle.go_names.proofs.Outer.{derives_outside}
 use Rattle.go_heads.specs.Functions.{Function, AreRead, KeepsFunctions, alone, all_functions, body_texts, function_alone}
-use Rattle.go_heads.specs.Heads.{File, IsRead, heads, in_bodies}
+use Rattle.go_heads.specs.Heads.{File, IsRead, in_bodies}
 use Rattle.go_heads.proofs.Functions.{some_none, same_some}
-use Rattle.go_heads.proofs.Outlines.{Sits, AllSit, OthersSit, file_sat}
-use Rattle.head_objects.specs.Objects.{units_of, file_there, file_in}
+use Rattle.go_heads.proofs.Outlines.{AllSit, OthersSit, file_sat}
+use Rattle.head_objects.specs.Objects.{units_of}
 use Rattle.head_objects.specs.Told.{file_events}
 use Rattle.head_meanings.proofs.Scopes.{Shared, tree_shared}
-use Rattle.head_bodies.specs.Names.{own_declarations, in_file, DeclaresByItself}
+use Rattle.head_bodies.specs.Names.{own_declarations, in_file}
 use Rattle.head_bodies.proofs.Names.{found_append, around_part, function_there, imports_next, AllStand, file_stands, declares}
-use Rattle.head_locals.specs.Locals.{locals_in, own_locals, local_in_file, locals_of_file, all_locals, HaveNames, AreNamed, SameLocals}
+use Rattle.head_locals.specs.Locals.{locals_in, own_locals, local_in_file, all_locals, HaveNames, AreNamed, SameLocals}
 
 -- ---- lists of declarations
 
