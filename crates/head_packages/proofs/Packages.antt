@@ -1,5 +1,5 @@
 -- What files keep, in the words of the check of a package.
-use Rattle.std.proofs.Common.{◌≡◌, ◌∙◌, ℕ, zero, suc, Bool, List, [], ◌∷◌, map, length, Some, refl, sym, ap, subst, arith}
+use Rattle.std.proofs.Common.{◌≡◌, ◌∙◌, ℕ, zero, suc, List, [], ◌∷◌, map, length, Some, refl, sym, ap, arith}
 use Rattle.std.specs.Prelude.{slice_get}
 use Rattle.go_grammar.specs.Trees.{first}
 use Rattle.go_tree.specs.declared.object.Declared.{Declared}
@@ -7,15 +7,14 @@ use Rattle.go_tree.specs.Units.{word}
 use Rattle.go_tree.specs.Uses.{UsesView, uses, object_of}
 use Rattle.go_typed.specs.Packages.{referents}
 use Rattle.go_package.specs.Bodies.{which_types, locals_there, types_in}
-use Rattle.go_package.specs.Declarations.{Specification}
 use Rattle.go_package.specs.Knowledge.{is_type}
-use Rattle.go_package.specs.Sources.{Source, Package, unit_of, tokens_in, tokens_there, text_at}
+use Rattle.go_package.specs.Sources.{Source, Package, unit_of, tokens_there, text_at}
 use Rattle.go_heads.specs.Functions.{Function, body_texts, all_functions, function_alone}
 use Rattle.go_heads.specs.Heads.{File}
-use Rattle.go_portions.specs.Portions.{files_of, AreNamed, SameBody}
+use Rattle.go_portions.specs.Portions.{files_of, AreNamed}
 use Rattle.head_objects.specs.Objects as by_files
 use Rattle.head_objects.specs.Objects.{KeepsObjects, SameObject, units_of, file_in, file_there}
-use Rattle.head_meanings.specs.Lookups.{AtOnePlace, IsLookedUp, KeepsLookups}
+use Rattle.head_meanings.specs.Lookups.{KeepsLookups}
 use Rattle.head_locals.specs.Locals.{SameLocals, local_in_file, own_locals}
 use Rattle.head_packages.specs.Packages.{IsResolved, SameDeclared, KeepsNames}
 
