@@ -1,11 +1,11 @@
-mod Counting
-mod Bodies
+pub mod Counting
+pub mod Bodies
 mod Spellings
-mod Outlines
-mod Files
+pub mod Outlines
+pub mod Files
 mod Carried
-mod Words
-mod Functions
+pub mod Words
+pub mod Functions
 mod Numbers
 mod Decided
 mod Declarations

@@ -1,0 +1,4 @@
+pub mod Scopes
+mod Imports
+mod Meanings
+mod Lookups

@@ -1,0 +1,7 @@
+mod Rows
+mod Alike
+mod Telling
+mod Clear
+mod Outside
+pub mod Declared
+pub mod Objects
