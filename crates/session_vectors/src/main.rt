@@ -1,7 +1,7 @@
 //! Compares whole sessions of the program with tables of cases whose answers come from outside.
 //!
 //! The answers of `typing`, `types_of`, `listings`, `scripts` and `runs` come from another reading of the language and of the commands,
-//! made apart from these crates. The rows of `worked_sessions` and `worked_types` were worked out by hand. The packages
+//! made apart from these crates. The rows of `worked_sessions`, `worked_types` and `collisions` were worked out by hand. The packages
 //! of `made` have no answers: their clone classes are listed from two indexes and by comparing every window with every other, and so
 //! are those of `listings`.
 //!
@@ -10,6 +10,7 @@
 #![tactic(auto)]
 
 mod agreement;
+mod collisions;
 mod declared_names;
 mod listings;
 mod made;
@@ -20,6 +21,7 @@ mod types_of;
 mod typing;
 
 use case_tables::table::run;
+use collisions::Collisions;
 use listings::Listings;
 use made::Made;
 use runs::Runs;
@@ -36,6 +38,7 @@ fn main(rt: HostRuntime) -> anyhow::Result<()> {
         },
     )?;
     run(&rt, &TypesOf { name: "types_of" })?;
+    run(&rt, &Collisions)?;
     run(&rt, &Listings)?;
     run(&rt, &Made)?;
     run(
