@@ -1,15 +1,14 @@
 //! The table `collisions`: a number, the two options, the files, in how many buckets the windows of the package lie under a hash that
-//! tells none of them apart, and the listing, with `; ` for each newline but the last.
+//! tells none of them apart, and the listing, with `; ` for each newline but the last. It is made from that index, and by comparing
+//! every window with every other.
 
 ghost use Rattle.std.specs.Prelude.{◌≡◌, ◌≤◌};
 
-use crate::sessions::folder_of;
+use crate::packages::package_of;
 use alpha_hash::window_hash::ConstantHash;
 use case_tables::table::Table;
-use clone_folder::open_folder;
-use clone_program::PackageCheck;
+use clone_classes::pairwise::pairwise;
 use clone_replies::class_reply;
-use clone_session::Check;
 use go_base::{Memory, Steps};
 use go_checked::CheckedPackage;
 use package_index::classes::classes;
@@ -29,13 +28,11 @@ impl Table for Collisions {
         let [_, min, mass, folder, buckets, reply, ..] = fields else {
             return Ok(Some(String::from_str(alloc, "not six fields")?));
         };
-        let mut folder = folder_of(alloc, "d", folder, Vec::new(alloc))?;
-        let files = open_folder(alloc, &mut folder, "d").map_err(|_| Memory)?;
+        let Some(package) = package_of(alloc, folder)? else {
+            return Ok(Some(String::from_str(alloc, "a fault")?));
+        };
         let min = min.parse::<u32>().unwrap_or(0);
         let mass = mass.parse::<u32>().unwrap_or(0);
-        let Ok(package) = PackageCheck::check(alloc, &files) else {
-            return Ok(Some(String::from_str(alloc, "a fault, or no memory")?));
-        };
         let found = collided(alloc, &package, min, mass)?;
         let wanted = format!(in alloc; "{buckets}\t{reply}")?;
         if found.as_str() == wanted.as_str() {
@@ -75,6 +72,11 @@ fn counted<L: Ledger>(
     let package = package.package();
     let index = index_of(alloc, package, ConstantHash, min, mass, &mut steps)?;
     let listing = class_reply(alloc, package, &classes(alloc, package, &index)?)?;
+    let pairs = pairwise(alloc, package, min, mass, &mut steps)?;
+    let pairs = class_reply(alloc, package, &pairs)?;
+    if pairs.as_slice() != listing.as_slice() {
+        return Ok(String::from_str(alloc, "pairs have another listing")?);
+    }
     written(alloc, index.buckets(), listing.as_slice())
 }
 

@@ -14,6 +14,7 @@ mod collisions;
 mod declared_names;
 mod listings;
 mod made;
+mod packages;
 mod runs;
 mod scripts;
 mod sessions;
