@@ -28,29 +28,27 @@ impl Table for Collisions {
         let [_, min, mass, folder, buckets, reply, ..] = fields else {
             return Ok(Some(String::from_str(alloc, "not six fields")?));
         };
-        let Some(package) = package_of(alloc, folder)? else {
-            return Ok(Some(String::from_str(alloc, "a fault")?));
-        };
-        let min = min.parse::<u32>().unwrap_or(0);
-        let mass = mass.parse::<u32>().unwrap_or(0);
-        let found = collided(alloc, &package, min, mass)?;
+        let said = found(alloc, folder, number(min), number(mass))?;
         let wanted = format!(in alloc; "{buckets}\t{reply}")?;
-        if found.as_str() == wanted.as_str() {
-            Ok(None)
+        Ok(if said.as_str() == wanted.as_str() {
+            None
         } else {
-            Ok(Some(found))
-        }
+            Some(said)
+        })
     }
 }
 
-/// What the table says of a package under a counter of its own.
-fn collided(
-    alloc: Global,
-    package: &CheckedPackage,
-    min: u32,
-    mass: u32,
-) -> Result<String, Memory> {
-    counted::<Brand>(alloc, package, min, mass, Blank::new(3))
+/// The number that a text is, and 0 where it is none.
+fn number(text: &str) -> u32 {
+    text.parse::<u32>().unwrap_or(0)
+}
+
+/// What the table says of the package of these files.
+fn found(alloc: Global, folder: &str, min: u32, mass: u32) -> Result<String, Memory> {
+    match package_of(alloc, folder)? {
+        Some(package) => counted::<Brand>(alloc, &package, min, mass, Blank::new(3)),
+        None => Ok(String::from_str(alloc, "a fault")?),
+    }
 }
 
 /// In how many buckets the windows lie, and the listing.
