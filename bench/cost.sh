@@ -82,9 +82,9 @@ functions() {
     }'
 }
 
-# The same, with a text behind.
+# The same with a text of up to 64 bytes behind.
 functions_with() {
-    functions "$1" && printf '%b' "$2"
+    functions $(($1 - 64)) && printf '%b' "$2"
 }
 
 # A function of so many equal statements.
