@@ -1,73 +1,32 @@
 #!/usr/bin/env bash
-# What the check of a package costs: makes packages of 16 kB to 1 MiB in a folder of its own, keeps a session open on each, and
-# prints a table: user time up to the first reply, user time of an edit with the check behind it, and the most memory that the
-# program held, also for each byte of the package. Windows of 32 statements with a mass of 1000 are asked for, so that next to
-# nothing is compared. A second table says what listings of clone classes cost: of functions of one statement over and over, and of
-# the largest package of the first table.
-#   bench/cost.sh [BYTES ..]        GOCLONE names another program than ./goclone
+# What checks and listings cost. It makes packages in a folder of its own, keeps a session open on each, and prints tables of user
+# times and of the most memory that the program held:
+#   sizes     checks of packages of functions of 16 kB to 1 MiB, and of an edit with the check behind it
+#   shapes    checks of packages of one shape, each in three sizes: a body of many statements, a function of many locals, blocks
+#             nested as deep as a file may, many functions, and functions that call one another
+#   phases    the phases of the check of the largest package of functions. It is given up at the first phase with a fault, and the
+#             fault stands at the end of the file; so the times of two packages with faults of adjoining phases differ by a phase
+#   listings  listings of clone classes: functions of one statement over and over, and the largest package of functions
+# But for the last table, windows of 32 statements with a mass of 1000 are asked for, so that next to nothing is compared.
+#   bench/cost.sh [PROGRAM [TABLE ..]]      SIZES="BYTES .." are other sizes of packages of functions
 top=$(cd "$(dirname "${BASH_SOURCE[0]}")/.." && pwd) || exit 1
-program=${GOCLONE:-$top/crates/clone_cli/out/clone_cli}
-sizes=("$@")
-[ ${#sizes[@]} -gt 0 ] || sizes=(16384 65536 262144 1048576)
+program=${1:-${GOCLONE:-$top/crates/clone_cli/out/clone_cli}}
+tables=${*:2}
+tables=${tables:-sizes shapes phases listings}
+read -ra sizes <<<"${SIZES:-16384 65536 262144 1048576}"
 room=$(mktemp -d) || exit 1
 trap 'rm -rf "$room"' EXIT
 ticks=$(getconf CLK_TCK)
 
-# A package of functions, as long as fits into so many bytes.
-make_package() {
-    awk -v bytes="$1" 'BEGIN {
-        text = "package main\n\nimport \"fmt\"\n\ntype point struct {\n\tx, y int\n}\n\n"
-        for (i = 0; size + length(text) <= bytes; i++) {
-            printf "%s", text
-            size += length(text)
-            text = "func total" i "(ps []point, n int) int {\n\tsum := 0\n\tfor i := 0; i < len(ps); i++ {\n"
-            text = text "\t\tsum = sum + ps[i].x*ps[i].y + " (i % 7) "\n\t}\n\tif sum > n {\n\t\tfmt.Println(\"total\", sum)\n\t}\n"
-            text = text "\treturn sum + limit" i "\n}\n\nconst limit" i " int = " i "\n\n"
-        }
-    }'
+# ---- measuring
+
+# The user time of a session so far, in milliseconds, and the most memory that it held, in kB.
+spent() {
+    echo "$(awk -v ticks="$ticks" '{ sub(/^.*\) /, ""); printf "%d", $12 * 1000 / ticks }' "/proc/$1/stat")" \
+        "$(awk '/^VmHWM/ { print $2 }' "/proc/$1/status")"
 }
 
-# The user time of the session so far, in milliseconds.
-user_time() {
-    awk -v ticks="$ticks" '{ sub(/^.*\) /, ""); printf "%d", $12 * 1000 / ticks }' "/proc/$1/stat"
-}
-
-# Waits for the reply to a command that has one line.
-answer() {
-    local line
-    IFS= read -r line <&"${session[0]}" && printf '%s' "$line"
-}
-
-echo '| Bytes | First check, ms | Edit and check, ms | Memory, kB | Memory for a byte |'
-echo '|---|---|---|---|---|'
-for size in "${sizes[@]}"; do
-    mkdir "$room/$size" && make_package "$size" >"$room/$size/a.go" || exit 1
-    bytes=$(wc -c <"$room/$size/a.go")
-    coproc session { exec "$program" --min 32 --mass 1000 "$room/$size"; }
-    process=$session_PID
-    printf 'classes\n' >&"${session[1]}"
-    first=$(answer)
-    [ "$first" = 'classes 0' ] || { echo "cost.sh: the reply is ${first:-missing}" >&2; exit 1; }
-    checked=$(user_time "$process")
-    printf 'edit a.go 13 13 1\n\n\nclasses\n' >&"${session[1]}"
-    [ "$(answer)" = 'ok edit' ] && [ "$(answer)" = 'classes 0' ] || { echo 'cost.sh: the edit is not answered' >&2; exit 1; }
-    again=$(user_time "$process")
-    memory=$(awk '/^VmHWM/ { print $2 }' "/proc/$process/status")
-    printf 'quit\n' >&"${session[1]}"
-    wait "$process"
-    echo "| $bytes | $checked | $((again - checked)) | $memory | $((memory * 1024 / bytes)) |"
-done
-
-# A package with a function of so many equal statements.
-make_statements() {
-    awk -v count="$1" 'BEGIN {
-        printf "package p\n\nfunc f() {}\n\nfunc g() {\n"
-        for (i = 0; i < count; i++) printf "\tf()\n"
-        printf "}\n"
-    }'
-}
-
-# Prints the milliseconds of user time up to the end of the replies to commands on a package, and the most memory in kB.
+# Prints the user time up to the end of the replies to commands on a package, the most memory, and the first line of the replies.
 #   cost COMMANDS WORD ..
 cost() {
     local commands=$1 process
@@ -80,30 +39,187 @@ cost() {
     printf '%s\ndrop none.go\n' "$commands" >&4
     until [ "$(tail -n 1 "$room/replies")" = 'no drop 1 NoFile' ]; do
         kill -0 "$process" 2>/dev/null || { echo 'cost.sh: the session ended' >&2; return 1; }
-        sleep 0.05
+        sleep 0.02
     done
-    echo "$(user_time "$process") $(awk '/^VmHWM/ { print $2 }' "/proc/$process/status")"
+    echo "$(spent "$process") $(head -n 1 "$room/replies")"
     printf 'quit\n' >&4
     exec 4>&-
     wait "$process"
     rm "$room/script"
 }
 
-# A row of the table of listings: its text, the folder, and the options.
-listing_row() {
-    local name=$1 folder=$2 checked listed windows
-    shift 2
-    checked=$(cost classes --min 32 --mass 1000 "$folder") || return 1
-    listed=$(cost classes "$@" "$folder") || return 1
-    windows=$(printf 'stat\n' | "$program" "$@" "$folder" | awk '{ print $9, $13 }')
-    echo "| $name | ${windows% *} | ${windows#* } | ${checked% *} | ${listed% *} | ${listed#* } |"
+# The cost of a check whose reply begins with some words.
+#   check REPLY FOLDER
+check() {
+    local time memory reply seen
+    seen=$(cost classes --min 32 --mass 1000 "$2") || return 1
+    read -r time memory reply <<<"$seen"
+    [[ $reply == "$1"* ]] || { echo "cost.sh: the reply is ${reply:-missing}" >&2; return 1; }
+    echo "$time $memory"
 }
 
-echo
-echo '| Package | Windows | Classes | Check, ms | Check and listing, ms | Memory, kB |'
-echo '|---|---|---|---|---|---|'
-for count in 9202 65536; do
-    mkdir "$room/equal$count" && make_statements "$count" >"$room/equal$count/a.go" || exit 1
-    listing_row "$count statements \`f()\`" "$room/equal$count" --min 2 --mass 1 || exit 1
+# Puts what a command prints into the file of a package of this name, and tells its folder.
+#   package NAME COMMAND WORD ..
+package() {
+    local folder=$room/$1
+    shift
+    mkdir "$folder" && "$@" >"$folder/a.go" && echo "$folder"
+}
+
+# ---- packages
+
+# Functions with loops, calls and structs, as many as fit into so many bytes.
+functions() {
+    awk -v bytes="$1" 'BEGIN {
+        text = "package main\n\nimport \"fmt\"\n\ntype point struct {\n\tx, y int\n}\n\n"
+        for (i = 0; size + length(text) <= bytes; i++) {
+            printf "%s", text
+            size += length(text)
+            text = "func total" i "(ps []point, n int) int {\n\tsum := 0\n\tfor i := 0; i < len(ps); i++ {\n"
+            text = text "\t\tsum = sum + ps[i].x*ps[i].y + " (i % 7) "\n\t}\n\tif sum > n {\n\t\tfmt.Println(\"total\", sum)\n\t}\n"
+            text = text "\treturn sum + limit" i "\n}\n\nconst limit" i " int = " i "\n\n"
+        }
+    }'
+}
+
+# The same with a text of up to 64 bytes behind.
+functions_with() {
+    functions $(($1 - 64)) && printf '%b' "$2"
+}
+
+# A function of so many equal statements.
+statements() {
+    awk -v count="$1" 'BEGIN {
+        printf "package p\n\nfunc f() {}\n\nfunc g() {\n"
+        for (i = 0; i < count; i++) printf "\tf()\n"
+        printf "}\n"
+    }'
+}
+
+# A function of so many locals, each of which is read by the next one.
+locals() {
+    awk -v count="$1" 'BEGIN {
+        printf "package p\n\nfunc g() int {\n\tx0 := 0\n"
+        for (i = 1; i < count; i++) printf "\tx%d := x%d\n", i, i - 1
+        printf "\treturn x%d\n}\n", count - 1
+    }'
+}
+
+# So many functions with blocks in one another: 99 pairs of braces, the most that a file may have.
+nested() {
+    awk -v count="$1" 'BEGIN {
+        for (i = 0; i < 99; i++) { open = open "{"; close_all = close_all "}" }
+        printf "package p\n\n"
+        for (i = 0; i < count; i++) printf "func f%d() %s%s\n\n", i, open, close_all
+    }'
+}
+
+# So many functions, each of which calls the one before.
+callers() {
+    awk -v count="$1" 'BEGIN {
+        printf "package p\n\nfunc f0() {}\n\n"
+        for (i = 1; i < count; i++) printf "func f%d() {\n\tf%d()\n}\n\n", i, i - 1
+    }'
+}
+
+# So many functions that do nothing.
+idle() {
+    awk -v count="$1" 'BEGIN {
+        printf "package p\n\n"
+        for (i = 0; i < count; i++) printf "func f%d() {}\n\n", i
+    }'
+}
+
+# ---- tables
+
+# A row for a package of functions of one size.
+size_row() {
+    local folder bytes seen checked
+    folder=$(package "size$1" functions "$1") || return 1
+    bytes=$(wc -c <"$folder/a.go")
+    seen=$(check 'classes 0' "$folder") || return 1
+    checked=${seen% *}
+    seen=$(cost $'classes\nedit a.go 13 13 1\n\n\nclasses' --min 32 --mass 1000 "$folder") || return 1
+    read -r both memory reply <<<"$seen"
+    [ "$reply" = 'classes 0' ] || { echo 'cost.sh: the edit is not answered' >&2; return 1; }
+    echo "| $bytes | $checked | $((both - checked)) | $memory | $((memory * 1024 / bytes)) |"
+}
+
+table_of_sizes() {
+    echo '| Bytes | First check, ms | Edit and check, ms | Memory, kB | Memory for a byte |'
+    echo '|---|---|---|---|---|'
+    for size in "${sizes[@]}"; do size_row "$size" || return 1; done
+}
+
+# Rows for packages of one shape: its text, what makes it, and how many of it.
+#   shape_rows TEXT COMMAND COUNT ..
+shape_rows() {
+    local text=$1 make=$2 count folder seen
+    shift 2
+    for count in "$@"; do
+        folder=$(package "$make$count" "$make" "$count") || return 1
+        seen=$(check 'classes 0' "$folder") || return 1
+        echo "| $text | $count | $(wc -c <"$folder/a.go") | ${seen% *} | ${seen#* } |"
+    done
+}
+
+table_of_shapes() {
+    echo '| Package | How many | Bytes | Check, ms | Memory, kB |'
+    echo '|---|---|---|---|---|'
+    shape_rows 'statements in one body' statements 16384 32768 65536 || return 1
+    shape_rows 'locals of one function' locals 5000 10000 20000 || return 1
+    shape_rows 'functions with 99 blocks in one another' nested 160 320 640 || return 1
+    shape_rows 'functions that do nothing' idle 2500 5000 10000 || return 1
+    shape_rows 'functions, each calling the one before' callers 2500 5000 10000 || return 1
+}
+
+# A row for the phases up to one: the package ends in a text with a fault of this phase.
+#   phase_row PHASE REPLY END
+before=0
+phase_row() {
+    local folder seen
+    folder=$(package "phase $1" functions_with "${sizes[-1]}" "$3") || return 1
+    seen=$(check "$2" "$folder") || return 1
+    echo "| $1 | ${seen% *} | $((${seen% *} - before)) | ${seen#* } |"
+    before=${seen% *}
+}
+
+table_of_phases() {
+    echo '| Phase | Check up to its end, ms | Of it this phase, ms | Memory, kB |'
+    echo '|---|---|---|---|'
+    phase_row 'encoding' 'fault 1 encoding' '// \xff\n' || return 1
+    phase_row 'tokens' 'fault 2 lexical' '#\n' || return 1
+    phase_row 'trees' 'fault 4 syntax' 'func end() { f( }\n' || return 1
+    phase_row 'names' 'fault 7 undeclared' 'func end() { g() }\n' || return 1
+    phase_row 'declarations' 'fault 11 assignable' 'var end int = "a"\n' || return 1
+    phase_row 'bodies' 'fault 11 assignable' 'func end() int { return "a" }\n' || return 1
+    phase_row 'all, and no windows' 'classes 0' '' || return 1
+}
+
+# A row of the table of listings: its text, the folder, and the options.
+listing_row() {
+    local name=$1 folder=$2 seen checked listed memory reply windows
+    shift 2
+    seen=$(check classes "$folder") || return 1
+    checked=${seen% *}
+    seen=$(cost classes "$@" "$folder") || return 1
+    read -r listed memory reply <<<"$seen"
+    windows=$(printf 'stat\n' | "$program" "$@" "$folder" | awk '{ print $9, $13 }')
+    echo "| $name | ${windows% *} | ${windows#* } | $checked | $listed | $memory |"
+}
+
+table_of_listings() {
+    echo '| Package | Windows | Classes | Check, ms | Check and listing, ms | Memory, kB |'
+    echo '|---|---|---|---|---|---|'
+    for count in 9202 65536; do
+        folder=$(package "equal$count" statements $count) || return 1
+        listing_row "$count statements \`f()\`" "$folder" --min 2 --mass 1 || return 1
+    done
+    folder=$(package listed functions "${sizes[-1]}") || return 1
+    listing_row "functions, ${sizes[-1]} bytes" "$folder" || return 1
+}
+
+for table in $tables; do
+    "table_of_$table" || exit 1
+    echo
 done
-listing_row "functions, ${sizes[-1]} bytes" "$room/${sizes[-1]}" || exit 1

@@ -1,39 +1,63 @@
 //! What the listing shows of classes.
 
 ghost use Rattle.std.specs.Prelude.{◌≡◌, false, map, slice_get, IfOk};
+ghost use Rattle.std.specs.Option.{option_map};
 ghost use Rattle.go_typed.specs.Packages.{PackageView};
 ghost use Rattle.clone_window.specs.Masses.{masses};
-ghost use Rattle.clone_window.specs.Spans.{bytes_of};
+ghost use Rattle.clone_window.specs.Spans as spans;
+ghost use Rattle.clone_window.specs.Spans.{bytes_of, places_from};
 ghost use Rattle.clone_classes.specs.Listing.{members_of};
 ghost use Rattle.clone_replies.specs.Classes.{listed_package, shown_class, statements_in, window_bytes};
 ghost use Rattle.clone_replies.specs.Listing.{shown};
 
 use clone_script::ListedClass;
 use clone_window::run::mass;
-use clone_window::span::span_of;
+use clone_window::span::{FunctionPlace, function_places, range_of, span_at_place};
 use go_base::{Name, Span};
 use go_typed::checked::Checked;
 use go_typed::window::{Class, Window};
 use std::alloc::{AllocError, Global};
 
-/// The bytes of a window.
-fn window_span(checked: &Checked, window: Window) -> Span
+/// The bytes of a window, by the places of the functions. A window that the package doesn't have has none, at the start of the
+/// first file.
+fn window_span(checked: &Checked, places: &[FunctionPlace], window: Window) -> Span
+    requires { places.now ≡ places_from 0 checked.now.files }
     ensures { bytes_of result ≡ window_bytes (listed_package checked.now) window }
 {
-    span_of(checked, window)
+    match found_span(checked, places, window) {
+        Some(span) => span,
+        None => Span {
+            file: 0,
+            start: 0,
+            end: 0,
+        },
+    }
+}
+
+/// The bytes of a window, if the package has it.
+fn found_span(checked: &Checked, places: &[FunctionPlace], window: Window) -> Option<Span>
+    requires { places.now ≡ places_from 0 checked.now.files }
+    ensures { option_map bytes_of result ≡ spans.window_span checked.now window }
+{
+    let f = checked.function(window.func)?;
+    let range = range_of(f, &window)?;
+    let place = *places.get(window.func as usize)?;
+    span_at_place(checked.files(), place, range)
 }
 
 /// The bytes of windows.
 fn window_spans(
     alloc: Global,
     checked: &Checked,
+    places: &[FunctionPlace],
     windows: &[Window],
 ) -> Result<Vec<Span>, AllocError>
+    requires { places.now ≡ places_from 0 checked.now.files }
     ensures { IfOk result (λ v. map bytes_of v.items ≡ map (window_bytes (listed_package checked.now)) windows.now) }
 {
     let mut spans = Vec::with_capacity(alloc, windows.len())?;
     for window in windows {
-        spans.push(window_span(checked, *window))?;
+        spans.push(window_span(checked, places, *window))?;
     }
     Ok(spans)
 }
@@ -52,10 +76,16 @@ fn window_mass(checked: &Checked, window: Window) -> u32
 }
 
 /// What the listing shows of a class.
-fn shown(alloc: Global, checked: &Checked, class: &Class) -> Result<ListedClass, AllocError>
+fn shown(
+    alloc: Global,
+    checked: &Checked,
+    places: &[FunctionPlace],
+    class: &Class,
+) -> Result<ListedClass, AllocError>
+    requires { places.now ≡ places_from 0 checked.now.files }
     ensures { IfOk result (λ x. shown x ≡ shown_class (listed_package checked.now) class.now.members) }
 {
-    let members = window_spans(alloc, checked, class.members.as_slice())?;
+    let members = window_spans(alloc, checked, places, class.members.as_slice())?;
     match class.members.as_slice() {
         [first, ..] => Ok(ListedClass {
             members,
@@ -78,9 +108,10 @@ pub fn all_shown(
 ) -> Result<Vec<ListedClass>, AllocError>
     ensures { IfOk result (λ v. map shown v.items ≡ map (shown_class (listed_package checked.now)) (members_of classes.now)) }
 {
+    let places = function_places(alloc, checked.files())?;
     let mut listed = Vec::with_capacity(alloc, classes.len())?;
     for class in classes {
-        listed.push(shown(alloc, checked, class)?)?;
+        listed.push(shown(alloc, checked, &places, class)?)?;
     }
     Ok(listed)
 }

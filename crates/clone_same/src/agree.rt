@@ -8,7 +8,7 @@ ghost use Rattle.clone_window.specs.Sameness.{agree, agree_besides, all_agree, c
 use crate::alike::{agree_besides, same_outline, same_type};
 use clone_window::mass::{is_hole, is_inside};
 use clone_window::outline::outline_of;
-use go_typed::form::Form;
+use go_typed::form::{Form, Referent};
 use go_typed::node::TypedNode;
 use go_typed::sort::Sort;
 
@@ -34,8 +34,29 @@ fn agree(inside: bool, other_inside: bool, node: &TypedNode, other: &TypedNode) 
 fn agree_alone(form: Form, other: Form, sort: &Sort, other_sort: &Sort) -> bool
     ensures { result ≡ (same_outline (outline form) (outline other) && agree_besides nat_eq (compared form) (compared other) (sort_view sort.now) (sort_view other_sort.now)) }
 {
-    same_outline(outline_of(form), outline_of(other))
-        && agree_besides(form, other, sort, other_sort)
+    same_shape(form, other) && agree_besides(form, other, sort, other_sort)
+}
+
+/// Whether nodes of these forms show the same by themselves. The commonest forms are told apart without their outlines.
+fn same_shape(form: Form, other: Form) -> bool
+    ensures { result ≡ same_outline (outline form) (outline other) }
+{
+    match (form, other) {
+        (Form::Expression, Form::Expression)
+        | (Form::Block, Form::Block)
+        | (Form::If, Form::If)
+        | (Form::For, Form::For)
+        | (Form::Return, Form::Return)
+        | (Form::Call, Form::Call)
+        | (Form::Index, Form::Index)
+        | (Form::Literal, Form::Literal)
+        | (Form::Local(_), Form::Local(_))
+        | (Form::New(_), Form::New(_)) => true,
+        (Form::Object(Referent::Function(number)), Form::Object(Referent::Function(other))) => {
+            number == other
+        }
+        _ => same_outline(outline_of(form), outline_of(other)),
+    }
 }
 
 /// Whether two rows of parts agree part by part; a part that is left out agrees with one that is left out.

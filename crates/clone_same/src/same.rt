@@ -69,6 +69,9 @@ fn are_same(alloc: Global, run: &Run<'_>, other: &Run<'_>) -> Result<bool, Memor
         return Ok(false);
     }
     let left = locals_of(alloc, run.statements)?;
+    if left.is_empty() {
+        return Ok(true);
+    }
     let right = locals_of(alloc, other.statements)?;
     if !is_one_to_one(alloc, &left, &right)? {
         return Ok(false);

@@ -22,7 +22,7 @@ fn is_constant(sort: &Sort) -> bool
 pub fn is_constant_expression(form: Form, label: &Label) -> bool
     ensures { result ≡ specs.is_constant_expression form (label_view label.now) }
 {
-    is_expression(form) && is_constant(&label.sort)
+    is_constant(&label.sort) && is_expression(form)
 }
 
 /// Whether a node, which may stand inside a constant expression, is a hole: a constant expression that names no variable, as

@@ -1,13 +1,13 @@
 //! The bytes of a window.
 
-ghost use Rattle.std.specs.Prelude.{◌≡◌, map, slice_get, unwrap_or};
+ghost use Rattle.std.specs.Prelude.{◌≡◌, ◌++◌, map, slice_get, unwrap_or, IfOk, OnOk};
 ghost use Rattle.std.specs.Option.{option_map, option_to_list};
 ghost use Rattle.go_grammar.specs.Trees as trees;
 ghost use Rattle.go_tree.specs.Lists.{functions};
 ghost use Rattle.go_tree.specs.Spans.{span_at};
 ghost use Rattle.go_tree.specs.Views as tree;
 ghost use Rattle.go_typed.specs.Views.{views};
-ghost use Rattle.clone_window.specs.Spans.{bytes_of, joined, last_from, nowhere, starts_here, places_from, range_over, sought, span_over, span_there, window_range, window_span};
+ghost use Rattle.clone_window.specs.Spans.{bytes_of, joined, last_from, nowhere, place_at, places_from, starts_here, range_over, sought, span_over, span_there, window_range, window_span};
 ghost use Rattle.clone_window.specs.Shown.{range_view};
 
 use crate::run::statements;
@@ -19,6 +19,7 @@ use go_typed::checked::Checked;
 use go_typed::func::TypedFunc;
 use go_typed::node::TypedNode;
 use go_typed::window::Window;
+use std::alloc::{AllocError, Global};
 
 /// Where a function stands (Go specification: Function declarations).
 #[derive(Clone, Copy, Debug, PartialEq, Eq)]
@@ -126,6 +127,37 @@ fn nth_function(declarations: &[Option<Node>], number: u32) -> Result<u32, u32>
         }
     }
     Err(left)
+}
+
+/// Where the functions of files stand, in order.
+///
+/// # Errors
+///
+/// Want of memory.
+pub fn function_places(alloc: Global, files: &[File]) -> Result<Vec<FunctionPlace>, AllocError>
+    ensures { IfOk result (λ v. v.items ≡ places_from 0 files.now) }
+{
+    let mut places = Vec::new(alloc);
+    for index in 0..files.len() {
+        push_places(index, files[index].declarations(), &mut places)?;
+    }
+    Ok(places)
+}
+
+/// Puts the places of the functions among the declarations of a file behind the others.
+fn push_places(
+    file: usize,
+    declarations: &[Option<Node>],
+    places: &mut Vec<FunctionPlace>,
+) -> Result<(), AllocError>
+    ensures { OnOk result (places.new.items ≡ places.old.items ++ map (place_at file) (map trees.first (functions (tree.views declarations.now)))) }
+{
+    for declaration in declarations {
+        if let Some(first) = function_start(declaration) {
+            places.push(FunctionPlace { file, first })?;
+        }
+    }
+    Ok(())
 }
 
 /// The first token of a declaration that is a function.
