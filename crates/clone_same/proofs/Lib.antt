@@ -1,2 +1,4 @@
 pub mod Agreement
 pub mod Settled
+pub mod Fields
+pub mod Named

@@ -1,3 +1,4 @@
+pub mod Fields
 pub mod Bodies
 pub mod Pairing
 pub mod Shown
