@@ -3,7 +3,7 @@ use Rattle.std.specs.Prelude.{◌≡◌, ℕ, Bool, true, List, [], ◌∷◌}
 use Rattle.go_typed.specs.Trees.{Sort, Typeds}
 use Rattle.clone_window.specs.declared.outline.Outline.{Outline}
 use Rattle.clone_window.specs.Sameness.{is_same, sort_at}
-use Rattle.clone_same.specs.Fields.{window_fields_agree}
+use Rattle.clone_window.specs.Fields.{window_fields_agree}
 use Rattle.alpha_hash.specs.Naming.{Naming}
 use Rattle.alpha_hash.specs.Numbers.{hash}
 use Rattle.alpha_hash.specs.Words.{Word, number, named}

@@ -3,7 +3,7 @@ use Rattle.std.specs.Prelude.{ℕ, List, [], codes, if◌then◌else◌, nat_eq}
 use Rattle.go_typed.specs.Trees.{Sort}
 use Rattle.clone_window.specs.declared.outline.Outline.{Outline}
 use Rattle.clone_window.specs.Sameness.{Final, of_type, of_kind, of_none}
-use Rattle.clone_same.specs.Fields.{FieldNames}
+use Rattle.clone_window.specs.Fields.{FieldNames}
 
 -- the printed texts of types; the texts of names of the package and of the universe, by what they show; the names of the fields of
 -- struct types, by their places; and what the locals of the function stand for

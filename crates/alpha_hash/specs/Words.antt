@@ -13,7 +13,7 @@ use Rattle.clone_window.specs.Kinds.{outline}
 use Rattle.clone_window.specs.Masses.{is_hole, is_inside}
 use Rattle.clone_window.specs.Sameness.{Compared, by_form, by_sort, by_literal, compared, final, value_of}
 use Rattle.alpha_hash.specs.Hash.{text_fold}
-use Rattle.clone_same.specs.Fields.{names_field, field_name}
+use Rattle.clone_window.specs.Fields.{names_field, field_name}
 use Rattle.alpha_hash.specs.Naming.{Naming, final_text}
 
 pub data Word : Type 0 where

@@ -10,7 +10,7 @@ use Rattle.go_typed.specs.declared.window.Window.{Window}
 use Rattle.go_typed.specs.Packages.{PackageView}
 use Rattle.clone_window.proofs.Equivalence.{name-refl, name-sym, name-trans, number-sym, number-trans}
 use Rattle.clone_same.specs.Bodies.{bodies_of}
-use Rattle.clone_same.specs.Fields.{field_text}
+use Rattle.clone_window.specs.Fields.{field_text}
 use Rattle.clone_classes.specs.Heads.{Home, in_package, in_function, home_of, same_home, homes_match, corresponds, matches, all_match, identical_between, same_between}
 use Rattle.clone_classes.proofs.Sameness.{between-sym, between-trans, itself}
 

@@ -22,7 +22,7 @@ use Rattle.go_typed.specs.declared.origin.Origin.TheVariants as origin
 use Rattle.go_typed.specs.declared.window.Window.{Window}
 use Rattle.go_typed.specs.Packages.{PackageView}
 use Rattle.clone_same.specs.Bodies.{are_same, bodies_of}
-use Rattle.clone_same.specs.Fields.{field_text}
+use Rattle.clone_window.specs.Fields.{field_text}
 
 -- ---- where a declared type stands
 

@@ -12,7 +12,7 @@ use Rattle.clone_window.specs.declared.outline.Outline.{Outline}
 use Rattle.clone_window.specs.Kinds.{outline}
 use Rattle.clone_window.specs.Masses.{is_hole, is_inside}
 use Rattle.clone_window.specs.Sameness.{Final, of_type, of_kind, of_none, final}
-use Rattle.clone_same.specs.Fields.{FieldNames, field_by, field_in, operand, names_field, field_of, owner_of, field_name, same_field, fields_agree, all_fields_agree}
+use Rattle.clone_window.specs.Fields.{FieldNames, field_by, field_in, operand, names_field, field_of, owner_of, field_name, same_field, fields_agree, all_fields_agree}
 use Rattle.clone_replies.proofs.Mapped.{hole-mapped, inside-mapped}
 
 -- ---- what sorts show

@@ -15,7 +15,7 @@ use Rattle.go_typed.specs.Packages.{PackageView, IsPackage, Counts, counts, is_b
 use Rattle.go_typed.specs.Trees.{sort_has, every, every_form}
 use Rattle.clone_window.specs.declared.bounds.Bounds.{Bounds}
 use Rattle.clone_same.specs.Bodies.{Body, body_of, bodies_of}
-use Rattle.clone_same.specs.Fields.{FieldNames, field_by, field_text}
+use Rattle.clone_window.specs.Fields.{FieldNames, field_by, field_text}
 use Rattle.clone_classes.specs.Listing.{listing, listing_in}
 use Rattle.clone_replies.specs.Classes.{Listed, classes_in, body_in, listed_content, listed_package, shown_class}
 use Rattle.clone_replies.specs.Listing.{listing_by, listing_reply, listing_text}

@@ -15,7 +15,7 @@ use Rattle.go_typed.specs.Windows.{Range}
 use Rattle.clone_window.specs.Masses.{masses}
 use Rattle.clone_window.specs.Spans.{ByteRange, bytes_of, nowhere, places_from, span_there, window_range, window_span}
 use Rattle.clone_same.specs.Bodies.{body_of, statements_at}
-use Rattle.clone_same.specs.Fields.{FieldNames}
+use Rattle.clone_window.specs.Fields.{FieldNames}
 use Rattle.clone_script.specs.declared.listing.ListedClass.{ListedClass}
 use Rattle.clone_script.specs.Listing as script
 use Rattle.clone_script.specs.Listing.{member_line, class_reply}

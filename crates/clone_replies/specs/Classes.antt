@@ -12,7 +12,7 @@ use Rattle.clone_window.specs.declared.bounds.Bounds.{Bounds}
 use Rattle.clone_window.specs.Masses.{masses}
 use Rattle.clone_window.specs.Spans.{ByteRange, nowhere, places_from, range_over, span_there}
 use Rattle.clone_same.specs.Bodies.{Body, bodies_of, statements_at}
-use Rattle.clone_same.specs.Fields.{FieldNames, field_by, field_text}
+use Rattle.clone_window.specs.Fields.{FieldNames, field_by, field_text}
 use Rattle.clone_classes.specs.Listing.{listing}
 
 -- What a listing reads of a package: its files with their names, the names of the fields of its types, and its functions, over

@@ -1,4 +1,3 @@
 pub mod Agreement
 pub mod Settled
-pub mod Fields
-pub mod Named
+pub mod FieldNames

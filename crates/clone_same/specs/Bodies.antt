@@ -6,7 +6,7 @@ use Rattle.go_typed.specs.Packages.{PackageView}
 use Rattle.go_typed.specs.Trees.{Sort, Typed, Typeds, none}
 use Rattle.clone_window.specs.Windows.{window_statements}
 use Rattle.clone_window.specs.Sameness.{is_same}
-use Rattle.clone_same.specs.Fields.{FieldNames, field_text, window_fields_agree}
+use Rattle.clone_window.specs.Fields.{FieldNames, field_text, window_fields_agree}
 
 -- a function: what its locals stand for, and its tree
 pub record Body (T : Type 0) : Type 0 where

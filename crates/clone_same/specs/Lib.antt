@@ -1,4 +1,3 @@
-pub mod Fields
 pub mod Bodies
 pub mod Pairing
 pub mod Shown

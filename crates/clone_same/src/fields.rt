@@ -6,8 +6,8 @@ ghost use Rattle.go_typed.specs.Views.{sort_view, view, views};
 ghost use Rattle.clone_window.specs.Kinds.{outline};
 ghost use Rattle.clone_window.specs.Sameness.{final};
 ghost use Rattle.type_tests.specs.Identity.{same_name};
-ghost use Rattle.clone_same.specs.Fields as specs;
-ghost use Rattle.clone_same.specs.Fields.{all_fields_agree, field_name, field_of, field_text, fields_agree, names_field, window_fields_agree};
+ghost use Rattle.clone_window.specs.Fields as specs;
+ghost use Rattle.clone_window.specs.Fields.{all_fields_agree, field_name, field_of, field_text, fields_agree, names_field, window_fields_agree};
 
 use crate::alike::{same_bytes, same_type};
 use clone_window::mass::{is_hole, is_inside};

@@ -4,7 +4,7 @@ ghost use Rattle.std.specs.Prelude.{◌≡◌, ◌+◌, ◌&&◌, nat_eq, map, s
 ghost use Rattle.go_typed.specs.Views.{sort_view, views};
 ghost use Rattle.clone_window.specs.Sameness.{is_same};
 ghost use Rattle.clone_same.specs.Bodies.{bodies_of, locals_in, same_in, statements_at};
-ghost use Rattle.clone_same.specs.Fields.{field_text, window_fields_agree};
+ghost use Rattle.clone_window.specs.Fields.{field_text, window_fields_agree};
 
 use crate::agree::all_agree;
 use crate::fields::window_fields_agree;

@@ -10,7 +10,7 @@ use Rattle.go_package.specs.Checked.{IsChecked, IsCheckedPackage, texts_of}
 use Rattle.go_package.specs.Single.{HasOneAnswer}
 use Rattle.clone_window.specs.declared.bounds.Bounds.{Bounds}
 use Rattle.clone_classes.specs.Listing.{listing_in}
-use Rattle.clone_same.specs.Fields.{field_by}
+use Rattle.clone_window.specs.Fields.{field_by}
 use Rattle.clone_replies.specs.Classes.{body_in, classes_in, listed_package}
 use Rattle.clone_replies.specs.Listing.{listing_by, listing_reply}
 use Rattle.package_numbers.proofs.Read.{OfFiles, same-sources}

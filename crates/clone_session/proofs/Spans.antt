@@ -17,7 +17,7 @@ use Rattle.clone_window.specs.declared.span.FunctionPlace.{FunctionPlace}
 use Rattle.clone_window.specs.Masses.{masses}
 use Rattle.clone_window.specs.Spans.{ByteRange, nowhere, place_at, places_from, range_over, span_in, span_over, span_there}
 use Rattle.clone_same.specs.Bodies.{Body}
-use Rattle.clone_same.specs.Fields.{FieldNames}
+use Rattle.clone_window.specs.Fields.{FieldNames}
 use Rattle.clone_classes.specs.Listing.{listing}
 use Rattle.clone_replies.specs.Classes.{Listed, ShownClass, shown_class, statements_in, window_bytes}
 use Rattle.clone_replies.specs.Listing.{listing_by, listing_text}

@@ -23,7 +23,7 @@ use Rattle.go_package.specs.Sources.{Source, source_of}
 use Rattle.clone_window.specs.declared.outline.Outline.{Outline}
 use Rattle.clone_window.specs.Kinds.{referent_outline}
 use Rattle.clone_window.specs.Sameness.{same_outline}
-use Rattle.clone_same.specs.Fields.{field_by, field_text}
+use Rattle.clone_window.specs.Fields.{field_by, field_text}
 use Rattle.alpha_hash.specs.Packages as packages
 use Rattle.alpha_hash.specs.Packages.{predeclared_text}
 use Rattle.package_numbers.specs.Names.{name_of, name_at, declared_name, declared_text, object_text}

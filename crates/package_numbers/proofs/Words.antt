@@ -10,7 +10,7 @@ use Rattle.clone_window.specs.Sameness.{Final, of_type, of_kind, of_none, final,
 use Rattle.clone_replies.proofs.Mapped.{hole-mapped, inside-mapped}
 use Rattle.clone_replies.proofs.Fields.{field-name, final_mapped, final-mapped}
 use Rattle.clone_replies.proofs.Tested.{value-mapped}
-use Rattle.clone_same.specs.Fields.{names_field}
+use Rattle.clone_window.specs.Fields.{names_field}
 use Rattle.alpha_hash.specs.Hash.{text_fold}
 use Rattle.alpha_hash.specs.Naming.{Naming, final_text}
 use Rattle.alpha_hash.specs.Numbers.{hash, words_hash}

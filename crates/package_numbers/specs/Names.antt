@@ -17,7 +17,7 @@ use Rattle.clone_window.specs.declared.outline.Outline.{Outline}
 use Rattle.clone_window.specs.Kinds.{referent_outline}
 use Rattle.clone_window.specs.Sameness.{same_outline, sort_at}
 use Rattle.clone_same.specs.Bodies.{locals_in, statements_at}
-use Rattle.clone_same.specs.Fields.{field_by}
+use Rattle.clone_window.specs.Fields.{field_by}
 use Rattle.clone_classes.specs.Listing.{windows_of_all}
 use Rattle.clone_replies.specs.Classes.{listed_content}
 use Rattle.alpha_hash.specs.Naming.{Naming}

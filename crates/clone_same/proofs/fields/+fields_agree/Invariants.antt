@@ -1,6 +1,6 @@
 use Rattle.std.proofs.Common.{◌≡◌, drop}
 use Rattle.go_typed.specs.Views.{sort_view, views}
-use Rattle.clone_same.specs.Fields.{all_fields_agree, field_text}
+use Rattle.clone_window.specs.Fields.{all_fields_agree, field_text}
 use Rattle.clone_same.proofs.fields.+fields_agree.Given as goal
 
 -- the rows agree where what is left of them does

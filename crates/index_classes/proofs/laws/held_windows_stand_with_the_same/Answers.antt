@@ -1,6 +1,6 @@
 use Rattle.std.specs.Prelude.{nat_eq}
 use Rattle.clone_same.specs.Bodies.{bodies_of, same_in}
-use Rattle.clone_same.specs.Fields.{field_text}
+use Rattle.clone_window.specs.Fields.{field_text}
 use Rattle.clone_classes.proofs.Sameness.{within, numbers}
 use Rattle.index_classes.proofs.Classified.{held-alike, held-together}
 use Rattle.index_classes.proofs.laws.held_windows_stand_with_the_same.Goals as goal

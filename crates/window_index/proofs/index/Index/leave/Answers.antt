@@ -3,7 +3,7 @@ use Rattle.std.specs.Prelude.{nat_eq}
 use Rattle.go_typed.specs.declared.window.Window.{Window}
 use Rattle.clone_window.specs.declared.bounds.Bounds.{Bounds}
 use Rattle.clone_same.specs.Bodies.{bodies_of, same_in}
-use Rattle.clone_same.specs.Fields.{field_text}
+use Rattle.clone_window.specs.Fields.{field_text}
 use Rattle.clone_classes.specs.Listing.{windows_of_all}
 use Rattle.clone_classes.proofs.Sameness.{within, numbers}
 use Rattle.window_index.specs.Buckets.{Bucket}

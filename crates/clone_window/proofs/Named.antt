@@ -11,7 +11,7 @@ use Rattle.clone_window.specs.Kinds.{outline}
 use Rattle.clone_window.specs.Masses.{is_hole, is_inside}
 use Rattle.clone_window.specs.Sameness.{same_outline, compared, agree_besides, agree_at, agree, all_agree}
 use Rattle.clone_window.proofs.Equivalence.{name-refl, name-sym, name-trans}
-use Rattle.clone_same.specs.Fields.{FieldNames, names_field, field_name, same_field, fields_agree, all_fields_agree}
+use Rattle.clone_window.specs.Fields.{FieldNames, names_field, field_name, same_field, fields_agree, all_fields_agree}
 
 or-right : (a b : Bool) → b ≡ true → (a || b) ≡ true
 or-right true b h = refl
@@ -55,20 +55,20 @@ turned-at d false false f g s t parts own rest back behind h k one all =
     let r = and_parts own rest k in
     and_from back behind (one q.0 r.0) (all p.1 r.1)
 
-joined-at : {T : Type 0} (d e : T → T → Bool) (x y z : Bool) (f g h : Form) (s t u : Sort T) (front parts one two both more less most : Bool) →
-    agree_at d x y f g s t front ≡ true → agree_at e y z g h t u parts ≡ true → (x || (one && more)) ≡ true → (y || (two && less)) ≡ true →
+joined-at : {T : Type 0} (d e : T → T → Bool) (x y z : Bool) (f g h : Form) (s t u : Sort T) (front parts one two both first_rest second_rest rest : Bool) →
+    agree_at d x y f g s t front ≡ true → agree_at e y z g h t u parts ≡ true → (x || (one && first_rest)) ≡ true → (y || (two && second_rest)) ≡ true →
     (same_outline (outline f) (outline g) ≡ true → one ≡ true → two ≡ true → both ≡ true) →
-    (front ≡ true → parts ≡ true → more ≡ true → less ≡ true → most ≡ true) → (x || (both && most)) ≡ true
-joined-at d e true y z f g h s t u front parts one two both more less most i j k l own all = refl
-joined-at d e false true z f g h s t u front parts one two both more less most i j k l own all = cc
-joined-at d e false false true f g h s t u front parts one two both more less most i j k l own all = cc
-joined-at d e false false false f g h s t u front parts one two both more less most i j k l own all =
+    (front ≡ true → parts ≡ true → first_rest ≡ true → second_rest ≡ true → rest ≡ true) → (x || (both && rest)) ≡ true
+joined-at d e true y z f g h s t u front parts one two both first_rest second_rest rest i j k l own all = refl
+joined-at d e false true z f g h s t u front parts one two both first_rest second_rest rest i j k l own all = cc
+joined-at d e false false true f g h s t u front parts one two both first_rest second_rest rest i j k l own all = cc
+joined-at d e false false false f g h s t u front parts one two both first_rest second_rest rest i j k l own all =
     let p = and_parts (same_outline (outline f) (outline g) && agree_besides d (compared f) (compared g) s t) front i in
     let q = and_parts (same_outline (outline f) (outline g)) (agree_besides d (compared f) (compared g) s t) p.0 in
     let r = and_parts (same_outline (outline g) (outline h) && agree_besides e (compared g) (compared h) t u) parts j in
-    let v = and_parts one more k in
-    let w = and_parts two less l in
-    and_from both most (own q.0 v.0 w.0) (all p.1 r.1 v.1 w.1)
+    let v = and_parts one first_rest k in
+    let w = and_parts two second_rest l in
+    and_from both rest (own q.0 v.0 w.0) (all p.1 r.1 v.1 w.1)
 
 -- ---- trees
 
