@@ -96,3 +96,24 @@ at-node n a b c s t x y h e =
     opened-fields n a b s t x y
     ∙ ap (λ d. d || (own n s t x y && inner n (within a x) (within b y) x y)) h
     ∙ ap (λ d. d && inner n (within a x) (within b y) x y) e
+
+-- What two nodes name is what they name themselves, and what their parts name.
+pub node-parts : (n : FieldNames ℕ) (a b c v w : Bool) (s t : Sort ℕ) (x y : TypedNode) (ps qs us vs : List (Option TypedNode)) → hole a x ≡ false →
+    ps ≡ (out-TypedNode x).parts.items → qs ≡ (out-TypedNode y).parts.items → us ≡ (out-TypedNode x).parts.items → vs ≡ (out-TypedNode y).parts.items → v ≡ within a x → w ≡ within b y →
+    same_field (names_field (outline (out-TypedNode x).form)) (field_name n s (outline (out-TypedNode x).form) (views ps)) (field_name n t (outline (out-TypedNode y).form) (views qs)) ≡ c →
+    fields_agree n n a b s t (view x) (view y) ≡ (c && all_fields_agree n n v w (sort_view (out-TypedNode x).label.sort) (sort_view (out-TypedNode y).label.sort) (views us) (views vs))
+node-parts n a b c v w s t x y ps qs us vs h p q k l i j e =
+    let o = outline (out-TypedNode x).form in
+    let r = outline (out-TypedNode y).form in
+    let ls = sort_view (out-TypedNode x).label.sort in
+    let ms = sort_view (out-TypedNode y).label.sort in
+    let xs = (out-TypedNode x).parts.items in
+    let ys = (out-TypedNode y).parts.items in
+    let mine : own n s t x y ≡ c =
+    ap (λ zs. same_field (names_field o) (field_name n s o (views zs)) (field_name n t r (views ys))) (sym p)
+    ∙ ap (λ zs. same_field (names_field o) (field_name n s o (views ps)) (field_name n t r (views zs))) (sym q) ∙ e in
+    at-node n a b c s t x y h mine
+    ∙ ap (λ d. c && all_fields_agree n n d (within b y) ls ms (views xs) (views ys)) (sym i)
+    ∙ ap (λ d. c && all_fields_agree n n v d ls ms (views xs) (views ys)) (sym j)
+    ∙ ap (λ zs. c && all_fields_agree n n v w ls ms (views zs) (views ys)) (sym k)
+    ∙ ap (λ zs. c && all_fields_agree n n v w ls ms (views us) (views zs)) (sym l)

@@ -1,11 +1,13 @@
 //! When the fields that nodes name have the same names.
 
 ghost use Rattle.std.specs.Prelude.{◌≡◌};
+ghost use Rattle.go_types.specs.Tables.{rights_of, type_of};
 ghost use Rattle.go_typed.specs.Trees.{Nothing};
 ghost use Rattle.go_typed.specs.Views.{sort_view, view, views};
 ghost use Rattle.clone_window.specs.Kinds.{outline};
 ghost use Rattle.clone_window.specs.Sameness.{final};
 ghost use Rattle.type_tests.specs.Identity.{same_name};
+ghost use Rattle.type_tests.specs.Tests.{underlying_of};
 ghost use Rattle.clone_window.specs.Fields as specs;
 ghost use Rattle.clone_window.specs.Fields.{all_fields_agree, field_name, field_of, field_text, fields_agree, names_field, window_fields_agree};
 
@@ -193,7 +195,7 @@ pub fn field_text<'a>(types: &'a Types, owner: &Sort, field: u32) -> &'a [u8]
 
 /// The name of the field of this place of a type.
 fn field_in(types: &Types, ty: TypeId, field: u32) -> &[u8]
-    ensures { result.now ≡ field_text types.now ty field }
+    ensures { result.now ≡ specs.field_in (underlying_of (rights_of types.now) (type_of types.now.shapes ty)) field }
 {
     if types.count() <= ty {
         return b"";
