@@ -11,10 +11,11 @@ use Rattle.clone_window.specs.Kinds.{outline}
 use Rattle.clone_window.specs.Masses.{is_hole, is_inside}
 use Rattle.clone_window.specs.Sameness.{final, same_final, value_of, are_alike, same_outline, Compared, by_form, by_sort, by_literal, compared, agree_besides, agree_at, agree, all_agree, locals, all_locals}
 use Rattle.clone_window.proofs.Equivalence.{as-many-here, all-as-many}
-use Rattle.alpha_hash.specs.Alike.{AreAlike, NamesAgree, same_field, fields_agree, all_fields_agree}
+use Rattle.clone_window.specs.Fields.{names_field, field_name, same_field, fields_agree, all_fields_agree}
+use Rattle.alpha_hash.specs.Alike.{AreAlike, NamesAgree}
 use Rattle.alpha_hash.specs.Hash.{text_fold}
 use Rattle.alpha_hash.specs.Naming.{Naming, final_text}
-use Rattle.alpha_hash.specs.Words.{Word, number, named, begins_with_list, last_list, length_if, is_at, lengths_at, row_length, one_if, kind_words, operator_words, local_words, object_words, names_field, field_name, field_words, compared_words, defined_words, constant_words, blank_words, name_words, declared_words, all_declared, constants_words, own_words, hole_words, is_defined, words, row_words, window_words}
+use Rattle.alpha_hash.specs.Words.{Word, number, named, begins_with_list, last_list, length_if, is_at, lengths_at, row_length, one_if, kind_words, operator_words, local_words, object_words, field_words, compared_words, defined_words, constant_words, blank_words, name_words, declared_words, all_declared, constants_words, own_words, hole_words, is_defined, words, row_words, window_words}
 use Rattle.alpha_hash.proofs.Texts.{name-is, literals-text, finals-text, alike-texts}
 
 -- ---- rows of locals
@@ -194,13 +195,13 @@ field-is true x y h e = ap text_fold (name-is x y h)
 field-is false x y h e = cc
 
 alike-own : {T : Type 0} (d : T → T → Bool) (n m : Naming T) (R : ℕ → ℕ → Bool) → NamesAgree d n m → LocalsAgree d n m R → (a b z : Bool) (s t : Sort T) (o : Outline) (x y : Option ℕ) (c e : Compared) (u v : Sort T) (ps qs : Typeds T) →
-    Paired R (option_to_list x) (option_to_list y) → agree_besides d c e u v ≡ true → same_field (names_field o) (field_name n s o ps) (field_name m t o qs) ≡ true → all_agree d a b ps qs ≡ true →
+    Paired R (option_to_list x) (option_to_list y) → agree_besides d c e u v ≡ true → same_field (names_field o) (field_name n.field_text s o ps) (field_name m.field_text t o qs) ≡ true → all_agree d a b ps qs ≡ true →
     Paired R (all_locals a ps) (all_locals b qs) → AreAlike R (own_words n a z s o x c u ps) (own_words m b z t o y e v qs)
 alike-own d n m R names sorts a b z s t o x y c e u v ps qs here besides field parts within =
     let k1 = alike-append R (kind_words o) (kind_words o) (operator_words o) (operator_words o) (alike-one R _ o.kind o.kind refl) (alike-one R _ o.operator o.operator refl) in
     let k2 = alike-append R _ _ (local_words x) (local_words y) k1 (alike-local R x y here) in
     let k3 = alike-append R _ _ (object_words n o) (object_words m o) k2 (alike-one R _ (text_fold (n.object_text o)) (text_fold (m.object_text o)) (ap text_fold (names.objects o))) in
-    let k4 = alike-append R _ _ (field_words n s o ps) (field_words m t o qs) k3 (alike-one-if R (names_field o) (text_fold (field_name n s o ps)) (text_fold (field_name m t o qs)) (field-is (names_field o) (field_name n s o ps) (field_name m t o qs) field)) in
+    let k4 = alike-append R _ _ (field_words n s o ps) (field_words m t o qs) k3 (alike-one-if R (names_field o) (text_fold (field_name n.field_text s o ps)) (text_fold (field_name m.field_text t o qs)) (field-is (names_field o) (field_name n.field_text s o ps) (field_name m.field_text t o qs) field)) in
     let k5 = alike-append R _ _ (compared_words n c o u) (compared_words m e o v) k4 (alike-compared d n m R names c e o u v besides) in
     let k6 = alike-append R _ _ (defined_words z o) (defined_words z o) k5 (alike-defined R z o) in
     alike-append R _ _ (constants_words n a o ps) (constants_words m b o qs) k6 (alike-if R (nat_eq o.kind 8) (all_declared n a ps) (all_declared m b qs) (alike-all-declared d n m R names sorts a b ps qs parts within))
@@ -224,7 +225,7 @@ unless-hole false y e h = h
 
 mutual
   alike-words : {T : Type 0} (d : T → T → Bool) (n m : Naming T) (R : ℕ → ℕ → Bool) → NamesAgree d n m → LocalsAgree d n m R → (a b z : Bool) (s t : Sort T) (p q : Typed T) → agree d a b p q ≡ true →
-      fields_agree n m a b s t p q ≡ true → Paired R (locals a p) (locals b q) → AreAlike R (words n a z s p) (words m b z t q)
+      fields_agree n.field_text m.field_text a b s t p q ≡ true → Paired R (locals a p) (locals b q) → AreAlike R (words n a z s p) (words m b z t q)
   alike-words d n m R names sorts a b z s t (typed f i j l ps) (typed g k r v qs) h fields paired =
       let inside = is_inside a f l in
       let within = is_inside b g v in
@@ -235,24 +236,24 @@ mutual
       (λ x y c.
       let o : outline f ≡ outline g = outline-is (outline f) (outline g) c.first in
       let k = node-paired R (is_hole a f l) (is_hole b g v) f g (all_locals inside ps) (all_locals within qs) x y c.first paired in
-      let w = and_parts (same_field (names_field (outline f)) (field_name n s (outline f) ps) (field_name m t (outline g) qs)) (all_fields_agree n m inside within l.sort v.sort ps qs)
+      let w = and_parts (same_field (names_field (outline f)) (field_name n.field_text s (outline f) ps) (field_name m.field_text t (outline g) qs)) (all_fields_agree n.field_text m.field_text inside within l.sort v.sort ps qs)
       (unless-hole (is_hole a f l) _ x fields) in
       let own = alike-own d n m R names sorts inside within z s t (outline f) (local_of f) (local_of g) (compared f) (compared g) l.sort v.sort ps qs k.0 c.second
-      (subst (λ u. same_field (names_field (outline f)) (field_name n s (outline f) ps) (field_name m t u qs) ≡ true) (sym o) w.0) c.third k.1 in
+      (subst (λ u. same_field (names_field (outline f)) (field_name n.field_text s (outline f) ps) (field_name m.field_text t u qs) ≡ true) (sym o) w.0) c.third k.1 in
       let rest = alike-row d n m R names sorts inside within (outline f) l.sort v.sort 0 ps qs c.third w.1 k.1 in
       subst (λ u. AreAlike R (own_words n inside z s (outline f) (local_of f) (compared f) l.sort ps ++ row_words n inside (outline f) l.sort 0 ps) (own_words m within z t u (local_of g) (compared g) v.sort qs ++ row_words m within u v.sort 0 qs)) o
       (alike-append R (own_words n inside z s (outline f) (local_of f) (compared f) l.sort ps) (own_words m within z t (outline f) (local_of g) (compared g) v.sort qs)
       (row_words n inside (outline f) l.sort 0 ps) (row_words m within (outline f) v.sort 0 qs) own rest))
 
   alike-row : {T : Type 0} (d : T → T → Bool) (n m : Naming T) (R : ℕ → ℕ → Bool) → NamesAgree d n m → LocalsAgree d n m R → (a b : Bool) (o : Outline) (s t : Sort T) (k : ℕ) (ps qs : Typeds T) → all_agree d a b ps qs ≡ true →
-      all_fields_agree n m a b s t ps qs ≡ true → Paired R (all_locals a ps) (all_locals b qs) → AreAlike R (row_words n a o s k ps) (row_words m b o t k qs)
+      all_fields_agree n.field_text m.field_text a b s t ps qs ≡ true → Paired R (all_locals a ps) (all_locals b qs) → AreAlike R (row_words n a o s k ps) (row_words m b o t k qs)
   alike-row d n m R names sorts a b o s t k none none h fields paired = alike-lengths R o k 0 0 refl
   alike-row d n m R names sorts a b o s t k none (more q qs) h fields paired = cc
   alike-row d n m R names sorts a b o s t k none (skip qs) h fields paired = cc
   alike-row d n m R names sorts a b o s t k (more p ps) none h fields paired = cc
   alike-row d n m R names sorts a b o s t k (more p ps) (more q qs) h fields paired =
       let e = and_parts (agree d a b p q) (all_agree d a b ps qs) h in
-      let w = and_parts (fields_agree n m a b s t p q) (all_fields_agree n m a b s t ps qs) fields in
+      let w = and_parts (fields_agree n.field_text m.field_text a b s t p q) (all_fields_agree n.field_text m.field_text a b s t ps qs) fields in
       let u = part-paired d R a b p q ps qs e.0 paired in
       alike-append R _ _ (row_words n a o s (suc k) ps) (row_words m b o t (suc k) qs)
       (alike-append R (lengths_at o k (suc (row_length ps))) (lengths_at o k (suc (row_length qs))) (words n a (is_defined o k) s p) (words m b (is_defined o k) t q)
@@ -268,14 +269,14 @@ mutual
       (refl, alike-row d n m R names sorts a b o s t (suc k) ps qs h fields paired)
 
 pub alike-window : {T : Type 0} (d : T → T → Bool) (n m : Naming T) (R : ℕ → ℕ → Bool) → NamesAgree d n m → LocalsAgree d n m R → (ps qs : Typeds T) → all_agree d false false ps qs ≡ true →
-    all_fields_agree n m false false Nothing Nothing ps qs ≡ true → Paired R (all_locals false ps) (all_locals false qs) → AreAlike R (window_words n ps) (window_words m qs)
+    all_fields_agree n.field_text m.field_text false false Nothing Nothing ps qs ≡ true → Paired R (all_locals false ps) (all_locals false qs) → AreAlike R (window_words n ps) (window_words m qs)
 alike-window d n m R names sorts none none h fields paired = tt
 alike-window d n m R names sorts none (more q qs) h fields paired = cc
 alike-window d n m R names sorts none (skip qs) h fields paired = cc
 alike-window d n m R names sorts (more p ps) none h fields paired = cc
 alike-window d n m R names sorts (more p ps) (more q qs) h fields paired =
     let e = and_parts (agree d false false p q) (all_agree d false false ps qs) h in
-    let w = and_parts (fields_agree n m false false Nothing Nothing p q) (all_fields_agree n m false false Nothing Nothing ps qs) fields in
+    let w = and_parts (fields_agree n.field_text m.field_text false false Nothing Nothing p q) (all_fields_agree n.field_text m.field_text false false Nothing Nothing ps qs) fields in
     let u = part-paired d R false false p q ps qs e.0 paired in
     alike-append R (words n false false Nothing p) (words m false false Nothing q) (window_words n ps) (window_words m qs)
     (alike-words d n m R names sorts false false false Nothing Nothing p q e.0 w.0 u.0) (alike-window d n m R names sorts ps qs e.1 w.1 u.1)

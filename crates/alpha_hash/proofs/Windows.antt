@@ -3,14 +3,18 @@ use Rattle.std.proofs.Common.{◌≡◌, ℕ, Bool, true, false, List, [], ◌�
 use Rattle.std.specs.Prelude.{◌&&◌, ◌||◌, nat_eq}
 use Rattle.std.specs.List.{list_all, list_any, zip}
 use Rattle.std.proofs.lemmas.Bool.{and_parts, and_from, eqb-true, eq-eqb}
+use Rattle.go_print.specs.Printed.{printed}
+use Rattle.go_typed.specs.declared.window.Window.{Window}
+use Rattle.go_typed.specs.Packages.{PackageView}
 use Rattle.go_typed.specs.Trees.{Sort, Typeds}
-use Rattle.clone_same.specs.Bodies.{bodies_of, locals_in}
+use Rattle.clone_same.specs.Bodies.{bodies_of, locals_in, same_in}
+use Rattle.clone_window.specs.Fields.{field_text, window_fields_agree}
 use Rattle.clone_window.specs.Sameness.{are_alike, all_agree, all_locals, local_pairs, is_iff, fits_pair, is_one_to_one, sort_at, is_matched, is_same}
 use Rattle.clone_window.proofs.Equivalence.{all-as-many}
-use Rattle.alpha_hash.specs.Alike.{IsOneToOne, NamesAgree, window_fields_agree}
+use Rattle.alpha_hash.specs.Alike.{IsOneToOne, NamesAgree}
 use Rattle.alpha_hash.specs.Naming.{Naming}
 use Rattle.alpha_hash.specs.Packages.{statements_in, window_hash, window_naming}
-use Rattle.alpha_hash.specs.Sharing.{IsLawful}
+use Rattle.alpha_hash.specs.Sharing.{IsLawful, ShareNames}
 use Rattle.alpha_hash.specs.Numbers.{hash}
 use Rattle.alpha_hash.specs.Words.{window_words}
 use Rattle.alpha_hash.proofs.Alike.{Paired, alike-window}
@@ -71,7 +75,7 @@ one-to-one pairs h a b c d p q =
     ((λ e. eqb-true b d (iff-right (nat_eq a c) (nat_eq b d) fits (eq-eqb a c e))), (λ e. eqb-true a c (iff-left (nat_eq a c) (nat_eq b d) fits (eq-eqb b d e))))
 
 pub same-windows : {T : Type 0} (d : T → T → Bool) (n m : Naming T) (here there : List (Sort T)) → NamesAgree d n m → ((k : ℕ) → n.local_sort k ≡ sort_at here k) → ((k : ℕ) → m.local_sort k ≡ sort_at there k) →
-    (ps qs : Typeds T) → is_same d here there ps qs ≡ true → window_fields_agree n m ps qs ≡ true → hash n ps ≡ hash m qs
+    (ps qs : Typeds T) → is_same d here there ps qs ≡ true → window_fields_agree n.field_text m.field_text ps qs ≡ true → hash n ps ≡ hash m qs
 same-windows d n m here there names left right ps qs h fields =
     let pairs = local_pairs ps qs in
     let R = are_pair pairs in
@@ -86,5 +90,17 @@ same-windows d n m here there names left right ps qs h fields =
 -- the numbers of windows of two packages
 pub hash-lawful : IsLawful window_hash
 hash-lawful identical p q share w v h =
-    same-windows identical (window_naming p w) (window_naming q v) (locals_in (slice_get (bodies_of p.functions) w.func)) (locals_in (slice_get (bodies_of q.functions) v.func))
-    (record { types = share.types; objects = share.objects }) (λ k. refl) (λ k. refl) (statements_in p w) (statements_in q v) h (share.fields w v h)
+    let here = locals_in (slice_get (bodies_of p.functions) w.func) in
+    let there = locals_in (slice_get (bodies_of q.functions) v.func) in
+    let u = and_parts (is_same identical here there (statements_in p w) (statements_in q v)) (window_fields_agree (field_text p.types) (field_text q.types) (statements_in p w) (statements_in q v)) h in
+    same-windows identical (window_naming p w) (window_naming q v) here there
+    (record { types = share.types; objects = share.objects }) (λ k. refl) (λ k. refl) (statements_in p w) (statements_in q v) u.0 u.1
+
+-- ---- one package
+
+share-themselves : (p : PackageView) → ShareNames nat_eq p p
+share-themselves p = record { types = λ t u e. ap (printed p) (eqb-true t u e); objects = λ o. refl }
+
+-- numbers that are lawful are lawful in each package
+pub lawful-alone : (number : PackageView → Window → ℕ) → IsLawful number → (p : PackageView) (w v : Window) → same_in p w v ≡ true → number p w ≡ number p v
+lawful-alone number law p w v h = law nat_eq p p (share-themselves p) w v h

@@ -1,14 +1,12 @@
 -- When words are alike, and what names must have in common.
-use Rattle.std.specs.Prelude.{◌≡◌, ℕ, Bool, true, false, ◌&&◌, ◌||◌, not, List, [], ◌∷◌}
-use Rattle.type_tests.specs.Identity.{same_name}
-use Rattle.go_typed.specs.Trees.{Sort, Nothing, Typed, typed, Typeds, more, skip}
+use Rattle.std.specs.Prelude.{◌≡◌, ℕ, Bool, true, List, [], ◌∷◌}
+use Rattle.go_typed.specs.Trees.{Sort, Typeds}
 use Rattle.clone_window.specs.declared.outline.Outline.{Outline}
-use Rattle.clone_window.specs.Kinds.{outline}
-use Rattle.clone_window.specs.Masses.{is_hole, is_inside}
 use Rattle.clone_window.specs.Sameness.{is_same, sort_at}
+use Rattle.clone_window.specs.Fields.{window_fields_agree}
 use Rattle.alpha_hash.specs.Naming.{Naming}
 use Rattle.alpha_hash.specs.Numbers.{hash}
-use Rattle.alpha_hash.specs.Words.{Word, number, named, names_field, field_name}
+use Rattle.alpha_hash.specs.Words.{Word, number, named}
 
 -- Two rows of words are alike where they have the same numbers, and names of locals that are related at the same places.
 abbrev pub AreAlike : (ℕ → ℕ → Bool) → List Word → List Word → Type 0
@@ -26,27 +24,8 @@ pub record NamesAgree {T : Type 0} (identical : T → T → Bool) (n m : Naming 
   pub types : (t u : T) → identical t u ≡ true → n.type_text t ≡ m.type_text u
   pub objects : (o : Outline) → n.object_text o ≡ m.object_text o
 
-abbrev pub same_field : Bool → List ℕ → List ℕ → Bool
-same_field names a b = not names || same_name a b
-
-abbrev mutual
-  -- whether the fields that two trees name at corresponding places outside holes have the same names
-  pub fields_agree : {T : Type 0} → Naming T → Naming T → Bool → Bool → Sort T → Sort T → Typed T → Typed T → Bool
-  fields_agree n m a b s t (typed f i j l ps) (typed g h k r qs) =
-      is_hole a f l || (same_field (names_field (outline f)) (field_name n s (outline f) ps) (field_name m t (outline g) qs)
-      && all_fields_agree n m (is_inside a f l) (is_inside b g r) l.sort r.sort ps qs)
-
-  pub all_fields_agree : {T : Type 0} → Naming T → Naming T → Bool → Bool → Sort T → Sort T → Typeds T → Typeds T → Bool
-  all_fields_agree n m a b s t (more p ps) (more q qs) = fields_agree n m a b s t p q && all_fields_agree n m a b s t ps qs
-  all_fields_agree n m a b s t (skip ps) (skip qs) = all_fields_agree n m a b s t ps qs
-  all_fields_agree n m a b s t _ _ = true
-
--- those of two runs of statements
-abbrev pub window_fields_agree : {T : Type 0} → Naming T → Naming T → Typeds T → Typeds T → Bool
-window_fields_agree n m ps qs = all_fields_agree n m false false Nothing Nothing ps qs
-
 -- Runs of statements that are the same, and whose fields have the same names, have one number.
 abbrev pub HashesAgree : {T : Type 0} → (T → T → Bool) → Naming T → Naming T → List (Sort T) → List (Sort T) → Type 0
 HashesAgree {T} identical n m here there =
     NamesAgree identical n m → ((k : ℕ) → n.local_sort k ≡ sort_at here k) → ((k : ℕ) → m.local_sort k ≡ sort_at there k) → (ps qs : Typeds T) →
-    is_same identical here there ps qs ≡ true → window_fields_agree n m ps qs ≡ true → hash n ps ≡ hash m qs
+    is_same identical here there ps qs ≡ true → window_fields_agree n.field_text m.field_text ps qs ≡ true → hash n ps ≡ hash m qs

@@ -3,13 +3,14 @@ use Rattle.std.specs.Prelude.{ℕ, List, [], codes, if◌then◌else◌, nat_eq}
 use Rattle.go_typed.specs.Trees.{Sort}
 use Rattle.clone_window.specs.declared.outline.Outline.{Outline}
 use Rattle.clone_window.specs.Sameness.{Final, of_type, of_kind, of_none}
+use Rattle.clone_window.specs.Fields.{FieldNames}
 
 -- the printed texts of types; the texts of names of the package and of the universe, by what they show; the names of the fields of
 -- struct types, by their places; and what the locals of the function stand for
 pub record Naming (T : Type 0) : Type 0 where
   pub type_text : T → List ℕ
   pub object_text : Outline → List ℕ
-  pub field_text : T → ℕ → List ℕ
+  pub field_text : FieldNames T
   pub local_sort : ℕ → Sort T
 
 -- untyped boolean, integer, rune and string
@@ -24,8 +25,3 @@ abbrev pub final_text : {T : Type 0} → Naming T → Final T → List ℕ
 final_text n (of_type t) = n.type_text t
 final_text n (of_kind k) = untyped_text k
 final_text n of_none = []
-
--- the name of a field of a value of this type
-abbrev pub field_of : {T : Type 0} → Naming T → Final T → ℕ → List ℕ
-field_of n (of_type t) k = n.field_text t k
-field_of n _ k = []

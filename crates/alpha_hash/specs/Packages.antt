@@ -1,11 +1,8 @@
 -- The names that windows of a package show, and their numbers.
-use Rattle.std.specs.Prelude.{ℕ, Bool, List, [], ◌∷◌, codes, if◌then◌else◌, nat_eq, Option, Some, None, slice_get}
+use Rattle.std.specs.Prelude.{ℕ, List, [], ◌∷◌, codes, if◌then◌else◌, nat_eq, Some, slice_get}
 use Rattle.go_tree.specs.declared.object.Declared.{Declared}
 use Rattle.go_tree.specs.declared.object.Predeclared.{Predeclared}
 use Rattle.go_tree.specs.Predeclared.{known_names}
-use Rattle.go_types.specs.Tables.{type_of, rights_of}
-use Rattle.go_types.specs.Trees.{TypeTree, structure}
-use Rattle.type_tests.specs.Tests.{underlying_of}
 use Rattle.go_typed.specs.declared.form.Referent.{Referent}
 use Rattle.go_typed.specs.declared.window.Window.{Window}
 use Rattle.go_typed.specs.Packages.{PackageView}
@@ -16,7 +13,7 @@ use Rattle.clone_window.specs.declared.outline.Outline.{Outline}
 use Rattle.clone_window.specs.Kinds.{predeclared_number, referent_outline}
 use Rattle.clone_window.specs.Sameness.{same_outline, sort_at}
 use Rattle.clone_same.specs.Bodies.{bodies_of, locals_in, statements_at}
-use Rattle.alpha_hash.specs.Alike.{window_fields_agree}
+use Rattle.clone_window.specs.Fields.{field_text}
 use Rattle.alpha_hash.specs.Naming.{Naming}
 use Rattle.alpha_hash.specs.Numbers.{hash}
 
@@ -37,21 +34,9 @@ object_text p o =
     if nat_eq o.operator 6 then codes "fmt.Println" else
     declared_text p o p.env.referents p.uses.package_level
 
-abbrev pub text_there : Option (List ℕ) → List ℕ
-text_there None = []
-text_there (Some t) = t
-
--- the name of the field of this place, of an underlying type
-abbrev pub field_in : Option TypeTree → ℕ → List ℕ
-field_in (Some (structure ns ts)) k = text_there (slice_get ns k)
-field_in _ k = []
-
-abbrev pub field_text : PackageView → ℕ → ℕ → List ℕ
-field_text p t k = field_in (underlying_of (rights_of p.types) (type_of p.types.shapes t)) k
-
 -- of a function of a package whose locals stand for this
 abbrev pub naming_of : PackageView → List (Sort ℕ) → Naming ℕ
-naming_of p sorts = record { type_text = printed p; object_text = object_text p; field_text = field_text p; local_sort = sort_at sorts }
+naming_of p sorts = record { type_text = printed p; object_text = object_text p; field_text = field_text p.types; local_sort = sort_at sorts }
 
 abbrev pub window_naming : PackageView → Window → Naming ℕ
 window_naming p w = naming_of p (locals_in (slice_get (bodies_of p.functions) w.func))
@@ -62,7 +47,3 @@ statements_in p w = statements_at (slice_get (bodies_of p.functions) w.func) w
 -- the number of a window of a package
 abbrev pub window_hash : PackageView → Window → ℕ
 window_hash p w = hash (window_naming p w) (statements_in p w)
-
--- whether the fields that two windows name at corresponding places have the same names
-abbrev pub fields_match : PackageView → Window → Window → Bool
-fields_match p w v = window_fields_agree (window_naming p w) (window_naming p v) (statements_in p w) (statements_in p v)

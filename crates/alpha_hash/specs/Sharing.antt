@@ -7,30 +7,20 @@ use Rattle.clone_window.specs.declared.bounds.Bounds.{Bounds}
 use Rattle.clone_window.specs.declared.outline.Outline.{Outline}
 use Rattle.clone_window.specs.Windows.{windows}
 use Rattle.clone_same.specs.Bodies.{Body, are_same, bodies_of}
-use Rattle.alpha_hash.specs.Alike.{window_fields_agree}
-use Rattle.alpha_hash.specs.Packages.{object_text, statements_in, window_naming}
+use Rattle.clone_window.specs.Fields.{field_text}
+use Rattle.alpha_hash.specs.Packages.{object_text}
 
--- whether the fields that two windows name at corresponding places have the same names, each window of its package
-abbrev pub fields_between : PackageView → PackageView → Window → Window → Bool
-fields_between p q w v = window_fields_agree (window_naming p w) (window_naming q v) (statements_in p w) (statements_in q v)
-
--- Windows that are the same, where a test tells identical types, select fields of the same names. So do those of packages that
--- type-check, since a type has the same fields wherever it is named.
-abbrev pub FieldsFollow : (ℕ → ℕ → Bool) → PackageView → PackageView → Type 0
-FieldsFollow identical p q = (w v : Window) → are_same identical (bodies_of p.functions) (bodies_of q.functions) w v ≡ true → fields_between p q w v ≡ true
-
--- Identical types of the two packages have one text, what names of objects show has one name, and the fields of windows that are
--- the same have the same names.
+-- Identical types of the two packages have one text, and what names of objects show has one name.
 pub record ShareNames (identical : ℕ → ℕ → Bool) (p q : PackageView) : Type 0 where
   pub types : (t u : ℕ) → identical t u ≡ true → printed p t ≡ printed q u
   pub objects : (o : Outline) → object_text p o ≡ object_text q o
-  pub fields : FieldsFollow identical p q
 
--- A number for each window that doesn't tell windows apart that are the same.
+-- A number for each window that doesn't tell windows apart that are the same. In one package, where equal numbers stand for
+-- identical types, nothing else is asked: types of one number have one text, and objects one name.
 abbrev pub IsLawful : (PackageView → Window → ℕ) → Type 0
 IsLawful number =
     (identical : ℕ → ℕ → Bool) (p q : PackageView) → ShareNames identical p q → (w v : Window) →
-    are_same identical (bodies_of p.functions) (bodies_of q.functions) w v ≡ true → number p w ≡ number q v
+    are_same identical (field_text p.types) (field_text q.types) (bodies_of p.functions) (bodies_of q.functions) w v ≡ true → number p w ≡ number q v
 
 -- the windows of a function, none where it is not there
 abbrev pub windows_there : Bounds → ℕ → Option (Body ℕ) → List Window

@@ -7,13 +7,14 @@ use Rattle.std.specs.List.{list_any}
 use Rattle.go_constants.specs.declared.values.Const.{Const}
 use Rattle.go_print.specs.Literals.{literal_text}
 use Rattle.go_typed.specs.Forms.{local_of}
-use Rattle.go_typed.specs.Trees.{Sort, Nothing, Typed, typed, Typeds, none, more, skip, sort_of}
+use Rattle.go_typed.specs.Trees.{Sort, Nothing, Typed, typed, Typeds, none, more, skip}
 use Rattle.clone_window.specs.declared.outline.Outline.{Outline}
 use Rattle.clone_window.specs.Kinds.{outline}
 use Rattle.clone_window.specs.Masses.{is_hole, is_inside}
 use Rattle.clone_window.specs.Sameness.{Compared, by_form, by_sort, by_literal, compared, final, value_of}
 use Rattle.alpha_hash.specs.Hash.{text_fold}
-use Rattle.alpha_hash.specs.Naming.{Naming, final_text, field_of}
+use Rattle.clone_window.specs.Fields.{names_field, field_name}
+use Rattle.alpha_hash.specs.Naming.{Naming, final_text}
 
 pub data Word : Type 0 where
   number : ℕ → Word
@@ -78,21 +79,9 @@ local_words (Some l) = named l ∷ []
 abbrev pub object_words : {T : Type 0} → Naming T → Outline → List Word
 object_words n o = one_if (nat_eq o.kind 32) (text_fold (n.object_text o))
 
--- what the first part stands for
-abbrev pub operand : {T : Type 0} → Typeds T → Sort T
-operand none = Nothing
-operand (more p ps) = sort_of p
-operand (skip ps) = Nothing
-
-abbrev pub names_field : Outline → Bool
-names_field o = is_one_of (36 ∷ 51 ∷ []) o.kind
-
 -- the name of the field that is selected of the first part, or for which an element of a composite literal stands
-abbrev pub field_name : {T : Type 0} → Naming T → Sort T → Outline → Typeds T → List ℕ
-field_name n owner o ps = field_of n (final (if nat_eq o.kind 36 then operand ps else owner)) o.count
-
 abbrev pub field_words : {T : Type 0} → Naming T → Sort T → Outline → Typeds T → List Word
-field_words n owner o ps = one_if (names_field o) (text_fold (field_name n owner o ps))
+field_words n owner o ps = one_if (names_field o) (text_fold (field_name n.field_text owner o ps))
 
 abbrev pub value_text : Option Const → List ℕ
 value_text None = []

@@ -12,8 +12,8 @@ use go_typed::checked::Checked;
 use go_typed::window::Window;
 use std::alloc::{AllocError, Global};
 
-/// A number for each window of a package. Windows that are the same have one number, within a package and between packages that
-/// give their types, objects and fields the same names.
+/// A number for each window of a package. Windows that are the same have one number, within each package, and between packages
+/// that give their types and objects the same names.
 pub trait WindowHash {
     /// The number of a window of a package.
     ghost number: { Self → Package → Run → ℕ };

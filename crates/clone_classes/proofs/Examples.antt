@@ -44,8 +44,15 @@ assigned a b = bare (form.Assign 1) Nothing (bare (form.Local a) (Value 1) [] �
 abbrev body : List (Sort ℕ) → List (Typed ℕ) → Body ℕ
 body sorts ss = record { locals = sorts; root = bare form.Function Nothing (bare form.Block Nothing ss ∷ []) }
 
+-- fields have no names, or each type names its fields by its number
+abbrev unnamed : ℕ → ℕ → List ℕ
+unnamed t k = []
+
+abbrev numbered : ℕ → ℕ → List ℕ
+numbered t k = t ∷ []
+
 -- `func f() {}` and `func g() { f(); f(); f(); f() }`: windows of a class may overlap
-overlapping : listing nat_eq (record { fewest = 2; least = 6 }) (body [] [] ∷ body [] (replicate 4 called) ∷ [])
+overlapping : listing nat_eq unnamed (record { fewest = 2; least = 6 }) (body [] [] ∷ body [] (replicate 4 called) ∷ [])
     ≡ (run_at 1 0 0 2 ∷ run_at 1 0 1 2 ∷ run_at 1 0 2 2 ∷ []) ∷ (run_at 1 0 0 3 ∷ run_at 1 0 1 3 ∷ []) ∷ []
 overlapping = refl
 
@@ -53,6 +60,18 @@ overlapping = refl
 abbrev two : List (Sort ℕ)
 two = Value 1 ∷ Value 1 ∷ []
 
-not_one_to_one : listing nat_eq (record { fewest = 2; least = 6 })
+not_one_to_one : listing nat_eq unnamed (record { fewest = 2; least = 6 })
     (body two (assigned 0 1 ∷ assigned 1 0 ∷ []) ∷ body two (assigned 0 0 ∷ assigned 0 0 ∷ []) ∷ body two (assigned 0 1 ∷ assigned 0 1 ∷ []) ∷ []) ≡ []
 not_one_to_one = refl
+
+-- `f().x` where the call gives a value of this type
+abbrev selected : ℕ → Typed ℕ
+selected t = bare form.Expression Nothing (bare (form.Selector 0) (Value 1) (bare form.Call (Value t) (bare (form.Object (referent.Function 0)) (Value 0) [] ∷ []) ∷ []) ∷ [])
+
+-- fields of one place that have different names, and that have one name
+other_names : listing nat_eq numbered (record { fewest = 2; least = 6 }) (body [] (replicate 2 (selected 2)) ∷ body [] (replicate 2 (selected 3)) ∷ []) ≡ []
+other_names = refl
+
+one_name : listing nat_eq unnamed (record { fewest = 2; least = 6 }) (body [] (replicate 2 (selected 2)) ∷ body [] (replicate 2 (selected 3)) ∷ [])
+    ≡ (run_at 0 0 0 2 ∷ run_at 1 0 0 2 ∷ []) ∷ []
+one_name = refl

@@ -8,10 +8,11 @@ use Rattle.go_types.specs.Trees.{TypeTree, boolean, text, integer, array, slice,
 use Rattle.type_tests.specs.Identity.{same_name, same_names}
 use Rattle.go_typed.specs.declared.window.Window.{Window}
 use Rattle.go_typed.specs.Packages.{PackageView}
-use Rattle.clone_window.proofs.Equivalence.{same-refl, name-refl, name-sym, name-trans, number-sym, number-trans}
-use Rattle.clone_same.specs.Bodies.{bodies_of, locals_in, statements_at}
+use Rattle.clone_window.proofs.Equivalence.{name-refl, name-sym, name-trans, number-sym, number-trans}
+use Rattle.clone_same.specs.Bodies.{bodies_of}
+use Rattle.clone_window.specs.Fields.{field_text}
 use Rattle.clone_classes.specs.Heads.{Home, in_package, in_function, home_of, same_home, homes_match, corresponds, matches, all_match, identical_between, same_between}
-use Rattle.clone_classes.proofs.Sameness.{between-sym, between-trans}
+use Rattle.clone_classes.proofs.Sameness.{between-sym, between-trans, itself}
 
 names-refl : (xs : List (List ℕ)) → same_names xs xs ≡ true
 names-refl [] = refl
@@ -325,12 +326,11 @@ type-trans p q r t u v h g =
     (type_of p.types.shapes t) (type_of q.types.shapes u) (type_of r.types.shapes v) h g
 
 pub window-refl : (p : PackageView) (w : Window) → same_between p p w w ≡ true
-window-refl p w =
-    same-refl (identical_between p p) (type-refl p) (locals_in (slice_get (bodies_of p.functions) w.func)) (statements_at (slice_get (bodies_of p.functions) w.func) w)
+window-refl p w = itself (identical_between p p) (type-refl p) (field_text p.types) (bodies_of p.functions) w
 
 pub window-sym : (p q : PackageView) (w v : Window) → same_between p q w v ≡ true → same_between q p v w ≡ true
-window-sym p q w v = between-sym (identical_between p q) (identical_between q p) (type-sym p q) (bodies_of p.functions) (bodies_of q.functions) w v
+window-sym p q w v = between-sym (identical_between p q) (identical_between q p) (type-sym p q) (field_text p.types) (field_text q.types) (bodies_of p.functions) (bodies_of q.functions) w v
 
 pub window-trans : (p q r : PackageView) (w v x : Window) → same_between p q w v ≡ true → same_between q r v x ≡ true → same_between p r w x ≡ true
 window-trans p q r w v x =
-    between-trans (identical_between p q) (identical_between q r) (identical_between p r) (type-trans p q r) (bodies_of p.functions) (bodies_of q.functions) (bodies_of r.functions) w v x
+    between-trans (identical_between p q) (identical_between q r) (identical_between p r) (type-trans p q r) (field_text p.types) (field_text q.types) (field_text r.types) (bodies_of p.functions) (bodies_of q.functions) (bodies_of r.functions) w v x

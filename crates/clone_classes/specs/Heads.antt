@@ -22,6 +22,7 @@ use Rattle.go_typed.specs.declared.origin.Origin.TheVariants as origin
 use Rattle.go_typed.specs.declared.window.Window.{Window}
 use Rattle.go_typed.specs.Packages.{PackageView}
 use Rattle.clone_same.specs.Bodies.{are_same, bodies_of}
+use Rattle.clone_window.specs.Fields.{field_text}
 
 -- ---- where a declared type stands
 
@@ -109,4 +110,4 @@ identical_between p q t u = matches (corresponds p q) (type_of p.types.shapes t)
 
 -- A window of the one package and a window of the other are the same.
 abbrev pub same_between : PackageView → PackageView → Window → Window → Bool
-same_between p q w v = are_same (identical_between p q) (bodies_of p.functions) (bodies_of q.functions) w v
+same_between p q w v = are_same (identical_between p q) (field_text p.types) (field_text q.types) (bodies_of p.functions) (bodies_of q.functions) w v

@@ -9,18 +9,20 @@ ghost use Rattle.clone_classes.specs.Classes.{classes, Among, Agree, AllApart, I
 ghost use Rattle.clone_classes.specs.Heads.{same_between};
 ghost use Rattle.clone_classes.specs.Listing.{windows_of_all, listing};
 ghost use Rattle.clone_same.specs.Bodies.{Body, are_same};
+ghost use Rattle.clone_window.specs.Fields.{FieldNames};
 
-/// Sameness is an equivalence on the windows of a package, whatever equivalence tells identical types.
+/// Sameness is an equivalence on the windows of a package, whatever equivalence tells identical types, and whatever names fields have.
 pub fn sameness_is_an_equivalence()
-    ensures { (identical : ℕ → ℕ → Bool) → IsEquivalent identical → (bodies : List (Body ℕ)) → IsEquivalent (are_same identical bodies bodies) }
+    ensures { (identical : ℕ → ℕ → Bool) → IsEquivalent identical → (fields : FieldNames ℕ) (bodies : List (Body ℕ)) → IsEquivalent (are_same identical fields fields bodies bodies) }
 {}
 
 /// Between packages sameness turns and joins as the tests of identical types do.
 pub fn sameness_between_packages()
-    ensures symmetric { (there back : ℕ → ℕ → Bool) → ((t u : ℕ) → there t u ≡ true → back u t ≡ true) → (here others : List (Body ℕ)) (w v : Run)
-        → are_same there here others w v ≡ true → are_same back others here v w ≡ true }
+    ensures symmetric { (there back : ℕ → ℕ → Bool) → ((t u : ℕ) → there t u ≡ true → back u t ≡ true) → (n m : FieldNames ℕ) (here others : List (Body ℕ)) (w v : Run)
+        → are_same there n m here others w v ≡ true → are_same back m n others here v w ≡ true }
     ensures transitive { (first second both : ℕ → ℕ → Bool) → ((t u v : ℕ) → first t u ≡ true → second u v ≡ true → both t v ≡ true)
-        → (one two three : List (Body ℕ)) (w v x : Run) → are_same first one two w v ≡ true → are_same second two three v x ≡ true → are_same both one three w x ≡ true }
+        → (n m o : FieldNames ℕ) (one two three : List (Body ℕ)) (w v x : Run) → are_same first n m one two w v ≡ true → are_same second m o two three v x ≡ true
+        → are_same both n o one three w x ≡ true }
 {}
 
 /// Sameness is an equivalence also of windows of packages with equal heads, where types correspond by the places of their
@@ -33,21 +35,21 @@ pub fn sameness_under_equal_heads()
 
 /// Members of a class are windows, and each two of them are the same.
 pub fn members_are_the_same()
-    ensures windows { (bounds : Limits) (bodies : List (Body ℕ)) (class : List Run) → Among (listing nat_eq bounds bodies) class
+    ensures windows { (fields : FieldNames ℕ) (bounds : Limits) (bodies : List (Body ℕ)) (class : List Run) → Among (listing nat_eq fields bounds bodies) class
         → (w : Run) → Among class w → Among (windows_of_all bounds 0 bodies) w }
-    ensures alike { (bounds : Limits) (bodies : List (Body ℕ)) (class : List Run) → Among (listing nat_eq bounds bodies) class
-        → (w v : Run) → Among class w → Among class v → are_same nat_eq bodies bodies w v ≡ true }
+    ensures alike { (fields : FieldNames ℕ) (bounds : Limits) (bodies : List (Body ℕ)) (class : List Run) → Among (listing nat_eq fields bounds bodies) class
+        → (w v : Run) → Among class w → Among class v → are_same nat_eq fields fields bodies bodies w v ≡ true }
 {}
 
 /// Two windows that are the same stand in one class.
 pub fn the_same_stand_together()
-    ensures { (bounds : Limits) (bodies : List (Body ℕ)) (w v : Run) → (w ≡ v → ⊥) → are_same nat_eq bodies bodies w v ≡ true
-        → Among (windows_of_all bounds 0 bodies) w → Among (windows_of_all bounds 0 bodies) v → Together (listing nat_eq bounds bodies) w v }
+    ensures { (fields : FieldNames ℕ) (bounds : Limits) (bodies : List (Body ℕ)) (w v : Run) → (w ≡ v → ⊥) → are_same nat_eq fields fields bodies bodies w v ≡ true
+        → Among (windows_of_all bounds 0 bodies) w → Among (windows_of_all bounds 0 bodies) v → Together (listing nat_eq fields bounds bodies) w v }
 {}
 
 /// No window stands in two classes.
 pub fn no_window_stands_in_two()
-    ensures { (bounds : Limits) (bodies : List (Body ℕ)) → AllApart (listing nat_eq bounds bodies) }
+    ensures { (fields : FieldNames ℕ) (bounds : Limits) (bodies : List (Body ℕ)) → AllApart (listing nat_eq fields bounds bodies) }
 {}
 
 /// Pairs are one to one exactly where each two of them have one first local just where they have one second local.

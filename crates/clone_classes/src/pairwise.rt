@@ -1,10 +1,10 @@
 //! Clone classes by comparing every window with every other.
 
-ghost use Rattle.std.specs.Prelude.{◌≡◌, ◌≤◌, ◌∷◌, ◌++◌, length, filter, nat_eq, nat_lt, if◌then◌else◌, [], IfOk, OnOk};
+ghost use Rattle.std.specs.Prelude.{◌≡◌, ◌≤◌, ◌∷◌, ◌++◌, length, filter, nat_lt, if◌then◌else◌, [], IfOk, OnOk};
 ghost use Rattle.std.specs.List.{list_any};
-ghost use Rattle.clone_same.specs.Bodies.{are_same, bodies_of};
+ghost use Rattle.clone_same.specs.Bodies.{bodies_of, same_in};
 ghost use Rattle.clone_classes.specs.Classes.{class_led_by};
-ghost use Rattle.clone_classes.specs.Listing.{listing, members_of, windows_of_all};
+ghost use Rattle.clone_classes.specs.Listing.{listing_in, members_of, windows_of_all};
 
 use clone_same::same::same;
 use clone_window::windows::windows_of;
@@ -31,7 +31,7 @@ pub fn pairwise<L: Ledger>(
     requires at_most { min ≤ 32 }
     requires heavy { 1 ≤ mass }
     requires light { mass ≤ 1000 }
-    ensures { IfOk result (λ cs. members_of cs.items ≡ listing nat_eq (record { fewest = min; least = mass }) (bodies_of checked.now.functions)) }
+    ensures { IfOk result (λ cs. members_of cs.items ≡ listing_in (record { fewest = min; least = mass }) checked.now) }
 {
     let windows = all_windows(alloc, checked, min, mass)?;
     let mut classes = Vec::new(alloc);
@@ -87,7 +87,7 @@ fn push_class<L: Ledger>(
     classes: &mut Vec<Class>,
 ) -> Result<(), Memory>
     ensures { OnOk result (members_of classes.new.items ≡ members_of classes.old.items
-        ++ class_led_by (are_same nat_eq (bodies_of checked.now.functions) (bodies_of checked.now.functions)) earlier.now window later.now) }
+        ++ class_led_by (same_in checked.now) earlier.now window later.now) }
 {
     if is_among(alloc, checked, window, earlier, steps)? {
         return Ok(());
@@ -116,7 +116,7 @@ fn is_among<L: Ledger>(
     others: &[Window],
     steps: &mut Steps<L>,
 ) -> Result<bool, Memory>
-    ensures { IfOk result (λ b. b ≡ list_any (are_same nat_eq (bodies_of checked.now.functions) (bodies_of checked.now.functions) window) others.now) }
+    ensures { IfOk result (λ b. b ≡ list_any (same_in checked.now window) others.now) }
 {
     for other in others {
         if same(alloc, checked, window, *other, steps)? {
@@ -134,7 +134,7 @@ fn led_by<L: Ledger>(
     others: &[Window],
     steps: &mut Steps<L>,
 ) -> Result<Vec<Window>, Memory>
-    ensures { IfOk result (λ v. v.items ≡ window ∷ filter (are_same nat_eq (bodies_of checked.now.functions) (bodies_of checked.now.functions) window) others.now) }
+    ensures { IfOk result (λ v. v.items ≡ window ∷ filter (same_in checked.now window) others.now) }
 {
     let mut members = Vec::new(alloc);
     members.push(window)?;

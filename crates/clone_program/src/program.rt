@@ -11,7 +11,7 @@ use clone_workspace::{Check, PackageWorkspace};
 use go_base::FileText;
 use go_checked::CheckedPackage;
 use go_reading::CheckError;
-use rolling_hash::field_blind::FieldBlindHash;
+use rolling_hash::alpha::AlphaHash;
 use std::alloc::Global;
 use std::process::ExitCode;
 use std::rt::{Env, Files};
@@ -28,7 +28,7 @@ impl Check for PackageCheck {
 
 /// What answers the commands: a workspace over the check of a whole package, which finds windows by their numbers without names
 /// of fields.
-pub type Goclone = PackageWorkspace<PackageCheck, FieldBlindHash>;
+pub type Goclone = PackageWorkspace<PackageCheck, AlphaHash>;
 
 /// Runs the program over the folders of the file system, standard input and standard output.
 pub fn run<R: Env + Files + Input + Print + AllocGlobal + Copy>(rt: R) -> ExitCode {

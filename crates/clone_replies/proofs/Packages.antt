@@ -5,7 +5,7 @@ use Rattle.std.proofs.lemmas.Bool.Decides.{nat_tests}
 use Rattle.std.specs.Prelude.{◌&&◌, ◌↔◌, nat_eq, nat_lt}
 use Rattle.std.specs.List.{list_all}
 use Rattle.go_tree.specs.File.{FileTree}
-use Rattle.go_types.specs.Tables.{Table, IsTable, type_of}
+use Rattle.go_types.specs.Tables.{Table, IsTable, rights_of, type_of}
 use Rattle.go_types.specs.Trees.{TypeTree, Identical}
 use Rattle.type_tests.specs.Identity.{is_identical}
 use Rattle.type_tests.specs.Renaming.{renamed, IsOneToOne}
@@ -15,9 +15,11 @@ use Rattle.go_typed.specs.Packages.{PackageView, IsPackage, Counts, counts, is_b
 use Rattle.go_typed.specs.Trees.{sort_has, every, every_form}
 use Rattle.clone_window.specs.declared.bounds.Bounds.{Bounds}
 use Rattle.clone_same.specs.Bodies.{Body, body_of, bodies_of}
-use Rattle.clone_classes.specs.Listing.{listing}
+use Rattle.clone_window.specs.Fields.{FieldNames, field_by, field_text}
+use Rattle.clone_classes.specs.Listing.{listing, listing_in}
 use Rattle.clone_replies.specs.Classes.{Listed, classes_in, body_in, listed_content, listed_package, shown_class}
 use Rattle.clone_replies.specs.Listing.{listing_by, listing_reply, listing_text}
+use Rattle.clone_replies.proofs.Fields.{SameFields, UnderlyingRenamed, fields-renamed}
 use Rattle.clone_replies.proofs.Mapped.{body-mapped}
 use Rattle.clone_replies.proofs.Places.{listed-mapped, all-shown-mapped}
 use Rattle.clone_replies.proofs.Tested.{passes, any-bodies, listing-mapped}
@@ -27,22 +29,23 @@ use Rattle.clone_replies.proofs.Tested.{passes, any-bodies, listing-mapped}
 abbrev Keeps : {T U : Type 0} → (T → U) → (T → T → Bool) → (U → U → Bool) → (T → Bool) → Type 0
 Keeps {T} {U} g d e P = (t u : T) → P t ≡ true → P u ≡ true → e (g t) (g u) ≡ d t u
 
-listing-by-mapped : {T U : Type 0} (g : T → U) (d : T → T → Bool) (e : U → U → Bool) (P : T → Bool) → Keeps g d e P →
-    (bounds : Bounds) (l : Listed T) → list_all (passes P) l.bodies ≡ true → listing_by e bounds (listed-mapped g l) ≡ listing_by d bounds l
-listing-by-mapped g d e P keeps bounds l h =
+listing-by-mapped : {T U : Type 0} (g : T → U) (m : FieldNames U) (d : T → T → Bool) (e : U → U → Bool) (P : T → Bool) → Keeps g d e P →
+    (bounds : Bounds) (l : Listed T) → SameFields g l.fields m → list_all (passes P) l.bodies ≡ true → listing_by e bounds (listed-mapped g m l) ≡ listing_by d bounds l
+listing-by-mapped g m d e P keeps bounds l same h =
     ap (listing_text l.names)
-    (ap (map (shown_class (listed-mapped g l))) (listing-mapped g d e P keeps bounds l.bodies h) ∙ all-shown-mapped g l (listing d bounds l.bodies))
+    (ap (map (shown_class (listed-mapped g m l))) (listing-mapped g d e P keeps l.fields m same bounds l.bodies h) ∙ all-shown-mapped g m l (listing d l.fields bounds l.bodies))
 
 abbrev listed-by : {T : Type 0} → Listed T → List (Body T) → Listed T
-listed-by l bs = record { names = l.names; files = l.files; bodies = bs }
+listed-by l bs = record { names = l.names; files = l.files; fields = l.fields; bodies = bs }
 
 -- ---- numbers of types
 
--- what is known of identity
+-- what is known of types
 pub record OfTypes : Type 0 where
   pub numbers : (t : Table) (i j : ℕ) → IsTable t → i < length t.shapes → j < length t.shapes → (i ≡ j) ↔ Identical (type_of t.shapes i) (type_of t.shapes j)
   pub test : (t u : TypeTree) → (is_identical t u ≡ true) ↔ Identical t u
   pub renamings : (name : ℕ → ℕ) (t u : TypeTree) → IsOneToOne name → is_identical (renamed name t) (renamed name u) ≡ is_identical t u
+  pub underlying : UnderlyingRenamed
 
 same-bool : (a b : Bool) → (a ≡ true → b ≡ true) → (b ≡ true → a ≡ true) → a ≡ b
 same-bool true b f h = sym (f refl)
@@ -78,19 +81,19 @@ known-pass c n (f ∷ fs) h =
 keeps-numbers : OfTypes → (p : PackageView) → IsTable p.types → Keeps (type_of p.types.shapes) nat_eq is_identical (is_below (length p.types.shapes))
 keeps-numbers law p table = λ i j h k. identical-numbers law p.types i j table h k
 
-classes-of-numbers : OfTypes → (bounds : Bounds) (p : PackageView) → IsPackage p → IsTable p.types → classes_in bounds (content p) ≡ listing nat_eq bounds (bodies_of p.functions)
+classes-of-numbers : OfTypes → (bounds : Bounds) (p : PackageView) → IsPackage p → IsTable p.types → classes_in bounds (content p) ≡ listing_in bounds p
 classes-of-numbers law bounds p stands table =
     let g : ℕ → TypeTree = type_of p.types.shapes in
     let n = length p.types.shapes in
-    ap (listing is_identical bounds) (bodies-of-content g p.functions)
-    ∙ listing-mapped g nat_eq is_identical (is_below n) (keeps-numbers law p table) bounds (bodies_of p.functions) (known-pass (counts p) n p.functions stands.known_functions)
+    ap (listing is_identical (field_by (rights_of p.types)) bounds) (bodies-of-content g p.functions)
+    ∙ listing-mapped g nat_eq is_identical (is_below n) (keeps-numbers law p table) (field_text p.types) (field_by (rights_of p.types)) (λ t k. refl) bounds (bodies_of p.functions) (known-pass (counts p) n p.functions stands.known_functions)
 
 of-numbers : OfTypes → (bounds : Bounds) (p : PackageView) → IsPackage p → IsTable p.types → listing_reply bounds (content p) ≡ listing_by nat_eq bounds (listed_package p)
 of-numbers law bounds p stands table =
     let g : ℕ → TypeTree = type_of p.types.shapes in
     let n = length p.types.shapes in
     ap (λ bs. listing_by is_identical bounds (listed-by (listed_content (content p)) bs)) (bodies-of-content g p.functions)
-    ∙ listing-by-mapped g nat_eq is_identical (is_below n) (keeps-numbers law p table) bounds (listed_package p)
+    ∙ listing-by-mapped g (field_by (rights_of p.types)) nat_eq is_identical (is_below n) (keeps-numbers law p table) bounds (listed_package p) (λ t k. refl)
     (known-pass (counts p) n p.functions stands.known_functions)
 
 -- ---- numbers of declared types
@@ -99,25 +102,27 @@ bodies-renamed : (name : ℕ → ℕ) (fs : List FuncContent) → map body_in (m
 bodies-renamed name [] = refl
 bodies-renamed name (f ∷ fs) = ap (λ bs. body-mapped (renamed name) (body_in f) ∷ bs) (bodies-renamed name fs)
 
-abbrev listed-of : List (List ℕ) → List FileTree → List (Body TypeTree) → Listed TypeTree
-listed-of names files bs = record { names = names; files = files; bodies = bs }
+abbrev listed-of : List (List ℕ) → List FileTree → FieldNames TypeTree → List (Body TypeTree) → Listed TypeTree
+listed-of names files fields bs = record { names = names; files = files; fields = fields; bodies = bs }
 
 keeps-renamed : OfTypes → (name : ℕ → ℕ) → IsOneToOne name → Keeps (renamed name) is_identical is_identical (λ t. true)
 keeps-renamed law name one = λ t u p q. law.renamings name t u one
 
 classes-of-renamings : OfTypes → (bounds : Bounds) (name : ℕ → ℕ) (c d : Content) → IsRenamed name c d → classes_in bounds d ≡ classes_in bounds c
 classes-of-renamings law bounds name c d h =
-    ap (λ fs. listing is_identical bounds (map body_in fs)) h.functions
-    ∙ ap (listing is_identical bounds) (bodies-renamed name c.functions)
-    ∙ listing-mapped (renamed name) is_identical is_identical (λ t. true) (keeps-renamed law name h.one_to_one) bounds (map body_in c.functions) (any-bodies (map body_in c.functions))
+    ap (λ fs. listing is_identical (field_by d.rights) bounds (map body_in fs)) h.functions
+    ∙ ap (listing is_identical (field_by d.rights) bounds) (bodies-renamed name c.functions)
+    ∙ listing-mapped (renamed name) is_identical is_identical (λ t. true) (keeps-renamed law name h.one_to_one)
+    (field_by c.rights) (field_by d.rights) (fields-renamed law.underlying name c.rights d.rights h.rights) bounds (map body_in c.functions) (any-bodies (map body_in c.functions))
 
 of-renamings : OfTypes → (bounds : Bounds) (name : ℕ → ℕ) (c d : Content) → IsRenamed name c d → listing_reply bounds d ≡ listing_reply bounds c
 of-renamings law bounds name c d h =
-    ap (λ names. listing_by is_identical bounds (listed-of names d.files (map body_in d.functions))) h.names
-    ∙ ap (λ files. listing_by is_identical bounds (listed-of c.names files (map body_in d.functions))) h.files
-    ∙ ap (λ fs. listing_by is_identical bounds (listed-of c.names c.files (map body_in fs))) h.functions
-    ∙ ap (λ bs. listing_by is_identical bounds (listed-of c.names c.files bs)) (bodies-renamed name c.functions)
-    ∙ listing-by-mapped (renamed name) is_identical is_identical (λ t. true) (keeps-renamed law name h.one_to_one) bounds (listed_content c)
+    ap (λ names. listing_by is_identical bounds (listed-of names d.files (field_by d.rights) (map body_in d.functions))) h.names
+    ∙ ap (λ files. listing_by is_identical bounds (listed-of c.names files (field_by d.rights) (map body_in d.functions))) h.files
+    ∙ ap (λ fs. listing_by is_identical bounds (listed-of c.names c.files (field_by d.rights) (map body_in fs))) h.functions
+    ∙ ap (λ bs. listing_by is_identical bounds (listed-of c.names c.files (field_by d.rights) bs)) (bodies-renamed name c.functions)
+    ∙ listing-by-mapped (renamed name) (field_by d.rights) is_identical is_identical (λ t. true) (keeps-renamed law name h.one_to_one) bounds (listed_content c)
+    (fields-renamed law.underlying name c.rights d.rights h.rights)
     (any-bodies (map body_in c.functions))
 
 pub of-types : OfTypes → (bounds : Bounds) (p : PackageView) (c : Content) → IsPackage p → IsTable p.types → IsPackageOf c (content p) →
@@ -125,5 +130,5 @@ pub of-types : OfTypes → (bounds : Bounds) (p : PackageView) (c : Content) →
 of-types law bounds p c stands table h = sym (of-numbers law bounds p stands table) ∙ of-renamings law bounds h.0 c (content p) h.1
 
 pub classes-of-types : OfTypes → (bounds : Bounds) (p : PackageView) (c : Content) → IsPackage p → IsTable p.types → IsPackageOf c (content p) →
-    listing nat_eq bounds (bodies_of p.functions) ≡ classes_in bounds c
+    listing_in bounds p ≡ classes_in bounds c
 classes-of-types law bounds p c stands table h = sym (classes-of-numbers law bounds p stands table) ∙ classes-of-renamings law bounds h.0 c (content p) h.1

@@ -15,6 +15,7 @@ use Rattle.go_typed.specs.Windows.{Range}
 use Rattle.clone_window.specs.Masses.{masses}
 use Rattle.clone_window.specs.Spans.{ByteRange, bytes_of, nowhere, places_from, span_there, window_range, window_span}
 use Rattle.clone_same.specs.Bodies.{body_of, statements_at}
+use Rattle.clone_window.specs.Fields.{FieldNames}
 use Rattle.clone_script.specs.declared.listing.ListedClass.{ListedClass}
 use Rattle.clone_script.specs.Listing as script
 use Rattle.clone_script.specs.Listing.{member_line, class_reply}
@@ -24,9 +25,9 @@ use Rattle.clone_replies.proofs.Mapped.{body-mapped, masses-mapped, range-mapped
 
 -- ---- over other words for types
 
-module _ {T U : Type 0} (g : T → U) where
+module _ {T U : Type 0} (g : T → U) (fields : FieldNames U) where
   abbrev pub listed-mapped : Listed T → Listed U
-  listed-mapped l = record { names = l.names; files = l.files; bodies = map (body-mapped g) l.bodies }
+  listed-mapped l = record { names = l.names; files = l.files; fields = fields; bodies = map (body-mapped g) l.bodies }
 
   bytes-mapped : (l : Listed T) (w : Window) → window_bytes (listed-mapped l) w ≡ window_bytes l w
   bytes-mapped l w =

@@ -17,8 +17,10 @@ use Rattle.clone_window.specs.Sameness.{Final, of_type, of_kind, of_none, final,
 use Rattle.clone_window.specs.Sameness.{by_sort, by_literal, compared, agree_besides, agree_at, agree, all_agree, all_locals, local_pairs, is_one_to_one, sort_at, is_matched, is_same}
 use Rattle.clone_window.specs.Windows.{row_of, statements_in, window_statements}
 use Rattle.clone_same.specs.Bodies.{Body, locals_in, statements_at, are_same}
+use Rattle.clone_window.specs.Fields.{FieldNames, window_fields_agree}
 use Rattle.clone_classes.specs.Classes.{classes}
 use Rattle.clone_classes.specs.Listing.{windows_of_all, listing}
+use Rattle.clone_replies.proofs.Fields.{SameFields, all-fields, final_mapped, final-mapped}
 use Rattle.clone_replies.proofs.Mapped.{hole-mapped, inside-mapped, all-locals-mapped, body-mapped, statements-at-mapped, all-windows-mapped}
 
 -- all types of a function pass
@@ -146,26 +148,6 @@ module _ {T : Type 0} where
 -- ---- what sorts show
 
 module _ {T U : Type 0} (g : T → U) where
-  abbrev pub final_mapped : Final T → Final U
-  final_mapped (of_type t) = of_type (g t)
-  final_mapped (of_kind k) = of_kind k
-  final_mapped of_none = of_none
-
-  pub final-mapped : (s : Sort T) → final (sort_mapped g s) ≡ final_mapped (final s)
-  final-mapped Nothing = refl
-  final-mapped Unknown = refl
-  final-mapped Blank = refl
-  final-mapped Nil = refl
-  final-mapped (Builtin b) = refl
-  final-mapped Println = refl
-  final-mapped Package = refl
-  final-mapped (IsType t) = refl
-  final-mapped (Value t) = refl
-  final-mapped (Constant t c) = refl
-  final-mapped (Open u) = refl
-  final-mapped (OpenConstant c) = refl
-  final-mapped (Results t) = refl
-
   standing-mapped : (s : Sort T) → standing (sort_mapped g s) ≡ standing s
   standing-mapped Nothing = refl
   standing-mapped Unknown = refl
@@ -323,8 +305,11 @@ module _ {T U : Type 0} (g : T → U) (d : T → T → Bool) (e : U → U → Bo
       ∙ ap (λ b. b && is_one_to_one (local_pairs ps qs) && list_all (is_matched e here' there') (local_pairs ps qs)) (rows false false ps qs x y)
       ∙ ap (λ b. all_agree d false false ps qs && is_one_to_one (local_pairs ps qs) && b) (all-matched here there (local_pairs ps qs) p q)
 
-  same-mapped : (bs : List (Body T)) → list_all (passes P) bs ≡ true → (w v : Window) → are_same e (map (body-mapped g) bs) (map (body-mapped g) bs) w v ≡ are_same d bs bs w v
-  same-mapped bs h w v =
+  abbrev nodes-same : {V : Type 0} → (V → V → Bool) → List (Body V) → Window → Window → Bool
+  nodes-same i bs w v = is_same i (locals_in (slice_get bs w.func)) (locals_in (slice_get bs v.func)) (statements_at (slice_get bs w.func) w) (statements_at (slice_get bs v.func) v)
+
+  nodes-mapped : (bs : List (Body T)) → list_all (passes P) bs ≡ true → (w v : Window) → nodes-same e (map (body-mapped g) bs) w v ≡ nodes-same d bs w v
+  nodes-mapped bs h w v =
       let cs = map (body-mapped g) bs in
       let ws = statements_at (slice_get bs w.func) w in
       let vs = statements_at (slice_get bs v.func) v in
@@ -334,7 +319,19 @@ module _ {T U : Type 0} (g : T → U) (d : T → T → Bool) (e : U → U → Bo
       ∙ ap (λ ps. is_same e (map (sort_mapped g) (locals_in (slice_get bs w.func))) (map (sort_mapped g) (locals_in (slice_get bs v.func))) (all_mapped g ws) ps) (statements-at-mapped g bs v)
       ∙ runs (locals_in (slice_get bs w.func)) (locals_in (slice_get bs v.func)) ws vs (locals-pass P bs w.func h) (locals-pass P bs v.func h) (there-passes P bs w.func w h) (there-passes P bs v.func v h)
 
-  pub listing-mapped : (bounds : Bounds) (bs : List (Body T)) → list_all (passes P) bs ≡ true → listing e bounds (map (body-mapped g) bs) ≡ listing d bounds bs
-  listing-mapped bounds bs h =
-      ap (λ (same : Window → Window → Bool). classes same (windows_of_all bounds 0 (map (body-mapped g) bs))) (fun_ext (λ w. fun_ext (λ v. same-mapped bs h w v)))
-      ∙ ap (classes (are_same d bs bs)) (all-windows-mapped g bounds 0 bs)
+  same-mapped : (n : FieldNames T) (m : FieldNames U) → SameFields g n m → (bs : List (Body T)) → list_all (passes P) bs ≡ true → (w v : Window) →
+      are_same e m m (map (body-mapped g) bs) (map (body-mapped g) bs) w v ≡ are_same d n n bs bs w v
+  same-mapped n m same bs h w v =
+      let cs = map (body-mapped g) bs in
+      let ws = statements_at (slice_get bs w.func) w in
+      let vs = statements_at (slice_get bs v.func) v in
+      ap (λ b. b && window_fields_agree m m (statements_at (slice_get cs w.func) w) (statements_at (slice_get cs v.func) v)) (nodes-mapped bs h w v)
+      ∙ ap (λ ps. nodes-same d bs w v && window_fields_agree m m ps (statements_at (slice_get cs v.func) v)) (statements-at-mapped g bs w)
+      ∙ ap (λ ps. nodes-same d bs w v && window_fields_agree m m (all_mapped g ws) ps) (statements-at-mapped g bs v)
+      ∙ ap (λ b. nodes-same d bs w v && b) (all-fields g n m same false false Nothing Nothing ws vs)
+
+  pub listing-mapped : (n : FieldNames T) (m : FieldNames U) → SameFields g n m → (bounds : Bounds) (bs : List (Body T)) → list_all (passes P) bs ≡ true →
+      listing e m bounds (map (body-mapped g) bs) ≡ listing d n bounds bs
+  listing-mapped n m same bounds bs h =
+      ap (λ (same : Window → Window → Bool). classes same (windows_of_all bounds 0 (map (body-mapped g) bs))) (fun_ext (λ w. fun_ext (λ v. same-mapped n m same bs h w v)))
+      ∙ ap (classes (are_same d n n bs bs)) (all-windows-mapped g bounds 0 bs)

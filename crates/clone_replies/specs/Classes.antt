@@ -12,12 +12,15 @@ use Rattle.clone_window.specs.declared.bounds.Bounds.{Bounds}
 use Rattle.clone_window.specs.Masses.{masses}
 use Rattle.clone_window.specs.Spans.{ByteRange, nowhere, places_from, range_over, span_there}
 use Rattle.clone_same.specs.Bodies.{Body, bodies_of, statements_at}
+use Rattle.clone_window.specs.Fields.{FieldNames, field_by, field_text}
 use Rattle.clone_classes.specs.Listing.{listing}
 
--- What a listing reads of a package: its files with their names, and its functions, over whatever stands for types.
+-- What a listing reads of a package: its files with their names, the names of the fields of its types, and its functions, over
+-- whatever stands for types.
 pub record Listed (T : Type 0) : Type 0 where
   pub names : List (List ℕ)
   pub files : List FileTree
+  pub fields : FieldNames T
   pub bodies : List (Body T)
 
 abbrev pub body_in : FuncContent → Body TypeTree
@@ -25,11 +28,11 @@ body_in f = record { locals = f.locals; root = f.tree }
 
 -- over the types themselves
 abbrev pub listed_content : Content → Listed TypeTree
-listed_content c = record { names = c.names; files = c.files; bodies = map body_in c.functions }
+listed_content c = record { names = c.names; files = c.files; fields = field_by c.rights; bodies = map body_in c.functions }
 
 -- over the numbers of types
 abbrev pub listed_package : PackageView → Listed ℕ
-listed_package p = record { names = p.names; files = p.files; bodies = bodies_of p.functions }
+listed_package p = record { names = p.names; files = p.files; fields = field_text p.types; bodies = bodies_of p.functions }
 
 -- the statements of a window
 abbrev pub statements_in : {T : Type 0} → Listed T → Window → Typeds T
@@ -56,8 +59,8 @@ shown_class l (w ∷ ws) = record { members = map (window_bytes l) (w ∷ ws); s
 
 -- what is shown of the clone classes, where a test tells which types are identical
 abbrev pub shown_classes : {T : Type 0} → (T → T → Bool) → Bounds → Listed T → List ShownClass
-shown_classes identical bounds l = map (shown_class l) (listing identical bounds l.bodies)
+shown_classes identical bounds l = map (shown_class l) (listing identical l.fields bounds l.bodies)
 
 -- The clone classes of a package that type-checks: each of its windows by these bounds is compared with every other.
 abbrev pub classes_in : Bounds → Content → List (List Window)
-classes_in bounds c = listing is_identical bounds (listed_content c).bodies
+classes_in bounds c = listing is_identical (field_by c.rights) bounds (listed_content c).bodies

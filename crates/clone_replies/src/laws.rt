@@ -6,8 +6,7 @@ ghost use Rattle.go_types.specs.Tables.{IsTable};
 ghost use Rattle.go_typed.specs.Contents.{Content, content, IsPackageOf};
 ghost use Rattle.go_typed.specs.Packages.{PackageView as Package, IsPackage};
 ghost use Rattle.clone_window.specs.declared.bounds.Bounds.{Bounds as Limits};
-ghost use Rattle.clone_same.specs.Bodies.{bodies_of};
-ghost use Rattle.clone_classes.specs.Listing.{listing};
+ghost use Rattle.clone_classes.specs.Listing.{listing_in};
 ghost use Rattle.clone_replies.specs.Classes.{classes_in, listed_package};
 ghost use Rattle.clone_replies.specs.Listing.{listing_by, listing_reply};
 
@@ -17,7 +16,7 @@ use type_tests::laws::{answers_are_renamed, functions_are_the_relations};
 /// A package that the program holds has the clone classes and the listing of the package over the types themselves, by the numbers
 /// of types that a table gives and by any numbers of declared types.
 pub fn listings_are_of_the_types()
-    ensures classes { (bounds : Limits) (p : Package) (c : Content) → IsPackage p → IsTable p.types → IsPackageOf c (content p) → listing nat_eq bounds (bodies_of p.functions) ≡ classes_in bounds c }
+    ensures classes { (bounds : Limits) (p : Package) (c : Content) → IsPackage p → IsTable p.types → IsPackageOf c (content p) → listing_in bounds p ≡ classes_in bounds c }
     ensures listing { (bounds : Limits) (p : Package) (c : Content) → IsPackage p → IsTable p.types → IsPackageOf c (content p) → listing_by nat_eq bounds (listed_package p) ≡ listing_reply bounds c }
 {
     equal_numbers_are_identical_types();

@@ -27,7 +27,7 @@ fn same_value(a: &Const, b: &Const) -> bool
 }
 
 /// Whether bytes are equal.
-fn same_bytes(a: &[u8], b: &[u8]) -> bool
+pub fn same_bytes(a: &[u8], b: &[u8]) -> bool
     ensures { result ≡ same_name a.now b.now }
 {
     a == b

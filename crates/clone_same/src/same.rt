@@ -1,11 +1,13 @@
 //! When two windows are the same.
 
-ghost use Rattle.std.specs.Prelude.{◌≡◌, ◌+◌, nat_eq, map, slice_get, IfOk};
+ghost use Rattle.std.specs.Prelude.{◌≡◌, ◌+◌, ◌&&◌, nat_eq, map, slice_get, IfOk};
 ghost use Rattle.go_typed.specs.Views.{sort_view, views};
 ghost use Rattle.clone_window.specs.Sameness.{is_same};
-ghost use Rattle.clone_same.specs.Bodies.{are_same, bodies_of, locals_in, statements_at};
+ghost use Rattle.clone_same.specs.Bodies.{bodies_of, locals_in, same_in, statements_at};
+ghost use Rattle.clone_window.specs.Fields.{field_text, window_fields_agree};
 
 use crate::agree::all_agree;
+use crate::fields::window_fields_agree;
 use crate::locals::locals_of;
 use crate::pairing::{are_matched, is_one_to_one};
 use clone_window::run::statements;
@@ -14,11 +16,13 @@ use go_typed::checked::Checked;
 use go_typed::node::TypedNode;
 use go_typed::sort::Sort;
 use go_typed::window::Window;
+use go_types::Types;
 use std::alloc::Global;
 use std::sync::ledger::Ledger;
 
-/// Whether two windows of a package are the same: their trees agree node by node up to constants, and the locals that they name
-/// are paired one to one, each with one that is alike. It counts one comparison, whatever it answers.
+/// Whether two windows of a package are the same: their trees agree node by node up to constants, the locals that they name are
+/// paired one to one, each with one that is alike, and the fields that they name at corresponding places have the same names. It
+/// counts one comparison, whatever it answers.
 ///
 /// # Errors
 ///
@@ -30,11 +34,12 @@ pub fn same<L: Ledger>(
     other: Window,
     steps: &mut Steps<L>,
 ) -> Result<bool, Memory>
-    ensures answer { IfOk result (λ b. b ≡ are_same nat_eq (bodies_of checked.now.functions) (bodies_of checked.now.functions) window other) }
+    ensures answer { IfOk result (λ b. b ≡ same_in checked.now window other) }
     ensures counted { steps.new ≡ record steps.old { compared = steps.old.compared + 1 } }
 {
     steps.tick_compared();
-    are_same(alloc, &run_of(checked, &window), &run_of(checked, &other))
+    let (run, other) = (run_of(checked, &window), run_of(checked, &other));
+    are_same(alloc, checked.types(), &run, &other)
 }
 
 /// Statements, and what the locals of their function stand for.
@@ -61,8 +66,22 @@ fn run_of<'a>(checked: &'a Checked, window: &Window) -> Run<'a>
     }
 }
 
-/// Whether two runs of statements are the same.
-fn are_same(alloc: Global, run: &Run<'_>, other: &Run<'_>) -> Result<bool, Memory>
+/// Whether two runs of statements are the same, also in the names of the fields of their types.
+fn are_same(
+    alloc: Global,
+    types: &Types,
+    run: &Run<'_>,
+    other: &Run<'_>,
+) -> Result<bool, Memory>
+    ensures { IfOk result (λ b. b ≡ (is_same nat_eq (map sort_view run.now.locals.now) (map sort_view other.now.locals.now) (views run.now.statements.now) (views other.now.statements.now)
+        && window_fields_agree (field_text types.now) (field_text types.now) (views run.now.statements.now) (views other.now.statements.now))) }
+{
+    let alike = are_alike(alloc, run, other)?;
+    Ok(alike && window_fields_agree(types, run.statements, other.statements))
+}
+
+/// Whether two runs of statements are the same but for the names of fields.
+fn are_alike(alloc: Global, run: &Run<'_>, other: &Run<'_>) -> Result<bool, Memory>
     ensures { IfOk result (λ b. b ≡ is_same nat_eq (map sort_view run.now.locals.now) (map sort_view other.now.locals.now) (views run.now.statements.now) (views other.now.statements.now)) }
 {
     if !all_agree(false, false, run.statements, other.statements) {

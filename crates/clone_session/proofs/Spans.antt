@@ -17,6 +17,7 @@ use Rattle.clone_window.specs.declared.span.FunctionPlace.{FunctionPlace}
 use Rattle.clone_window.specs.Masses.{masses}
 use Rattle.clone_window.specs.Spans.{ByteRange, nowhere, place_at, places_from, range_over, span_in, span_over, span_there}
 use Rattle.clone_same.specs.Bodies.{Body}
+use Rattle.clone_window.specs.Fields.{FieldNames}
 use Rattle.clone_classes.specs.Listing.{listing}
 use Rattle.clone_replies.specs.Classes.{Listed, ShownClass, shown_class, statements_in, window_bytes}
 use Rattle.clone_replies.specs.Listing.{listing_by, listing_text}
@@ -59,9 +60,9 @@ ranged-by fs func (Some r) =
 
 -- ---- listings of packages with such files
 
-module _ {T : Type 0} (names : List (List ℕ)) (bodies : List (Body T)) (fs gs : List FileTree) (same : map source_of fs ≡ map source_of gs) where
+module _ {T : Type 0} (names : List (List ℕ)) (fields : FieldNames T) (bodies : List (Body T)) (fs gs : List FileTree) (same : map source_of fs ≡ map source_of gs) where
   abbrev listed : List FileTree → Listed T
-  listed files = record { names = names; files = files; bodies = bodies }
+  listed files = record { names = names; files = files; fields = fields; bodies = bodies }
 
   same-bytes : (w : Window) → window_bytes (listed fs) w ≡ window_bytes (listed gs) w
   same-bytes w =
@@ -77,4 +78,4 @@ module _ {T : Type 0} (names : List (List ℕ)) (bodies : List (Body T)) (fs gs 
 
   pub same-listing : (identical : T → T → Bool) (bounds : Bounds) → listing_by identical bounds (listed fs) ≡ listing_by identical bounds (listed gs)
   same-listing identical bounds =
-      ap (λ (shown : List Window → ShownClass). listing_text names (map shown (listing identical bounds bodies))) (fun_ext same-shown)
+      ap (λ (shown : List Window → ShownClass). listing_text names (map shown (listing identical fields bounds bodies))) (fun_ext same-shown)

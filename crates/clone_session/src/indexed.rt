@@ -10,12 +10,12 @@ ghost use Rattle.clone_session.specs.Session.{IsIndexed, window_count};
 
 use crate::laws::listings_follow_from_the_texts;
 use crate::verdict::Verdict;
+use alpha_hash::window_hash::WindowHash;
 use go_base::{Memory, Steps};
 use go_typed::checked::Checked;
 use go_typed::window::Class;
 use package_index::classes::classes;
 use package_index::index::index_of;
-use rolling_hash::field_blind::UnconditionalHash;
 use std::alloc::Global;
 use std::sync::ledger::Ledger;
 use window_index::index::Index;
@@ -25,7 +25,7 @@ use window_index::index::Index;
 /// # Errors
 ///
 /// Want of memory.
-pub fn indexed<H: UnconditionalHash + Drop, L: Ledger>(
+pub fn indexed<H: WindowHash + Drop, L: Ledger>(
     alloc: Global,
     verdict: &Verdict,
     hash: H,
@@ -54,7 +54,7 @@ pub fn indexed<H: UnconditionalHash + Drop, L: Ledger>(
 /// # Errors
 ///
 /// Want of memory.
-pub fn classes_of<H: UnconditionalHash + Drop>(
+pub fn classes_of<H: WindowHash + Drop>(
     alloc: Global,
     checked: &Checked,
     index: &Index<H>,

@@ -7,8 +7,7 @@ ghost use Rattle.go_typed.specs.Contents.{Content};
 ghost use Rattle.go_typed.specs.Packages.{PackageView as Package};
 ghost use Rattle.go_package.specs.Checked.{IsChecked, IsCheckedPackage, texts_of};
 ghost use Rattle.clone_window.specs.declared.bounds.Bounds.{Bounds as Limits};
-ghost use Rattle.clone_same.specs.Bodies.{bodies_of};
-ghost use Rattle.clone_classes.specs.Listing.{listing};
+ghost use Rattle.clone_classes.specs.Listing.{listing_in};
 ghost use Rattle.clone_replies.specs.Classes.{classes_in, listed_package};
 ghost use Rattle.clone_replies.specs.Listing.{listing_by, listing_reply};
 ghost use Rattle.go_run.specs.Runs.{run_package};
@@ -22,7 +21,7 @@ use run_replies::laws::runs_are_of_the_content;
 
 /// The clone classes and the listing of a package that the program holds are those that follow from its bytes alone.
 pub fn listings_follow_from_the_texts()
-    ensures classes { (bounds : Limits) (p : Package) (c : Content) → IsCheckedPackage p → IsTable p.types → IsChecked (texts_of p) c → listing nat_eq bounds (bodies_of p.functions) ≡ classes_in bounds c }
+    ensures classes { (bounds : Limits) (p : Package) (c : Content) → IsCheckedPackage p → IsTable p.types → IsChecked (texts_of p) c → listing_in bounds p ≡ classes_in bounds c }
     ensures listing { (bounds : Limits) (p : Package) (c : Content) → IsCheckedPackage p → IsTable p.types → IsChecked (texts_of p) c → listing_by nat_eq bounds (listed_package p) ≡ listing_reply bounds c }
     ensures one { (bounds : Limits) (texts : List Text) (c d : Content) → IsChecked texts c → IsChecked texts d → listing_reply bounds c ≡ listing_reply bounds d }
 {

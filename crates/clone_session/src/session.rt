@@ -25,6 +25,7 @@ use crate::indexed::{classes_of, indexed};
 use crate::laws::listings_follow_from_the_texts;
 use crate::run::run_of;
 use crate::verdict::{Verdict, verdict_of};
+use alpha_hash::window_hash::WindowHash;
 use clone_replies::class_reply;
 use clone_script::Command;
 use clone_texts::{answer, file_at};
@@ -34,7 +35,6 @@ use go_run::outcome::{Outcome, RunError};
 use go_typed::checked::Checked;
 use go_typed::window::Class;
 use package_numbers::{Numbers, numbers_of};
-use rolling_hash::field_blind::UnconditionalHash;
 use std::alloc::Global;
 use std::marker::{Model, PhantomData};
 use std::sync::ledger::Ledger;
@@ -43,7 +43,7 @@ use window_index::index::Index;
 /// A session: the present texts of a package, and what the check says of them, where it was asked since they changed. Beside a
 /// package that type-checks stands the index of its windows.
 #[derive(Drop)]
-pub struct Session<C, H: UnconditionalHash> {
+pub struct Session<C, H: WindowHash> {
     alloc: Global,
     texts: Texts,
     min: u32,
@@ -54,7 +54,7 @@ pub struct Session<C, H: UnconditionalHash> {
     check: PhantomData<C>,
 }
 
-impl<C, H: UnconditionalHash> Model for Session<C, H> {
+impl<C, H: WindowHash> Model for Session<C, H> {
     ghost use Rattle.std.specs.Coded.{codes};
     ghost use Rattle.std.specs.Prelude.{IfSome};
     ghost use Rattle.go_tree.specs.contracts.node.Node as n;
@@ -71,7 +71,7 @@ impl<C, H: UnconditionalHash> Model for Session<C, H> {
         × IsIndexed H.number (record { fewest = s.min; least = s.mass }) s.verdict s.index };
 }
 
-impl<C: Check, H: UnconditionalHash + Copy + Drop> Session<C, H> {
+impl<C: Check, H: WindowHash + Copy + Drop> Session<C, H> {
     /// A session that begins with these files. Windows have from `min` to 32 statements and at least this mass; they are found by
     /// this hash.
     ///

@@ -8,3 +8,4 @@ pub mod Sizes
 pub mod Walks
 pub mod Weights
 pub mod Places
+pub mod Named

@@ -6,3 +6,4 @@ pub mod Windows
 pub mod Shown
 pub mod Spans
 pub mod Sameness
+pub mod Fields

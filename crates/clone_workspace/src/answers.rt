@@ -7,16 +7,16 @@ ghost use Rattle.clone_workspace.specs.Answers.{fault_line, Answers, IsListing, 
 
 use crate::numbers::numbers_line;
 use crate::run::ran;
+use alpha_hash::window_hash::WindowHash;
 use clone_script::{Command, fault_reply};
 use clone_session::{Check, Session};
 use go_base::{Bytes, Fault, Memory, Steps};
-use rolling_hash::field_blind::UnconditionalHash;
 use std::alloc::Global;
 use std::marker::Brand;
 use std::sync::ledger::{Blank, Ledger};
 
 /// Brings what is known up to the present texts, under a counter of its own.
-pub fn refresh<C: Check, H: UnconditionalHash + Copy + Drop, L: Ledger>(
+pub fn refresh<C: Check, H: WindowHash + Copy + Drop, L: Ledger>(
     session: &mut Session<C, H>,
     blank: Blank,
 ) -> Result<(), Memory>
@@ -31,7 +31,7 @@ pub fn refresh<C: Check, H: UnconditionalHash + Copy + Drop, L: Ledger>(
 }
 
 /// The line of a fault of the present package.
-pub fn fault_line<C: Check, H: UnconditionalHash + Copy + Drop>(
+pub fn fault_line<C: Check, H: WindowHash + Copy + Drop>(
     alloc: Global,
     session: &Session<C, H>,
     fault: &Fault,
@@ -46,7 +46,7 @@ pub fn fault_line<C: Check, H: UnconditionalHash + Copy + Drop>(
 }
 
 /// The reply to `classes`.
-fn classes<C: Check, H: UnconditionalHash + Copy + Drop>(
+fn classes<C: Check, H: WindowHash + Copy + Drop>(
     alloc: Global,
     session: &mut Session<C, H>,
 ) -> Result<Bytes, Memory>
@@ -61,7 +61,7 @@ fn classes<C: Check, H: UnconditionalHash + Copy + Drop>(
 }
 
 /// The reply to `stat`.
-fn stat<C: Check, H: UnconditionalHash + Copy + Drop>(
+fn stat<C: Check, H: WindowHash + Copy + Drop>(
     alloc: Global,
     session: &mut Session<C, H>,
 ) -> Result<Bytes, Memory>
@@ -76,7 +76,7 @@ fn stat<C: Check, H: UnconditionalHash + Copy + Drop>(
 }
 
 /// The reply to a command on texts.
-fn text<C: Check, H: UnconditionalHash + Copy + Drop>(
+fn text<C: Check, H: WindowHash + Copy + Drop>(
     session: &mut Session<C, H>,
     command: &Command,
 ) -> Result<Bytes, Memory>
@@ -88,7 +88,7 @@ fn text<C: Check, H: UnconditionalHash + Copy + Drop>(
 }
 
 /// The reply to a command that is neither `save` nor `quit`.
-pub fn answer<C: Check, H: UnconditionalHash + Copy + Drop>(
+pub fn answer<C: Check, H: WindowHash + Copy + Drop>(
     alloc: Global,
     session: &mut Session<C, H>,
     command: &Command,

@@ -6,14 +6,14 @@ ghost use Rattle.go_package.specs.Checked.{IsChecked};
 ghost use Rattle.clone_session.specs.Session.{IsGoodVerdict};
 ghost use Rattle.package_numbers.specs.Numbers.{numbers_in, numbers_reply};
 
+use alpha_hash::window_hash::WindowHash;
 use clone_script::stat_reply;
 use clone_session::{Check, Session};
 use go_base::{Bytes, Memory};
-use rolling_hash::field_blind::UnconditionalHash;
 use std::alloc::Global;
 
 /// The line of the numbers of the present package.
-pub fn numbers_line<C: Check, H: UnconditionalHash + Copy + Drop>(
+pub fn numbers_line<C: Check, H: WindowHash + Copy + Drop>(
     alloc: Global,
     session: &Session<C, H>,
 ) -> Result<Bytes, Memory>

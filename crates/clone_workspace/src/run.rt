@@ -9,16 +9,16 @@ ghost use Rattle.run_replies.specs.Replies.{run_words};
 ghost use Rattle.clone_workspace.specs.Answers.{IsRun, PackageReply};
 
 use crate::answers::{fault_line, refresh};
+use alpha_hash::window_hash::WindowHash;
 use clone_session::{Check, Session};
 use go_base::{Bytes, Memory};
-use rolling_hash::field_blind::UnconditionalHash;
 use run_replies::reply::reply_to;
 use std::alloc::Global;
 use std::marker::Brand;
 use std::sync::ledger::Blank;
 
 /// The reply to the run of a package that type-checks.
-fn run_reply<C: Check, H: UnconditionalHash + Copy + Drop>(
+fn run_reply<C: Check, H: WindowHash + Copy + Drop>(
     alloc: Global,
     session: &Session<C, H>,
     turns: u64,
@@ -32,7 +32,7 @@ fn run_reply<C: Check, H: UnconditionalHash + Copy + Drop>(
 }
 
 /// The reply to `run`.
-pub fn ran<C: Check, H: UnconditionalHash + Copy + Drop>(
+pub fn ran<C: Check, H: WindowHash + Copy + Drop>(
     alloc: Global,
     session: &mut Session<C, H>,
     turns: u64,

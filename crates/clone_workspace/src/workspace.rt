@@ -4,16 +4,16 @@ ghost use Rattle.std.specs.Prelude.{◌≡◌, length, slice_get, Some, IfOk, Is
 ghost use Rattle.clone_workspace.specs.Answers.{are_bounds, Answers, settings_of};
 
 use crate::answers::answer;
+use alpha_hash::window_hash::WindowHash;
 use clone_script::Command;
 use clone_server::Workspace;
 use clone_session::{Check, Session};
 use go_base::{Bytes, FileText, Memory};
-use rolling_hash::field_blind::UnconditionalHash;
 use std::alloc::Global;
 
 /// A session that answers the commands of a script, over a check and a hash of windows.
 #[derive(Drop)]
-pub struct PackageWorkspace<C, H: UnconditionalHash> {
+pub struct PackageWorkspace<C, H: WindowHash> {
     session: Session<C, H>,
 }
 
@@ -24,7 +24,7 @@ fn are_bounds(min: u32, mass: u32) -> bool
     1 <= min && min <= 32 && 1 <= mass && mass <= 1000
 }
 
-impl<C: Check, H: UnconditionalHash + Default + Copy + Drop> Workspace for PackageWorkspace<C, H> {
+impl<C: Check, H: WindowHash + Default + Copy + Drop> Workspace for PackageWorkspace<C, H> {
     ghost use Rattle.clone_workspace.specs.Answers.{Answers, settings_of};
 
     ghost files = { λ w. w.session.texts };

@@ -13,12 +13,12 @@ use Rattle.go_typed.specs.Funcs.{FuncView, tree_of}
 use Rattle.go_typed.specs.Packages.{PackageView, are_numbered}
 use Rattle.clone_window.specs.declared.bounds.Bounds.{Bounds}
 use Rattle.clone_window.specs.Windows.{windows}
-use Rattle.clone_same.specs.Bodies.{Body, body_of, bodies_of}
+use Rattle.clone_same.specs.Bodies.{Body, bodies_of, body_of}
 use Rattle.clone_classes.specs.Listing.{windows_of_all}
 use Rattle.clone_classes.proofs.Grouping.{functions-step, number-is}
 use Rattle.alpha_hash.specs.Sharing.{numbered, windows_of_func}
 use Rattle.alpha_hash.proofs.Functions as functions
-use Rattle.window_index.specs.Buckets.{Bucket, held, is_of, same_in}
+use Rattle.window_index.specs.Buckets.{Bucket, held, is_of}
 use Rattle.window_index.specs.Fitting.{FitsPackage, IndexView}
 use Rattle.window_index.proofs.Owners.{own-windows}
 use Rattle.package_index.specs.Holding.{HoldsPackage}

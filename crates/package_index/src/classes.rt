@@ -1,17 +1,16 @@
 //! The clone classes of a package from its index.
 
-ghost use Rattle.std.specs.Prelude.{◌≡◌, nat_eq, IfOk};
+ghost use Rattle.std.specs.Prelude.{◌≡◌, IfOk};
 ghost use Rattle.go_package.specs.Checked.{IsCheckedPackage};
-ghost use Rattle.clone_same.specs.Bodies.{bodies_of};
-ghost use Rattle.clone_classes.specs.Listing.{listing, members_of};
+ghost use Rattle.clone_classes.specs.Listing.{listing_in, members_of};
 ghost use Rattle.package_index.specs.Holding.{HoldsPackage};
 
+use alpha_hash::window_hash::WindowHash;
 use clone_classes::listed::listed;
 use go_base::Memory;
 use go_typed::checked::Checked;
 use go_typed::window::Class;
 use index_classes::laws::groups_are_the_classes;
-use rolling_hash::field_blind::UnconditionalHash;
 use std::alloc::Global;
 use window_index::index::Index;
 use window_places::laws::windows_lie_in_order;
@@ -22,14 +21,14 @@ use window_places::laws::windows_lie_in_order;
 /// # Errors
 ///
 /// Want of memory.
-pub fn classes<H: UnconditionalHash + Drop>(
+pub fn classes<H: WindowHash + Drop>(
     alloc: Global,
     checked: &Checked,
     index: &Index<H>,
 ) -> Result<Vec<Class>, Memory>
     requires checked { IsCheckedPackage checked.now }
     requires holds { HoldsPackage H.number checked.now index.now }
-    ensures { IfOk result (λ cs. members_of cs.items ≡ listing nat_eq index.now.bounds (bodies_of checked.now.functions)) }
+    ensures { IfOk result (λ cs. members_of cs.items ≡ listing_in index.now.bounds checked.now) }
 {
     groups_are_the_classes();
     windows_lie_in_order();

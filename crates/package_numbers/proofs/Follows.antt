@@ -17,6 +17,7 @@ use Rattle.go_package.specs.Sources.{source_of}
 use Rattle.clone_window.specs.declared.bounds.Bounds.{Bounds}
 use Rattle.clone_same.specs.Bodies.{Body, body_of, bodies_of}
 use Rattle.clone_replies.specs.Classes.{body_in, classes_in}
+use Rattle.clone_replies.proofs.Fields.{UnderlyingRenamed}
 use Rattle.clone_replies.proofs.Mapped.{body-mapped}
 use Rattle.package_numbers.specs.declared.numbers.Numbers.{Numbers}
 use Rattle.package_numbers.specs.Names.{hashes_of, windows_of}
@@ -25,7 +26,7 @@ use Rattle.package_numbers.proofs.Functions.{with_body, content-counted, renamed
 use Rattle.package_numbers.proofs.Mapping.{Names, hashes_by, hashes-mapped}
 use Rattle.package_numbers.proofs.Names.{content_names, package_names, package-agrees, files-names, with_files}
 use Rattle.package_numbers.proofs.Read.{OfFiles, same-sources, checked_origins}
-use Rattle.package_numbers.proofs.Renamings.{UnderlyingRenamed, renamed-agrees}
+use Rattle.package_numbers.proofs.Renamings.{renamed-agrees}
 
 -- what is known of types, packages and files
 pub record OfPackages : Type 0 where

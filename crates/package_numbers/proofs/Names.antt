@@ -11,7 +11,6 @@ use Rattle.go_tree.specs.Spans.{token_text}
 use Rattle.go_tree.specs.Uses.{UsesView, declared_as}
 use Rattle.go_types.specs.Tables.{type_of, rights_of}
 use Rattle.go_types.specs.Trees.{TypeTree}
-use Rattle.type_tests.specs.Tests.{underlying_of}
 use Rattle.go_typed.specs.declared.form.Referent.{Referent}
 use Rattle.go_typed.specs.declared.origin.Origin.{Origin}
 use Rattle.go_typed.specs.Contents.{Content, content}
@@ -24,17 +23,18 @@ use Rattle.go_package.specs.Sources.{Source, source_of}
 use Rattle.clone_window.specs.declared.outline.Outline.{Outline}
 use Rattle.clone_window.specs.Kinds.{referent_outline}
 use Rattle.clone_window.specs.Sameness.{same_outline}
+use Rattle.clone_window.specs.Fields.{field_by, field_text}
 use Rattle.alpha_hash.specs.Packages as packages
-use Rattle.alpha_hash.specs.Packages.{field_in, predeclared_text}
+use Rattle.alpha_hash.specs.Packages.{predeclared_text}
 use Rattle.package_numbers.specs.Names.{name_of, name_at, declared_name, declared_text, object_text}
 use Rattle.package_numbers.proofs.Mapping.{Names, Agree}
 
 -- what names a content, and a package that the program holds
 abbrev pub content_names : Content → Names TypeTree
-content_names c = record { type_text = type_text (declared_name c); object_text = object_text c; field_text = λ t k. field_in (underlying_of c.rights t) k }
+content_names c = record { type_text = type_text (declared_name c); object_text = object_text c; field_text = field_by c.rights }
 
 abbrev pub package_names : PackageView → Names ℕ
-package_names p = record { type_text = printed p; object_text = packages.object_text p; field_text = packages.field_text p }
+package_names p = record { type_text = printed p; object_text = packages.object_text p; field_text = field_text p.types }
 
 -- ---- packages that the program holds
 
@@ -104,7 +104,7 @@ module _ (c : Content) (gs : List FileTree) (same : map source_of c.files ≡ ma
   files-at (Some o) = file-name c.files gs same (declared_as c.uses (object_at o))
 
   names_with : (ℕ → List ℕ) → (Outline → List ℕ) → Names TypeTree
-  names_with f g = record { type_text = type_text f; object_text = g; field_text = λ t k. field_in (underlying_of c.rights t) k }
+  names_with f g = record { type_text = type_text f; object_text = g; field_text = field_by c.rights }
 
   pub files-names : content_names c ≡ content_names (with_files c gs)
   unfolding names_with

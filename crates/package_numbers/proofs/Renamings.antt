@@ -5,19 +5,16 @@ use Rattle.std.proofs.lemmas.Bool.Decides.{nat_tests}
 use Rattle.std.proofs.lemmas.Option.{slice_get_past, slice_get_within}
 use Rattle.std.specs.Prelude.{if◌then◌else◌, nat_lt, codes}
 use Rattle.std.specs.Fmt.{decimal}
-use Rattle.std.specs.Option.{option_map}
 use Rattle.go_tree.specs.Uses.{UsesView, declared_as}
 use Rattle.go_tree.specs.File.{FileTree}
 use Rattle.go_types.specs.Trees.{TypeTree, boolean, text, integer, array, slice, structure, function, declared, TypeRow, none, more}
-use Rattle.go_types.specs.Relations.{Rights}
-use Rattle.type_tests.specs.Renaming.{renamed, renamed_row, IsOneToOne, AreRenamed}
-use Rattle.type_tests.specs.Tests.{underlying_of}
+use Rattle.type_tests.specs.Renaming.{renamed, renamed_row, IsOneToOne}
 use Rattle.go_typed.specs.declared.form.Referent.{Referent}
 use Rattle.go_typed.specs.declared.origin.Origin.{Origin}
 use Rattle.go_typed.specs.Contents.{Content, IsRenamed}
 use Rattle.go_print.specs.Texts.{type_text, row_texts, fields_text, function_text, named}
 use Rattle.clone_window.specs.declared.outline.Outline.{Outline}
-use Rattle.alpha_hash.specs.Packages.{field_in}
+use Rattle.clone_replies.proofs.Fields.{UnderlyingRenamed, fields-renamed}
 use Rattle.go_print.specs.Names.{object_at}
 use Rattle.package_numbers.specs.Names.{name_of, name_at, declared_name, declared_text, object_text}
 use Rattle.package_numbers.proofs.Mapping.{Names, Agree}
@@ -122,24 +119,9 @@ module _ (name : ℕ → ℕ) (old new : ℕ → List ℕ) (same : (n : ℕ) →
     row-renamed none = refl
     row-renamed (more t ts) = ap (λ x. x ∷ row_texts new (renamed_row name ts)) (text-renamed t) ∙ ap (λ xs. type_text old t ∷ xs) (row-renamed ts)
 
-field-renamed : (name : ℕ → ℕ) (t : Option TypeTree) (k : ℕ) → field_in (option_map (renamed name) t) k ≡ field_in t k
-field-renamed name None k = refl
-field-renamed name (Some boolean) k = refl
-field-renamed name (Some text) k = refl
-field-renamed name (Some (integer i)) k = refl
-field-renamed name (Some (array n t)) k = refl
-field-renamed name (Some (slice t)) k = refl
-field-renamed name (Some (structure ns ts)) k = refl
-field-renamed name (Some (function ps rs)) k = refl
-field-renamed name (Some (declared n)) k = refl
-
--- what is known of underlying types under other numbers
-abbrev pub UnderlyingRenamed : Type 0
-UnderlyingRenamed = (name : ℕ → ℕ) (old new : Rights) (t : TypeTree) → AreRenamed name old new → underlying_of new (renamed name t) ≡ option_map (renamed name) (underlying_of old t)
-
 pub renamed-agrees : UnderlyingRenamed → (name : ℕ → ℕ) (c d : Content) → IsRenamed name c d → length c.origins ≡ length d.origins → Agree (renamed name) (content_names c) (content_names d)
 renamed-agrees law name c d h as_many = record {
   types = text-renamed name (declared_name c) (declared_name d) (same-names name c d h as_many);
   objects = same-object name c d h as_many;
-  fields = λ t k. ap (λ u. field_in u k) (law name c.rights d.rights t h.rights) ∙ field-renamed name (underlying_of c.rights t) k;
+  fields = fields-renamed law name c.rights d.rights h.rights;
 }

@@ -8,11 +8,13 @@ use Rattle.clone_window.specs.Kinds.{outline}
 use Rattle.clone_window.specs.Masses.{is_hole, is_inside}
 use Rattle.clone_window.specs.Sameness.{Final, of_type, of_kind, of_none, final, value_of, Compared, by_form, by_sort, by_literal, compared}
 use Rattle.clone_replies.proofs.Mapped.{hole-mapped, inside-mapped}
-use Rattle.clone_replies.proofs.Tested.{final_mapped, final-mapped, value-mapped}
+use Rattle.clone_replies.proofs.Fields.{field-name, final_mapped, final-mapped}
+use Rattle.clone_replies.proofs.Tested.{value-mapped}
+use Rattle.clone_window.specs.Fields.{names_field}
 use Rattle.alpha_hash.specs.Hash.{text_fold}
-use Rattle.alpha_hash.specs.Naming.{Naming, final_text, field_of}
+use Rattle.alpha_hash.specs.Naming.{Naming, final_text}
 use Rattle.alpha_hash.specs.Numbers.{hash, words_hash}
-use Rattle.alpha_hash.specs.Words.{Word, number, named, one_if, row_length, lengths_at, kind_words, operator_words, local_words, object_words, operand, names_field, field_name, field_words, value_text, compared_words, defined_words, constant_words, blank_words, name_words, declared_words, all_declared, constants_words, own_words, hole_words, is_defined, words, row_words, window_words}
+use Rattle.alpha_hash.specs.Words.{Word, number, named, one_if, row_length, lengths_at, kind_words, operator_words, local_words, object_words, field_words, value_text, compared_words, defined_words, constant_words, blank_words, name_words, declared_words, all_declared, constants_words, own_words, hole_words, is_defined, words, row_words, window_words}
 
 -- The second names types by the first's texts, and its fields, objects and locals as the first does.
 pub record Matches {T U : Type 0} (g : T → U) (n : Naming T) (m : Naming U) : Type 0 where
@@ -30,32 +32,8 @@ module _ {T U : Type 0} (g : T → U) (n : Naming T) (m : Naming U) (h : Matches
   sort-text : (s : Sort T) → final_text m (final (sort_mapped g s)) ≡ final_text n (final s)
   sort-text s = ap (final_text m) (final-mapped g s) ∙ final-text (final s)
 
-  final-field : (x : Final T) (k : ℕ) → field_of m (final_mapped g x) k ≡ field_of n x k
-  final-field (of_type t) k = h.fields t k
-  final-field (of_kind j) k = refl
-  final-field of_none k = refl
-
-  sort-field : (s : Sort T) (k : ℕ) → field_of m (final (sort_mapped g s)) k ≡ field_of n (final s) k
-  sort-field s k = ap (λ x. field_of m x k) (final-mapped g s) ∙ final-field (final s) k
-
-  part-sort : (p : Typed T) → sort_of (mapped g p) ≡ sort_mapped g (sort_of p)
-  part-sort (typed f i j l ps) = refl
-
-  operands : (ps : Typeds T) → operand (all_mapped g ps) ≡ sort_mapped g (operand ps)
-  operands none = refl
-  operands (more p ps) = part-sort p
-  operands (skip ps) = refl
-
-  owners : (b : Bool) (owner : Sort T) (ps : Typeds T) → (if b then operand (all_mapped g ps) else sort_mapped g owner) ≡ sort_mapped g (if b then operand ps else owner)
-  owners true owner ps = operands ps
-  owners false owner ps = refl
-
-  field-name : (owner : Sort T) (o : Outline) (ps : Typeds T) → field_name m (sort_mapped g owner) o (all_mapped g ps) ≡ field_name n owner o ps
-  field-name owner o ps =
-      ap (λ s. field_of m (final s) o.count) (owners (nat_eq o.kind 36) owner ps) ∙ sort-field (if nat_eq o.kind 36 then operand ps else owner) o.count
-
   field-words : (owner : Sort T) (o : Outline) (ps : Typeds T) → field_words m (sort_mapped g owner) o (all_mapped g ps) ≡ field_words n owner o ps
-  field-words owner o ps = ap (λ t. one_if (names_field o) (text_fold t)) (field-name owner o ps)
+  field-words owner o ps = ap (λ t. one_if (names_field o) (text_fold t)) (field-name g n.field_text m.field_text h.fields owner o ps)
 
   object-words : (o : Outline) → object_words m o ≡ object_words n o
   object-words o = ap (λ t. one_if (nat_eq o.kind 32) (text_fold t)) (h.objects o)

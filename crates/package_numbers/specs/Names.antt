@@ -5,7 +5,6 @@ use Rattle.go_tree.specs.File.{FileTree}
 use Rattle.go_tree.specs.Predeclared.{known_names}
 use Rattle.go_tree.specs.Uses.{declared_as}
 use Rattle.go_types.specs.Trees.{TypeTree}
-use Rattle.type_tests.specs.Tests.{underlying_of}
 use Rattle.go_typed.specs.declared.form.Referent.{Referent}
 use Rattle.go_typed.specs.declared.origin.Origin.{Origin}
 use Rattle.go_typed.specs.declared.window.Window.{Window}
@@ -18,11 +17,12 @@ use Rattle.clone_window.specs.declared.outline.Outline.{Outline}
 use Rattle.clone_window.specs.Kinds.{referent_outline}
 use Rattle.clone_window.specs.Sameness.{same_outline, sort_at}
 use Rattle.clone_same.specs.Bodies.{locals_in, statements_at}
+use Rattle.clone_window.specs.Fields.{field_by}
 use Rattle.clone_classes.specs.Listing.{windows_of_all}
 use Rattle.clone_replies.specs.Classes.{listed_content}
 use Rattle.alpha_hash.specs.Naming.{Naming}
 use Rattle.alpha_hash.specs.Numbers.{hash}
-use Rattle.alpha_hash.specs.Packages.{field_in, predeclared_text}
+use Rattle.alpha_hash.specs.Packages.{predeclared_text}
 
 -- the name of an object where it is declared
 abbrev pub name_of : List FileTree → Option Declared → List ℕ
@@ -55,7 +55,7 @@ abbrev pub naming_of : Content → List (Sort TypeTree) → Naming TypeTree
 naming_of c sorts = record {
   type_text = type_text (declared_name c);
   object_text = object_text c;
-  field_text = λ t k. field_in (underlying_of c.rights t) k;
+  field_text = field_by c.rights;
   local_sort = sort_at sorts;
 }
 

@@ -18,9 +18,9 @@ use Rattle.clone_window.specs.Windows.{row_of, run_at, statements_in, window_sta
 use Rattle.clone_same.specs.Bodies.{Body, body_of, bodies_of, locals_in, statements_at}
 use Rattle.alpha_hash.specs.Naming.{Naming}
 use Rattle.alpha_hash.specs.Numbers.{hash, words_hash}
+use Rattle.alpha_hash.specs.Packages.{naming_of, window_hash}
 use Rattle.alpha_hash.specs.Words.{Word, window_words}
 use Rattle.rolling_hash.specs.declared.start.Start.{Start}
-use Rattle.rolling_hash.specs.Fields.{hash_told, naming_told}
 use Rattle.rolling_hash.specs.Starts.{IsStart, covers, ends_from, number_at, number_of, statement_words, with_count}
 use Rattle.rolling_hash.proofs.Folds.{front-within}
 
@@ -131,20 +131,20 @@ no-body [] i e = refl
 no-body (g ∷ fs) zero e = cc
 no-body (g ∷ fs) (suc i) e = no-body fs i e
 
-abbrev hash-at : Bool → PackageView → Window → Option (Body ℕ) → ℕ
-hash-at fields p w b = hash (naming_told fields p (locals_in b)) (statements_at b w)
+abbrev hash-at : PackageView → Window → Option (Body ℕ) → ℕ
+hash-at p w b = hash (naming_of p (locals_in b)) (statements_at b w)
 
 -- the number of a run of a function that is there, by the statements of a longer one
-pub run-number : (fields : Bool) (p : PackageView) (run : Window) (f : FuncView) (sorts : List (Sort ℕ)) (ns : List (Option TypedNode)) (k : ℕ) → slice_get p.functions run.func ≡ Some f → sorts ≡ f.locals →
-    views ns ≡ window_statements (tree_of f) run → k ≤ run.count → hash (naming_told fields p sorts) (views (take k ns)) ≡ hash_told fields p (with_count run k)
-run-number fields p run f sorts ns k fe le e h =
-    ap (λ l. hash (naming_told fields p l) (views (take k ns))) le
-    ∙ ap (hash (naming_told fields p f.locals)) (run-front (tree_of f) run ns k e h)
-    ∙ sym (ap (hash-at fields p (with_count run k)) (body-there p.functions run.func f fe))
+pub run-number : (p : PackageView) (run : Window) (f : FuncView) (sorts : List (Sort ℕ)) (ns : List (Option TypedNode)) (k : ℕ) → slice_get p.functions run.func ≡ Some f → sorts ≡ f.locals →
+    views ns ≡ window_statements (tree_of f) run → k ≤ run.count → hash (naming_of p sorts) (views (take k ns)) ≡ window_hash p (with_count run k)
+run-number p run f sorts ns k fe le e h =
+    ap (λ l. hash (naming_of p l) (views (take k ns))) le
+    ∙ ap (hash (naming_of p f.locals)) (run-front (tree_of f) run ns k e h)
+    ∙ sym (ap (hash-at p (with_count run k)) (body-there p.functions run.func f fe))
 
-pub no-number : (fields : Bool) (p : PackageView) (run : Window) (k : ℕ) → slice_get p.functions run.func ≡ None → hash (naming_told fields p []) (views (take k [])) ≡ hash_told fields p (with_count run k)
-no-number fields p run k e =
-    ap (λ (l : List (Option TypedNode)). hash (naming_told fields p []) (views l)) (nothing-taken k) ∙ sym (ap (hash-at fields p (with_count run k)) (no-body p.functions run.func e))
+pub no-number : (p : PackageView) (run : Window) (k : ℕ) → slice_get p.functions run.func ≡ None → hash (naming_of p []) (views (take k [])) ≡ window_hash p (with_count run k)
+no-number p run k e =
+    ap (λ (l : List (Option TypedNode)). hash (naming_of p []) (views l)) (nothing-taken k) ∙ sym (ap (hash-at p (with_count run k)) (no-body p.functions run.func e))
 
 -- ---- all types are known
 
@@ -232,8 +232,8 @@ function-known p i f h e =
 -- ---- starts
 
 -- a window that a start covers has its number there
-pub start-number : (fields : Bool) (p : PackageView) (s : Start) (w : Window) → IsStart fields p s → covers s w ≡ true → number_at s.numbers.items w.count ≡ hash_told fields p w
-start-number fields p s w h c =
+pub start-number : (p : PackageView) (s : Start) (w : Window) → IsStart p s → covers s w ≡ true → number_at s.numbers.items w.count ≡ window_hash p w
+start-number p s w h c =
     let a = and_parts (nat_eq s.run.func w.func && nat_eq s.run.list w.list && nat_eq s.run.first w.first) (nat_le w.count s.run.count) c in
     let b = and_parts (nat_eq s.run.func w.func && nat_eq s.run.list w.list) (nat_eq s.run.first w.first) a.0 in
     let d = and_parts (nat_eq s.run.func w.func) (nat_eq s.run.list w.list) b.0 in
@@ -243,4 +243,4 @@ start-number fields p s w h c =
     let e : with_count s.run w.count ≡ w =
     ap (λ f. run_at f s.run.list s.run.first w.count) x ∙ ap (λ l. run_at w.func l s.run.first w.count) y ∙ ap (λ k. run_at w.func w.list k w.count) z in
     let few : w.count ≤ s.run.count = grind (arith, nat_tests, a.1) in
-    h w.count few ∙ ap (hash_told fields p) e
+    h w.count few ∙ ap (window_hash p) e

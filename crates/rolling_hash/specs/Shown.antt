@@ -6,12 +6,12 @@ use Rattle.go_typed.specs.Packages.{is_below}
 use Rattle.go_typed.specs.Trees.{Sort, Typed, Typeds, sort_has, every, every_part}
 use Rattle.go_typed.specs.Views.{sort_view, view}
 use Rattle.alpha_hash.specs.Naming.{Naming}
+use Rattle.alpha_hash.specs.Packages.{naming_of}
 use Rattle.alpha_hash.specs.Words as words
 use Rattle.alpha_hash.specs.Words.{number, named}
 use Rattle.rolling_hash.specs.declared.names.Names.{Names}
 use Rattle.rolling_hash.specs.declared.word.Word.{Word}
 use Rattle.rolling_hash.specs.declared.word.Word.TheVariants as word
-use Rattle.rolling_hash.specs.Fields.{naming_told}
 
 abbrev pub word_view : Word → words.Word
 word_view (word.Number n) = number n
@@ -22,7 +22,7 @@ shown ws = map word_view ws
 
 -- what a function is named by
 abbrev pub naming : Names → Naming ℕ
-naming n = naming_told n.fields n.checked.now (map sort_view n.locals.now)
+naming n = naming_of n.checked.now (map sort_view n.locals.now)
 
 -- how many types there are
 abbrev pub type_count : Names → ℕ

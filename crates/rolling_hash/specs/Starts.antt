@@ -6,9 +6,9 @@ use Rattle.go_typed.specs.Packages.{PackageView}
 use Rattle.go_typed.specs.Trees.{Nothing}
 use Rattle.go_typed.specs.Views.{view}
 use Rattle.alpha_hash.specs.Naming.{Naming}
+use Rattle.alpha_hash.specs.Packages.{window_hash}
 use Rattle.alpha_hash.specs.Words.{Word, words}
 use Rattle.rolling_hash.specs.declared.start.Start.{Start}
-use Rattle.rolling_hash.specs.Fields.{hash_told}
 
 -- the run of so many statements from the same start
 abbrev pub with_count : Window → ℕ → Window
@@ -29,8 +29,8 @@ abbrev pub covers : Start → Window → Bool
 covers s w = nat_eq s.run.func w.func && nat_eq s.run.list w.list && nat_eq s.run.first w.first && nat_le w.count s.run.count
 
 -- the numbers are those of the windows from the start, up to the longest run
-abbrev pub IsStart : Bool → PackageView → Start → Type 0
-IsStart fields p s = (n : ℕ) → n ≤ s.run.count → number_at s.numbers.items n ≡ hash_told fields p (with_count s.run n)
+abbrev pub IsStart : PackageView → Start → Type 0
+IsStart p s = (n : ℕ) → n ≤ s.run.count → number_at s.numbers.items n ≡ window_hash p (with_count s.run n)
 
 -- the words of a statement
 abbrev pub statement_words : Naming ℕ → Option TypedNode → List Word

@@ -8,7 +8,7 @@ use go_typed::window::Window;
 use std::alloc::Global;
 
 /// The rolling number of windows.
-#[derive(Clone, Copy, Debug)]
+#[derive(Clone, Copy, Debug, Default)]
 pub struct AlphaHash;
 
 impl WindowHash for AlphaHash {
@@ -28,6 +28,6 @@ impl WindowHash for AlphaHash {
         mass: u32,
     ) -> Result<Vec<(Window, u64)>, Memory> {
         let windows = windows_of_function(alloc, checked, func, min, mass)?;
-        numbers_of(alloc, checked, true, &windows)
+        numbers_of(alloc, checked, &windows)
     }
 }

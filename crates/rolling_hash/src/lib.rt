@@ -1,13 +1,11 @@
 //! The rolling hash of windows.
 //!
 //! `AlphaHash` gives each window the number that the definitions of alpha_hash say, which tells neither names of locals nor
-//! constants of holes apart. `FieldBlindHash` doesn't tell names of fields apart either, so its law has no premise: it is an
-//! `UnconditionalHash`. The words of statements are taken once for each start of windows, and the numbers of all windows from
-//! that start follow in one pass over them.
+//! constants of holes apart. The words of statements are taken once for each start of windows, and the numbers of all windows
+//! from that start follow in one pass over them.
 #![tactic(auto)]
 
 pub mod alpha;
-pub mod field_blind;
 mod names;
 mod numbered;
 mod numbers;

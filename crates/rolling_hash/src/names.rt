@@ -1,18 +1,12 @@
 //! The names that windows show.
 
-ghost use Rattle.std.specs.Prelude.{◌≡◌, ◌<◌, true, Some, length, slice_get};
+ghost use Rattle.std.specs.Prelude.{◌≡◌, Some, slice_get};
 ghost use Rattle.go_tree.specs.Predeclared.{known_names};
-ghost use Rattle.go_types.specs.Tables.{rights_of, type_of};
-ghost use Rattle.go_typed.specs.Views.{sort_view};
 ghost use Rattle.go_print.specs.Names.{name_of, text_in};
-ghost use Rattle.type_tests.specs.Tests.{underlying_of};
 ghost use Rattle.std.specs.Option.{option_map};
 ghost use Rattle.clone_window.specs.Kinds.{referent_outline};
 ghost use Rattle.clone_window.specs.Sameness as specs;
-ghost use Rattle.clone_window.specs.Sameness.{final};
-ghost use Rattle.alpha_hash.specs.Naming.{field_of};
-ghost use Rattle.alpha_hash.specs.Packages.{declared_text, field_in, object_text, predeclared_text};
-ghost use Rattle.rolling_hash.specs.Shown.{knows_sort, naming};
+ghost use Rattle.alpha_hash.specs.Packages.{declared_text, object_text, predeclared_text};
 
 use clone_same::alike::same_outline;
 use clone_window::outline::{Outline, outline_of};
@@ -21,16 +15,12 @@ use go_tree::object::Declared;
 use go_typed::checked::Checked;
 use go_typed::form::Form;
 use go_typed::sort::Sort;
-use go_types::{Shape, TypeId, Types};
-use type_tests::underlying;
 
 /// What a function is named by: its package, and what its locals stand for.
 #[derive(Clone, Copy)]
 pub struct Names<'a> {
     pub checked: &'a Checked,
     pub locals: &'a [Sort],
-    /// Whether the names of fields are told; else each field has the empty name.
-    pub fields: bool,
 }
 
 /// The name of what an outline of a name shows that names no local.
@@ -134,35 +124,5 @@ fn text_in(file: &File, token: u32) -> &[u8]
         file.text(token)
     } else {
         b""
-    }
-}
-
-/// The name of the field of this place of a value; the empty one where fields are not told.
-pub fn field_text<'a>(names: Names<'a>, owner: &Sort, field: u32) -> &'a [u8]
-    requires { knows_sort names (sort_view owner.now) ≡ true }
-    ensures { result.now ≡ field_of (naming names.entry) (final (sort_view owner.now)) field }
-{
-    if !names.fields {
-        return b"";
-    }
-    match owner {
-        Sort::Type(ty) => field_name(names.checked.types(), *ty, field),
-        Sort::Value(ty) => field_name(names.checked.types(), *ty, field),
-        Sort::Constant(ty, _) => field_name(names.checked.types(), *ty, field),
-        _ => b"",
-    }
-}
-
-/// The name of the field of this place of a type.
-fn field_name(types: &Types, ty: TypeId, field: u32) -> &[u8]
-    requires { ty < length types.now.shapes }
-    ensures { result.now ≡ field_in (underlying_of (rights_of types.now) (type_of types.now.shapes ty)) field }
-{
-    match underlying(types, ty) {
-        Some(Shape::Struct { fields }) => match fields.as_slice().get(field as usize) {
-            Some(field) => field.name.as_slice(),
-            None => b"",
-        },
-        _ => b"",
     }
 }

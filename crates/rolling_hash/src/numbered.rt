@@ -1,8 +1,8 @@
 //! Windows with their numbers.
 
 ghost use Rattle.std.specs.Prelude.{◌≡◌, ◌++◌, ◌∷◌, [], true, IfOk, OnOk};
+ghost use Rattle.alpha_hash.specs.Packages.{window_hash};
 ghost use Rattle.alpha_hash.specs.Sharing.{numbered};
-ghost use Rattle.rolling_hash.specs.Fields.{hash_told};
 ghost use Rattle.rolling_hash.specs.Starts.{IsStart, covers};
 
 use crate::start::Start;
@@ -11,8 +11,7 @@ use go_typed::checked::Checked;
 use go_typed::window::Window;
 use std::alloc::Global;
 
-/// Windows with their numbers, with or without the names of fields. Those from one start stand together, and are numbered in one
-/// pass.
+/// Windows with their numbers. Those from one start stand together, and are numbered in one pass.
 ///
 /// # Errors
 ///
@@ -20,18 +19,17 @@ use std::alloc::Global;
 pub fn numbers_of(
     alloc: Global,
     checked: &Checked,
-    fields: bool,
     windows: &[Window],
 ) -> Result<Vec<(Window, u64)>, Memory>
-    ensures { IfOk result (λ v. v.items ≡ numbered (hash_told fields checked.now) windows.now) }
+    ensures { IfOk result (λ v. v.items ≡ numbered (window_hash checked.now) windows.now) }
 {
     let mut out = Vec::with_capacity(alloc, windows.len())?;
     let Some(first) = windows.first() else {
         return Ok(out);
     };
-    let mut start = Start::of(alloc, checked, fields, *first)?;
+    let mut start = Start::of(alloc, checked, *first)?;
     for window in windows {
-        start = push_numbered(alloc, checked, fields, start, *window, &mut out)?;
+        start = push_numbered(alloc, checked, start, *window, &mut out)?;
     }
     Ok(out)
 }
@@ -40,16 +38,15 @@ pub fn numbers_of(
 fn push_numbered(
     alloc: Global,
     checked: &Checked,
-    fields: bool,
     start: Start,
     window: Window,
     out: &mut Vec<(Window, u64)>,
 ) -> Result<Start, Memory>
-    requires { IsStart fields checked.now start }
-    ensures start { IfOk result (IsStart fields checked.now) }
-    ensures pushed { OnOk result (out.new.items ≡ out.old.items ++ (window, hash_told fields checked.now window) ∷ []) }
+    requires { IsStart checked.now start }
+    ensures start { IfOk result (IsStart checked.now) }
+    ensures pushed { OnOk result (out.new.items ≡ out.old.items ++ (window, window_hash checked.now window) ∷ []) }
 {
-    let start = reached(alloc, checked, fields, start, window)?;
+    let start = reached(alloc, checked, start, window)?;
     out.push((window, start.number(window.count)))?;
     Ok(start)
 }
@@ -58,16 +55,15 @@ fn push_numbered(
 fn reached(
     alloc: Global,
     checked: &Checked,
-    fields: bool,
     start: Start,
     window: Window,
 ) -> Result<Start, Memory>
-    requires { IsStart fields checked.now start }
-    ensures start { IfOk result (IsStart fields checked.now) }
+    requires { IsStart checked.now start }
+    ensures start { IfOk result (IsStart checked.now) }
     ensures covers { IfOk result (λ s. covers s window ≡ true) }
 {
     if start.covers(window) {
         return Ok(start);
     }
-    Start::of(alloc, checked, fields, window)
+    Start::of(alloc, checked, window)
 }

@@ -3,7 +3,7 @@
 ghost use Rattle.std.specs.Prelude.{◌≡◌, ◌++◌, ◌∷◌, [], true, map, slice_get, OnOk};
 ghost use Rattle.std.specs.Option.{option_map};
 ghost use Rattle.go_typed.specs.Forms as forms;
-ghost use Rattle.go_typed.specs.Trees.{Nothing, Unknown};
+ghost use Rattle.go_typed.specs.Trees.{Unknown};
 ghost use Rattle.go_typed.specs.Views.{sort_view, view, views};
 ghost use Rattle.clone_window.specs.Kinds.{outline};
 ghost use Rattle.clone_window.specs.Sameness.{compared, sort_at};
@@ -11,10 +11,11 @@ ghost use Rattle.alpha_hash.specs.Words as words;
 ghost use Rattle.alpha_hash.specs.Words.{all_declared, blank_words, compared_words, constant_words, constants_words, declared_words, defined_words, field_words, is_one_of, kind_words, lengths_at, local_words, name_words, object_words, operator_words};
 ghost use Rattle.rolling_hash.specs.Shown.{knows, knows_locals, knows_part, knows_parts, knows_sort, naming, part_declared, shown};
 
-use crate::names::{Names, field_text, object_text};
+use crate::names::{Names, object_text};
 use crate::rolling::text_fold;
 use crate::texts::{final_fold, value_fold};
 use crate::word::{Word, push_if, push_length_if, push_number};
+use clone_same::fields::{field_text, operand};
 use clone_window::mass::is_hole;
 use clone_window::outline::{Outline, outline_of};
 use go_base::Memory;
@@ -110,31 +111,17 @@ fn push_field(
     parts: &[Option<TypedNode>],
     out: &mut Vec<Word>,
 ) -> Result<(), AllocError>
-    requires owner { knows_sort names (sort_view owner.now) ≡ true }
-    requires parts { knows_parts names (views parts.now) ≡ true }
     ensures { OnOk result (shown out.new.items ≡ shown out.old.items ++ field_words (naming names.entry) (sort_view owner.now) outline (views parts.now)) }
 {
+    let types = names.checked.types();
     let nothing = Sort::Nothing;
     if outline.kind == 36 {
-        push_number(
-            text_fold(field_text(names, operand(parts, &nothing), outline.count)),
-            out,
-        )?;
+        let name = field_text(types, operand(parts, &nothing), outline.count);
+        push_number(text_fold(name), out)?;
     } else if outline.kind == 51 {
-        push_number(text_fold(field_text(names, owner, outline.count)), out)?;
+        push_number(text_fold(field_text(types, owner, outline.count)), out)?;
     }
     Ok(())
-}
-
-/// What the first part stands for, or the other sort where it is not there.
-fn operand<'a>(parts: &'a [Option<TypedNode>], nothing: &'a Sort) -> &'a Sort
-    requires { sort_view nothing.now ≡ Nothing }
-    ensures { sort_view result.now ≡ words.operand (views parts.now) }
-{
-    match parts {
-        [Some(first), ..] => &first.label.sort,
-        _ => nothing,
-    }
 }
 
 /// Puts the fold of the type of a type node, or that of the value of a literal behind the other words.

@@ -3,8 +3,8 @@
 ghost use Rattle.std.specs.Prelude.{◌≡◌, ◌≤◌, ◌++◌, ℕ, true, length, map, take, IfOk, OnOk};
 ghost use Rattle.go_typed.specs.Views.{views};
 ghost use Rattle.alpha_hash.specs.Numbers.{hash};
+ghost use Rattle.alpha_hash.specs.Packages.{window_hash};
 ghost use Rattle.alpha_hash.specs.Words.{window_words};
-ghost use Rattle.rolling_hash.specs.Fields.{hash_told};
 ghost use Rattle.rolling_hash.specs.Shown.{knows_locals, knows_part, knows_parts, naming, shown};
 ghost use Rattle.rolling_hash.specs.Starts.{IsStart, covers, ends_from, number_at, number_of, statement_words, with_count};
 
@@ -31,8 +31,7 @@ pub struct Start {
 }
 
 impl Start {
-    /// The numbers of the windows that begin where this one does, of up to 32 statements, and of its own ones, with or without the
-    /// names of fields.
+    /// The numbers of the windows that begin where this one does, of up to 32 statements, and of its own ones.
     ///
     /// # Errors
     ///
@@ -40,17 +39,16 @@ impl Start {
     pub fn of(
         alloc: Global,
         checked: &Checked,
-        fields: bool,
         window: Window,
     ) -> Result<Start, Memory>
-        ensures start { IfOk result (IsStart fields checked.now) }
+        ensures start { IfOk result (IsStart checked.now) }
         ensures covers { IfOk result (λ s. covers s window ≡ true) }
     {
         let run = Window {
             count: MOST.max(window.count),
             ..window
         };
-        let numbers = numbers_from(alloc, checked, fields, run)?;
+        let numbers = numbers_from(alloc, checked, run)?;
         Ok(Start { run, numbers })
     }
 
@@ -80,14 +78,13 @@ fn number_at(numbers: &[u64], place: usize) -> u64
     number_of(numbers, place.min(numbers.len().saturating_sub(1)))
 }
 
-/// The numbers of the first statements of a run, none of them to all, with or without the names of fields.
+/// The numbers of the first statements of a run, none of them to all.
 fn numbers_from(
     alloc: Global,
     checked: &Checked,
-    fields: bool,
     run: Window,
 ) -> Result<Vec<u64>, Memory>
-    ensures { IfOk result (λ v. (n : ℕ) → n ≤ run.count → number_at v.items n ≡ hash_told fields checked.now (with_count run n)) }
+    ensures { IfOk result (λ v. (n : ℕ) → n ≤ run.count → number_at v.items n ≡ window_hash checked.now (with_count run n)) }
 {
     let _types = checked.types();
     match checked.function(run.func) {
@@ -95,7 +92,6 @@ fn numbers_from(
             let names = Names {
                 checked,
                 locals: f.locals(),
-                fields,
             };
             numbers_over(alloc, names, statements(f, &run))
         }
@@ -103,7 +99,6 @@ fn numbers_from(
             let names = Names {
                 checked,
                 locals: &[],
-                fields,
             };
             numbers_over(alloc, names, &[])
         }

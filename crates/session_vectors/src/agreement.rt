@@ -4,7 +4,7 @@
 ghost use Rattle.std.specs.Prelude.{◌≡◌, ◌≤◌, IfOk};
 ghost use Rattle.go_base.specs.Package.{IsPackage};
 
-use alpha_hash::window_hash::ConstantHash;
+use alpha_hash::window_hash::{ConstantHash, WindowHash};
 use clone_classes::pairwise::pairwise;
 use clone_folder::{OpenError, open_folder};
 use clone_program::PackageCheck;
@@ -13,7 +13,7 @@ use clone_session::{Check, Session};
 use go_base::{Bytes, FileText, Memory, Steps};
 use go_reading::CheckError;
 use port_io::MemFolder;
-use rolling_hash::field_blind::{FieldBlindHash, UnconditionalHash};
+use rolling_hash::alpha::AlphaHash;
 use std::alloc::Global;
 use std::marker::Brand;
 use std::sync::ledger::{Blank, Ledger};
@@ -51,7 +51,7 @@ fn files_of(alloc: Global, case: &mut Case) -> Result<Vec<FileText>, Memory>
 }
 
 /// The listing of a package from its index under a hash; none where a fault is reported.
-fn indexed<H: UnconditionalHash + Copy + Drop, L: Ledger>(
+fn indexed<H: WindowHash + Copy + Drop, L: Ledger>(
     alloc: Global,
     files: Vec<FileText>,
     min: u32,
@@ -113,7 +113,7 @@ fn counted<L: Ledger>(
     }
     let mut steps = Steps::<L>::new(blank);
     let files = files_of(alloc, case)?;
-    let own = indexed(alloc, files, min, mass, FieldBlindHash, &mut steps)?;
+    let own = indexed(alloc, files, min, mass, AlphaHash, &mut steps)?;
     let files = files_of(alloc, case)?;
     let forced = indexed(alloc, files, min, mass, ConstantHash, &mut steps)?;
     let files = files_of(alloc, case)?;

@@ -2,13 +2,7 @@
 use Rattle.std.specs.Prelude.{ℕ, suc, Bool, true, false, not, nat_eq, nat_lt, if◌then◌else◌, List, [], ◌∷◌, ◌++◌, map, filter, length, Option, Some, None}
 use Rattle.std.specs.List.{flat_map}
 use Rattle.go_typed.specs.declared.window.Window.{Window}
-use Rattle.go_typed.specs.Packages.{PackageView}
 use Rattle.clone_window.specs.declared.bounds.Bounds.{Bounds}
-use Rattle.clone_same.specs.Bodies.{are_same, bodies_of}
-
--- whether two windows of a package are the same
-abbrev pub same_in : PackageView → Window → Window → Bool
-same_in p w v = are_same nat_eq (bodies_of p.functions) (bodies_of p.functions) w v
 
 -- the groups under a hash
 abbrev pub Bucket : Type 0

@@ -4,10 +4,10 @@ use Rattle.std.specs.List.{AllByRecursion}
 use Rattle.go_typed.specs.declared.window.Window.{Window}
 use Rattle.go_typed.specs.Packages.{PackageView}
 use Rattle.clone_window.specs.declared.bounds.Bounds.{Bounds}
-use Rattle.clone_same.specs.Bodies.{bodies_of}
+use Rattle.clone_same.specs.Bodies.{bodies_of, same_in}
 use Rattle.clone_classes.specs.Classes.{Among}
 use Rattle.clone_classes.specs.Listing.{windows_of_all}
-use Rattle.window_index.specs.Buckets.{Bucket, held, is_some_left, leads, same_in}
+use Rattle.window_index.specs.Buckets.{Bucket, held, is_some_left, leads}
 
 -- what contracts see of an index: its hash, which runs of statements are windows, and what it holds
 pub record IndexView (H : Type 0) : Type 0 where

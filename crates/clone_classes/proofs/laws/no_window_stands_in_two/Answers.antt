@@ -6,4 +6,4 @@ use Rattle.clone_classes.proofs.Sameness.{within, numbers}
 use Rattle.clone_classes.proofs.laws.no_window_stands_in_two.Goals as goal
 
 pub returns : goal.returns
-returns c = λ bounds bodies. no-window-in-two (are_same nat_eq bodies bodies) (within nat_eq numbers bodies) (windows_of_all bounds 0 bodies)
+returns c = λ fields bounds bodies. no-window-in-two (are_same nat_eq fields fields bodies bodies) (within nat_eq numbers fields bodies) (windows_of_all bounds 0 bodies)

@@ -2,11 +2,11 @@ use Rattle.std.proofs.Common.{List, subst}
 use Rattle.std.specs.Prelude.{nat_eq}
 use Rattle.std.specs.List.Sorted.{IsPermutation}
 use Rattle.go_typed.specs.declared.window.Window.{Window}
-use Rattle.clone_same.specs.Bodies.{bodies_of}
+use Rattle.clone_same.specs.Bodies.{bodies_of, same_in}
+use Rattle.clone_window.specs.Fields.{field_text}
 use Rattle.clone_classes.specs.Choices.{place_of}
 use Rattle.clone_classes.specs.Listing.{windows_of_all}
 use Rattle.clone_classes.proofs.Sameness.{within, numbers}
-use Rattle.window_index.specs.Buckets.{same_in}
 use Rattle.index_classes.proofs.Classified.{classified}
 use Rattle.index_classes.proofs.Flattened.{held-flat}
 use Rattle.index_classes.proofs.laws.groups_are_the_classes.Goals as goal
@@ -15,5 +15,5 @@ pub returns : goal.returns
 returns c = λ number p bounds buckets groups classes law fits all order are listed.
     let bodies = bodies_of p.functions in
     let windows = windows_of_all bounds 0 bodies in
-    classified (place_of bodies) number (same_in p) windows buckets (within nat_eq numbers bodies) law fits
+    classified (place_of bodies) number (same_in p) windows buckets (within nat_eq numbers (field_text p.types) bodies) law fits
     (subst (λ (ws : List Window). IsPermutation windows ws) (held-flat buckets) all) order groups classes are listed

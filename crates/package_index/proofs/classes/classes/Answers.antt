@@ -1,6 +1,7 @@
 use Rattle.std.proofs.lemmas.Result.{IfOk-weaker}
 use Rattle.clone_same.specs.Bodies.{bodies_of}
 use Rattle.clone_classes.specs.Listing.{windows_of_all}
+use Rattle.alpha_hash.proofs.Windows.{lawful-alone}
 use Rattle.package_index.proofs.Members.{windows-held}
 use Rattle.package_index.proofs.classes.classes.Goals as goal
 
@@ -10,7 +11,7 @@ returns g c =
     let i = c.args.index.now in
     let number = g.H.WindowHash.number i.hash p in
     IfOk-weaker c.listed.result _ _
-    (λ cs are. c.groups_are_the_classes.ensures number p i.bounds i.buckets c.in_ok-groups.groups.items cs.items (g.met.H.UnconditionalHash.alone i.hash p) c.requires.holds.fits
+    (λ cs are. c.groups_are_the_classes.ensures number p i.bounds i.buckets c.in_ok-groups.groups.items cs.items (lawful-alone (g.H.WindowHash.number i.hash) (g.met.H.WindowHash.lawful i.hash) p) c.requires.holds.fits
     (windows-held number (windows_of_all i.bounds 0 (bodies_of p.functions)) _ c.requires.holds.all)
     (c.windows_lie_in_order.ensures p i.bounds c.requires.checked c.bounds-bounds.ensures.within.some)
     c.in_ok-groups.ensures are)

@@ -27,10 +27,10 @@ pub returns-in-Some : goal.returns-in-Some
 returns-in-Some c =
     let p = c.args.checked.now in
     let e : slice_get p.functions c.args.run.func ≡ Some c.in-Some.f.now = c.function.ensures ∙ ap (option_map (λ f. f.now)) c.in-Some.is in
-    IfOk-weaker c.numbers_over.result _ _ (λ v h n l. h n ∙ run-number c.args.fields p c.args.run c.in-Some.f.now (map sort_view c.locals.result.now) c.statements.result.now n e c.locals.ensures c.statements.ensures l) c.numbers_over.ensures
+    IfOk-weaker c.numbers_over.result _ _ (λ v h n l. h n ∙ run-number p c.args.run c.in-Some.f.now (map sort_view c.locals.result.now) c.statements.result.now n e c.locals.ensures c.statements.ensures l) c.numbers_over.ensures
 
 pub returns-in-None : goal.returns-in-None
 returns-in-None c =
     let p = c.args.checked.now in
     let e : slice_get p.functions c.args.run.func ≡ None = c.function.ensures ∙ ap (option_map (λ f. f.now)) c.in-None.is in
-    IfOk-weaker c.numbers_over-in-None.result _ _ (λ v h n l. h n ∙ no-number c.args.fields p c.args.run n e) c.numbers_over-in-None.ensures
+    IfOk-weaker c.numbers_over-in-None.result _ _ (λ v h n l. h n ∙ no-number p c.args.run n e) c.numbers_over-in-None.ensures

@@ -4,11 +4,12 @@ use Rattle.std.specs.List.{AllByRecursion}
 use Rattle.std.specs.List.Sorted.{IsPermutation}
 use Rattle.go_typed.specs.declared.window.Window.{Window}
 use Rattle.clone_window.specs.declared.bounds.Bounds.{Bounds}
-use Rattle.clone_same.specs.Bodies.{bodies_of}
+use Rattle.clone_same.specs.Bodies.{bodies_of, same_in}
+use Rattle.clone_window.specs.Fields.{field_text}
 use Rattle.clone_classes.specs.Listing.{windows_of_all}
 use Rattle.clone_classes.proofs.Sameness.{within, numbers}
 use Rattle.alpha_hash.specs.Sharing.{numbered, windows_of_func}
-use Rattle.window_index.specs.Buckets.{Bucket, all_entered, held, is_of, left, same_in}
+use Rattle.window_index.specs.Buckets.{Bucket, all_entered, held, is_of, left}
 use Rattle.window_index.specs.Counting.{rivals}
 use Rattle.window_index.specs.Fitting.{Fits, FitsPackage, IndexView}
 use Rattle.window_index.proofs.Entering.{held-all-entered}
@@ -28,7 +29,7 @@ returns-in-Ok-clause-fits g c =
     let hs : c.deref.result.now ≡ numbered number ws = c.deref.ensures.value ∙ c.in_ok-hashes.ensures in
     let old : Fits number (same_in p) (windows_of_all bounds 0 bodies) bs = subst (FitsPackage g.H.WindowHash.number p) (sym c.self.view_is) c.requires.fits in
     subst (λ (es : List Bucket). Fits number (same_in p) (windows_of_all bounds 0 bodies) es) (sym (c.in-Ok.ensures.ok ∙ ap (λ l. all_entered (same_in p) l bs) hs))
-    (fits-all-entered number (same_in p) (windows_of_all bounds 0 bodies) ws bs (within nat_eq numbers bodies) old (windows-among bounds bodies c.args.func))
+    (fits-all-entered number (same_in p) (windows_of_all bounds 0 bodies) ws bs (within nat_eq numbers (field_text p.types) bodies) old (windows-among bounds bodies c.args.func))
 
 pub returns-in-Ok-clause-held : goal.returns-in-Ok-clause-held
 returns-in-Ok-clause-held g c =

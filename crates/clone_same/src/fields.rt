@@ -1,0 +1,210 @@
+//! When the fields that nodes name have the same names.
+
+ghost use Rattle.std.specs.Prelude.{◌≡◌};
+ghost use Rattle.go_types.specs.Tables.{rights_of, type_of};
+ghost use Rattle.go_typed.specs.Trees.{Nothing};
+ghost use Rattle.go_typed.specs.Views.{sort_view, view, views};
+ghost use Rattle.clone_window.specs.Kinds.{outline};
+ghost use Rattle.clone_window.specs.Sameness.{final};
+ghost use Rattle.type_tests.specs.Identity.{same_name};
+ghost use Rattle.type_tests.specs.Tests.{underlying_of};
+ghost use Rattle.clone_window.specs.Fields as specs;
+ghost use Rattle.clone_window.specs.Fields.{all_fields_agree, field_name, field_of, field_text, fields_agree, names_field, window_fields_agree};
+
+use crate::alike::{same_bytes, same_type};
+use clone_window::mass::{is_hole, is_inside};
+use clone_window::outline::{Outline, outline_of};
+use go_typed::form::Form;
+use go_typed::node::TypedNode;
+use go_typed::sort::Sort;
+use go_types::{Shape, TypeId, Types};
+use type_tests::underlying;
+
+/// Whether the fields that two runs of statements name at corresponding places outside holes have the same names.
+pub fn window_fields_agree(
+    types: &Types,
+    statements: &[Option<TypedNode>],
+    others: &[Option<TypedNode>],
+) -> bool
+    ensures { result ≡ window_fields_agree (field_text types.now) (field_text types.now) (views statements.now) (views others.now) }
+{
+    let nothing = Sort::Nothing;
+    all_fields_agree(types, false, false, &nothing, &nothing, statements, others)
+}
+
+/// Whether two rows of parts name fields of the same names, each of which may stand inside a constant expression, and in a
+/// composite literal that stands for an owner.
+#[cycle(fields_agree)]
+fn all_fields_agree(
+    types: &Types,
+    inside: bool,
+    other_inside: bool,
+    owner: &Sort,
+    other_owner: &Sort,
+    parts: &[Option<TypedNode>],
+    others: &[Option<TypedNode>],
+) -> bool
+    ensures { result ≡ all_fields_agree (field_text types.now) (field_text types.now) inside other_inside (sort_view owner.now) (sort_view other_owner.now) (views parts.now) (views others.now) }
+{
+    for index in 0..parts.len().min(others.len()) {
+        match (&parts[index], &others[index]) {
+            (Some(node), Some(other)) => {
+                if !fields_agree(
+                    types,
+                    inside,
+                    other_inside,
+                    owner,
+                    other_owner,
+                    node,
+                    other,
+                ) {
+                    return false;
+                }
+            }
+            (None, None) => {}
+            _ => return true,
+        }
+    }
+    true
+}
+
+/// Whether two trees name fields of the same names.
+#[cycle(fields_agree)]
+fn fields_agree(
+    types: &Types,
+    inside: bool,
+    other_inside: bool,
+    owner: &Sort,
+    other_owner: &Sort,
+    node: &TypedNode,
+    other: &TypedNode,
+) -> bool
+    ensures { result ≡ fields_agree (field_text types.now) (field_text types.now) inside other_inside (sort_view owner.now) (sort_view other_owner.now) (view node.now) (view other.now) }
+{
+    if is_hole(inside, node.form, &node.label) {
+        return true;
+    }
+    let within = is_inside(inside, node.form, &node.label);
+    let other_within = is_inside(other_inside, other.form, &other.label);
+    same_field(
+        types,
+        owner,
+        other_owner,
+        node.form,
+        other.form,
+        &node.parts,
+        &other.parts,
+    ) && all_fields_agree(
+        types,
+        within,
+        other_within,
+        &node.label.sort,
+        &other.label.sort,
+        &node.parts,
+        &other.parts,
+    )
+}
+
+/// Whether two nodes of these forms and parts name fields of the same names, if the first one names a field.
+fn same_field(
+    types: &Types,
+    owner: &Sort,
+    other_owner: &Sort,
+    form: Form,
+    other_form: Form,
+    parts: &[Option<TypedNode>],
+    others: &[Option<TypedNode>],
+) -> bool
+    ensures { result ≡ specs.same_field (names_field (outline form)) (field_name (field_text types.now) (sort_view owner.now) (outline form) (views parts.now))
+        (field_name (field_text types.now) (sort_view other_owner.now) (outline other_form) (views others.now)) }
+{
+    let shown = outline_of(form);
+    if !names_field(shown) {
+        return true;
+    }
+    let nothing = Sort::Nothing;
+    let other_shown = outline_of(other_form);
+    same_text(
+        types,
+        owner_of(owner, shown, parts, &nothing),
+        owner_of(other_owner, other_shown, others, &nothing),
+        shown.count,
+        other_shown.count,
+    )
+}
+
+/// Whether nodes that show this name a field: selectors, and keys of fields in composite literals.
+fn names_field(shown: Outline) -> bool
+    ensures { result ≡ names_field shown }
+{
+    shown.kind == 36 || shown.kind == 51
+}
+
+/// Whose field a node names: its first part's, or that of the composite literal in which it stands.
+fn owner_of<'a>(
+    owner: &'a Sort,
+    shown: Outline,
+    parts: &'a [Option<TypedNode>],
+    nothing: &'a Sort,
+) -> &'a Sort
+    requires { sort_view nothing.now ≡ Nothing }
+    ensures { sort_view result.now ≡ specs.owner_of (sort_view owner.now) shown (views parts.now) }
+{
+    if shown.kind == 36 {
+        operand(parts, nothing)
+    } else {
+        owner
+    }
+}
+
+/// What the first part stands for, or the other sort where it is not there.
+pub fn operand<'a>(parts: &'a [Option<TypedNode>], nothing: &'a Sort) -> &'a Sort
+    requires { sort_view nothing.now ≡ Nothing }
+    ensures { sort_view result.now ≡ specs.operand (views parts.now) }
+{
+    match parts {
+        [Some(first), ..] => &first.label.sort,
+        _ => nothing,
+    }
+}
+
+/// Whether fields of two values have the same name. Those of one place of one type have, so no text is read then.
+fn same_text(types: &Types, owner: &Sort, other: &Sort, field: u32, other_field: u32) -> bool
+    ensures { result ≡ same_name (field_of (field_text types.now) (final (sort_view owner.now)) field) (field_of (field_text types.now) (final (sort_view other.now)) other_field) }
+{
+    if field == other_field && same_type(owner, other) {
+        return true;
+    }
+    same_bytes(
+        field_text(types, owner, field),
+        field_text(types, other, other_field),
+    )
+}
+
+/// The name of the field of this place of a value; the empty one where there is no such field.
+pub fn field_text<'a>(types: &'a Types, owner: &Sort, field: u32) -> &'a [u8]
+    ensures { result.now ≡ field_of (field_text types.now) (final (sort_view owner.now)) field }
+{
+    match owner {
+        Sort::Type(ty) => field_in(types, *ty, field),
+        Sort::Value(ty) => field_in(types, *ty, field),
+        Sort::Constant(ty, _) => field_in(types, *ty, field),
+        _ => b"",
+    }
+}
+
+/// The name of the field of this place of a type.
+fn field_in(types: &Types, ty: TypeId, field: u32) -> &[u8]
+    ensures { result.now ≡ specs.field_in (underlying_of (rights_of types.now) (type_of types.now.shapes ty)) field }
+{
+    if types.count() <= ty {
+        return b"";
+    }
+    match underlying(types, ty) {
+        Some(Shape::Struct { fields }) => match fields.as_slice().get(field as usize) {
+            Some(field) => field.name.as_slice(),
+            None => b"",
+        },
+        _ => b"",
+    }
+}

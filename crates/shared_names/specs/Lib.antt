@@ -1,4 +1,0 @@
-pub mod Derived
-pub mod Rules
-pub mod Nodes
-pub mod Plain
