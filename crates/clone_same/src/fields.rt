@@ -14,7 +14,7 @@ ghost use Rattle.clone_window.specs.Fields.{all_fields_agree, field_name, field_
 use crate::alike::{same_bytes, same_type};
 use clone_window::mass::{is_hole, is_inside};
 use clone_window::outline::{Outline, outline_of};
-use go_typed::form::Form;
+use go_typed::form::{Form, Referent};
 use go_typed::node::TypedNode;
 use go_typed::sort::Sort;
 use go_types::{Shape, TypeId, Types};
@@ -49,15 +49,7 @@ fn all_fields_agree(
     for index in 0..parts.len().min(others.len()) {
         match (&parts[index], &others[index]) {
             (Some(node), Some(other)) => {
-                if !fields_agree(
-                    types,
-                    inside,
-                    other_inside,
-                    owner,
-                    other_owner,
-                    node,
-                    other,
-                ) {
+                if !fields_agree(types, inside, other_inside, owner, other_owner, node, other) {
                     return false;
                 }
             }
@@ -118,11 +110,11 @@ fn same_field(
     ensures { result ≡ specs.same_field (names_field (outline form)) (field_name (field_text types.now) (sort_view owner.now) (outline form) (views parts.now))
         (field_name (field_text types.now) (sort_view other_owner.now) (outline other_form) (views others.now)) }
 {
-    let shown = outline_of(form);
-    if !names_field(shown) {
+    if !names_field(form) {
         return true;
     }
     let nothing = Sort::Nothing;
+    let shown = outline_of(form);
     let other_shown = outline_of(other_form);
     same_text(
         types,
@@ -133,8 +125,28 @@ fn same_field(
     )
 }
 
-/// Whether nodes that show this name a field: selectors, and keys of fields in composite literals.
-fn names_field(shown: Outline) -> bool
+/// Whether nodes of this form name a field: selectors, and keys of fields in composite literals. The commonest forms are told apart
+/// without their outlines.
+fn names_field(form: Form) -> bool
+    ensures { result ≡ names_field (outline form) }
+{
+    match form {
+        Form::Expression => false,
+        Form::Call => false,
+        Form::Literal => false,
+        Form::Local(_) => false,
+        Form::New(_) => false,
+        Form::Binary(_) => false,
+        Form::Index => false,
+        Form::Block => false,
+        Form::Type => false,
+        Form::Object(Referent::Function(_)) => false,
+        other => shows_field(outline_of(other)),
+    }
+}
+
+/// The same of what a node shows.
+fn shows_field(shown: Outline) -> bool
     ensures { result ≡ names_field shown }
 {
     shown.kind == 36 || shown.kind == 51

@@ -67,12 +67,7 @@ fn run_of<'a>(checked: &'a Checked, window: &Window) -> Run<'a>
 }
 
 /// Whether two runs of statements are the same, also in the names of the fields of their types.
-fn are_same(
-    alloc: Global,
-    types: &Types,
-    run: &Run<'_>,
-    other: &Run<'_>,
-) -> Result<bool, Memory>
+fn are_same(alloc: Global, types: &Types, run: &Run<'_>, other: &Run<'_>) -> Result<bool, Memory>
     ensures { IfOk result (λ b. b ≡ (is_same nat_eq (map sort_view run.now.locals.now) (map sort_view other.now.locals.now) (views run.now.statements.now) (views other.now.statements.now)
         && window_fields_agree (field_text types.now) (field_text types.now) (views run.now.statements.now) (views other.now.statements.now))) }
 {
