@@ -21,7 +21,7 @@ pub use comparisons::{compare, equal};
 pub use integers::{complement, compute, convert, negate, not};
 pub use panic::{Panic, Stop};
 pub use parts::{
-    copy_part, element, field, part, place_of, take_part, with_element, with_field, with_part,
+    copy_part, element, field, part, place_of, take_part, with_inner, with_part,
 };
 pub use slices::{capacity, length};
 pub use texts::{byte, join};
