@@ -60,10 +60,10 @@ reads_same c d m v w h i = let e = sym h.is ∙ i.is in let all : h.all ≡ i.al
 
 -- a root of this form, and the assignment that is one to it
 module _ (x : Doing) (us : List meant.Value) (d : ℕ) (m : Machine) (t : Target) (r : Root) (h : Reached x us d m t) (er : t.root ≡ r) where
-  root_is : Reads (root_read r) d m h.whole
+  pub root_is : Reads (root_read r) d m h.whole
   root_is = subst (λ (q : Root). Reads (root_read q) d m h.whole) er h.root
 
-  stored_is : (ks : List ℕ) (v u w : meant.Value) → t.path.items ≡ ks → Reads (root_read r) d m u → w ≡ with_inner ks u v → outcome (x.store us v) d m ≡ outcome (root_written r w) d m
+  pub stored_is : (ks : List ℕ) (v u w : meant.Value) → t.path.items ≡ ks → Reads (root_read r) d m u → w ≡ with_inner ks u v → outcome (x.store us v) d m ≡ outcome (root_written r w) d m
   stored_is ks v u w ep read ew =
       h.store v ∙ ap (λ (q : Root). outcome (root_written q (with_inner t.path.items h.whole v)) d m) er
       ∙ ap (λ a. outcome (root_written r a) d m) (ap (λ (js : List ℕ). with_inner js h.whole v) ep ∙ ap (λ a. with_inner ks a v) (reads_same (root_read r) d m h.whole u root_is read) ∙ sym ew)

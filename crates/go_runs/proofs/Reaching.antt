@@ -1,10 +1,12 @@
 -- Where the values of places lie.
-use Rattle.std.proofs.Common.{◌≡◌, ℕ, ℤ, pos, negsuc, List, [], ◌∷◌, ◌++◌, drop, Bool, true, false, nat_lt, if◌then◌else◌, Option, Some, None, Result, Ok, Err, refl, sym, ap, ◌∙◌, subst, unsigned_abs}
+use Rattle.std.specs.Prelude.{ℤ, pos, negsuc, nat_lt, if◌then◌else◌, unsigned_abs}
+use Rattle.std.proofs.Common.{◌≡◌, ℕ, List, [], ◌∷◌, ◌++◌, drop, Bool, true, false, Option, Some, None, Result, Ok, Err, refl, sym, ap, ◌∙◌, subst}
 use Rattle.go_meaning.specs.Values as meant
 use Rattle.go_meaning.specs.Values.{nth, parts_of, whole_of, index_below, with_part}
 use Rattle.go_meaning.specs.Computations.{World, Comp, go_on, one, then_do}
 use Rattle.go_meaning.specs.Operations.{Deed, Gives, Traps, Cell, Element, Field, InArray, ReadVariable, WithElement, WithField, SetCell, at_index, cell, done, found, length_of, operate, perform}
 use Rattle.go_meaning.specs.Doings.{Doing, blank_place, cell_place, element_place, field_place, local_place, name_place, variable_place}
+use Rattle.go_values.specs.declared.value.Value.{Value}
 use Rattle.go_values.specs.declared.panic.Panic.{Panic}
 use Rattle.go_values.specs.declared.panic.Panic.TheVariants as panic
 use Rattle.go_values.specs.Deeds.{at_place}
@@ -137,7 +139,7 @@ reached_element n x i us d m t s k h there e =
     let u = inner_at t.path.items h.whole in
     let j = nth us 0 in
     let w = world_view m.world in
-    let at : (v : meant.Value) → perform WithElement (u ∷ j ∷ v ∷ []) w ≡ Gives (with_part u k v ∷ []) w = λ v. ap (λ p. Gives (with_part u p v ∷ []) w) (place_is n (whole_of j) k there) in
+    let put : (v : meant.Value) → perform WithElement (u ∷ j ∷ v ∷ []) w ≡ Gives (with_part u k v ∷ []) w = λ v. ap (λ p. Gives (with_part u p v ∷ []) w) (place_is n (whole_of j) k there) in
     record {
       whole = h.whole;
       root = subst (λ (q : Root). Reads (root_read q) d m h.whole) (sym e.0) h.root;
@@ -146,7 +148,7 @@ reached_element n x i us d m t s k h there e =
       store = λ v.
         passed n j k (one (x.load (drop 1 us)) (λ u1. one (operate WithElement (u1 ∷ j ∷ v ∷ [])) (λ r. x.store (drop 1 us) r))) d m there
         ∙ one_is (x.load (drop 1 us)) (λ u1. one (operate WithElement (u1 ∷ j ∷ v ∷ [])) (λ r. x.store (drop 1 us) r)) d m u h.load
-        ∙ one_is (operate WithElement (u ∷ j ∷ v ∷ [])) (λ r. x.store (drop 1 us) r) d m (with_part u k v) (reads_by WithElement (u ∷ j ∷ v ∷ []) d m (with_part u k v) (at v))
+        ∙ one_is (operate WithElement (u ∷ j ∷ v ∷ [])) (λ r. x.store (drop 1 us) r) d m (with_part u k v) (reads_by WithElement (u ∷ j ∷ v ∷ []) d m (with_part u k v) (put v))
         ∙ h.store (with_part u k v) ∙ ap (λ w. outcome (root_written t.root w) d m) (with_more t.path.items k h.whole v ∙ sym (ap (λ (ks : List ℕ). with_inner ks h.whole v) e.1))
         ∙ ap (λ (q : Root). outcome (root_written q (with_inner s.path.items h.whole v)) d m) (sym e.0);
     }

@@ -2,8 +2,7 @@
 
 ghost use Rattle.std.specs.Prelude.{ℕ, length};
 ghost use Rattle.go_typed.specs.Views.{AllKnown};
-ghost use Rattle.go_meaning.specs.Values.{nth, whole_of};
-ghost use Rattle.go_meaning.specs.Operations.{index_below};
+ghost use Rattle.go_meaning.specs.Values.{index_below, nth, whole_of};
 ghost use Rattle.go_meaning.specs.Doings.{Doing, at, cell_place};
 ghost use Rattle.go_values.specs.Views.{views};
 ghost use Rattle.go_runs.specs.Programs.{doings};
