@@ -38,18 +38,18 @@ is_index_panic panic.NilCall e = absurd cc
 is_index_panic panic.Make e = absurd cc
 is_index_panic panic.User e = absurd cc
 
-some_index : (o : Option ℕ) (k : ℕ) → ((then : ℕ → Deed) → found o then ≡ then k) → o ≡ Some k
+some_index : (o : Option ℕ) (k : ℕ) → ((go : ℕ → Deed) → found o go ≡ go k) → o ≡ Some k
 some_index None k h = let e = h (λ j. Gives [] no_world) in absurd cc
 some_index (Some j) k h = let e = h (λ i. Gives (meant.Function i ∷ []) no_world) in cc
 
-no_index : (o : Option ℕ) (p : Panic) → ((then : ℕ → Deed) → found o then ≡ Traps (panic_view p)) → (o ≡ None) × (p ≡ panic.Index)
+no_index : (o : Option ℕ) (p : Panic) → ((go : ℕ → Deed) → found o go ≡ Traps (panic_view p)) → (o ≡ None) × (p ≡ panic.Index)
 no_index None p h = (refl, is_index_panic p (h (λ j. Gives [] no_world)))
 no_index (Some j) p h = let e = h (λ i. Gives [] no_world) in absurd cc
 
-pub index_place : (n : ℕ) (i : meant.Value) (k : ℕ) → ((then : ℕ → Deed) → at_index n i then ≡ then k) → index_below n (whole_of i) ≡ Some k
+pub index_place : (n : ℕ) (i : meant.Value) (k : ℕ) → ((go : ℕ → Deed) → at_index n i go ≡ go k) → index_below n (whole_of i) ≡ Some k
 index_place n i k h = some_index (index_below n (whole_of i)) k h
 
-pub index_panic : (n : ℕ) (i : meant.Value) (p : Panic) → ((then : ℕ → Deed) → at_index n i then ≡ Traps (panic_view p)) → (index_below n (whole_of i) ≡ None) × (p ≡ panic.Index)
+pub index_panic : (n : ℕ) (i : meant.Value) (p : Panic) → ((go : ℕ → Deed) → at_index n i go ≡ Traps (panic_view p)) → (index_below n (whole_of i) ≡ None) × (p ≡ panic.Index)
 index_panic n i p h = no_index (index_below n (whole_of i)) p h
 
 -- an index that is below a length is the place
@@ -61,8 +61,8 @@ place_is n (pos j) k e = below j (nat_lt j n) e
     below j false e = absurd cc
 place_is n (negsuc j) k e = absurd cc
 
-pub at_place_is : (n : ℕ) (i : meant.Value) (k : ℕ) (then : ℕ → Deed) → index_below n (whole_of i) ≡ Some k → at_index n i then ≡ then k
-at_place_is n i k then e = ap (λ o. found o then) e
+pub at_place_is : (n : ℕ) (i : meant.Value) (k : ℕ) (go : ℕ → Deed) → index_below n (whole_of i) ≡ Some k → at_index n i go ≡ go k
+at_place_is n i k go e = ap (λ o. found o go) e
 
 pub index_left : (n : ℕ) (i : meant.Value) (us : List meant.Value) (d : ℕ) (m : Machine) (e : Exit) → (index_below n (whole_of i) ≡ None) × (e ≡ exit.Panic panic.Index)
     → IsLeft e m (outcome (operate (InArray n) (i ∷ us)) d m)

@@ -91,7 +91,7 @@ returns-in_err-whole-in-Field t c = λ n d m.
     let xs = (out-TypedNode c.in-Some.node.now).parts.items in
     let y = place_doing (the_place.Field c.in-Field.field) (doings p n xs) in
     let ip = part_place p n c.args.parts.now c.args.number c.in-Some.node.now y c.in-Some.ensures (c.in-Field.ensures n) in
-    let q = err_from_is_err_and c.from_residual-in_err-whole-in-Field.result c.from_residual-in_err-whole-in-Field.ensures.1 in
+    let q = err_from_is_err_and c.from_residual.result c.from_residual.ensures.1 in
     let e = c.in_err-whole-in-Field.field-0.0 in
     let inner : IsReached (at (doings p n xs) 0) us d m (Err e) = subst (λ (ys : List (Option TypedNode)). IsReached (at (doings p n ys) 0) us d m (Err e)) c.deref-in-Field.ensures.value (c.in_err-whole-in-Field.ensures n d m) in
     rw (q.1, q.2) (reached_as (at (doings p n c.args.parts.now) c.args.number) y us d m (Err e) ip (reached_field_left c.in-Field.field (at (doings p n xs) 0) us d m e inner))
@@ -162,8 +162,8 @@ returns-in-Otherwise t c = λ n d m.
     let ip = part_place p n c.args.parts.now c.args.number c.in-Some.node.now y c.in-Some.ensures (c.in-Otherwise.ensures n) in
     subst (λ (g : List meant.Value → Comp). outcome (g us) d m ≡ Undecided (world_view m.world).output) (sym ip.load) (is_undecided d m)
 
-pub returns : goal.returns
-returns t c = λ n d m.
+pub returns-in-Nothing : goal.returns-in-Nothing
+returns-in-Nothing t c = λ n d m.
     let p = c.args.checked.now in
     let us = values.views c.args.operands.now in
     let xs = (out-TypedNode c.in-Some.node.now).parts.items in
@@ -173,8 +173,8 @@ returns t c = λ n d m.
 
 pub reach-requires : goal.reach-requires
 reach-requires t c =
-    let low : sizes (views c.deref-in-Inner.result.now) < sizes (views c.args.parts.now) = smaller c.args.parts.now c.args.number c.in-Some.node.now c.deref-in-Inner.result.now c.in-Some.ensures c.deref-in-Inner.ensures.value in
-    (omega (arith, low, c.decreases), known_below (length c.args.checked.now.types.shapes) c.args.parts.now c.args.number c.in-Some.node.now c.deref-in-Inner.result.now c.requires c.in-Some.ensures c.deref-in-Inner.ensures.value)
+    let low : sizes (views c.deref.result.now) < sizes (views c.args.parts.now) = smaller c.args.parts.now c.args.number c.in-Some.node.now c.deref.result.now c.in-Some.ensures c.deref.ensures.value in
+    (omega (arith, low, c.decreases), known_below (length c.args.checked.now.types.shapes) c.args.parts.now c.args.number c.in-Some.node.now c.deref.result.now c.requires c.in-Some.ensures c.deref.ensures.value)
 
 pub reach-requires-in-Field : goal.reach-requires-in-Field
 reach-requires-in-Field t c =
