@@ -203,8 +203,8 @@ returns-in_ok-set_cell-in-Cell-clause-is t c = λ n d.
     let ip = part_place p n c.args.parts.now c.args.number c.in-Some.node.now (place_doing the_place.Cell (doings p n xs)) c.in-Some.ensures (c.in-Cell.ensures n) in
     let w1 = world_view c.set_cell.new.self in
     let done : perform SetCell (nth us 0 ∷ nth us 1 ∷ v ∷ []) (world_view m.world) ≡ Gives [] w1 =
-    subst (λ (i : meant.Value). perform SetCell (nth us 0 ∷ i ∷ v ∷ []) (world_view m.world) ≡ Gives [] w1) c.operand-in-Cell.ensures
-    (subst (λ (i : meant.Value). perform SetCell (i ∷ values.view c.operand-in-Cell.result.now ∷ v ∷ []) (world_view m.world) ≡ Gives [] w1) c.operand-slice.ensures c.in_ok-set_cell-in-Cell.ensures) in
+    subst (λ (i : meant.Value). perform SetCell (nth us 0 ∷ i ∷ v ∷ []) (world_view m.world) ≡ Gives [] w1) c.operand.ensures
+    (subst (λ (i : meant.Value). perform SetCell (i ∷ values.view c.operand.result.now ∷ v ∷ []) (world_view m.world) ≡ Gives [] w1) c.operand-slice.ensures c.in_ok-set_cell-in-Cell.ensures) in
     ap (λ (h : List meant.Value → meant.Value → Comp). outcome (h us v) d m) ip.store
     ∙ (writes_by SetCell (nth us 0 ∷ nth us 1 ∷ v ∷ []) d m (record m { world = c.set_cell.new.self }) done refl refl).is
 
@@ -222,8 +222,8 @@ returns-in_err-set_cell-in-Cell-clause-is t c = λ n d.
     let w1 = world_view c.set_cell.new.self in
     let m1 = record m { world = c.set_cell.new.self } in
     let done : IsStored {X = Unit {0}} (Err s) (perform SetCell (nth us 0 ∷ nth us 1 ∷ v ∷ []) w) w w1 =
-    subst (λ (i : meant.Value). IsStored {X = Unit {0}} (Err s) (perform SetCell (nth us 0 ∷ i ∷ v ∷ []) w) w w1) c.operand-in-Cell.ensures
-    (subst (λ (i : meant.Value). IsStored {X = Unit {0}} (Err s) (perform SetCell (i ∷ values.view c.operand-in-Cell.result.now ∷ v ∷ []) w) w w1) c.operand-slice.ensures c.in_err-set_cell-in-Cell.ensures) in
+    subst (λ (i : meant.Value). IsStored {X = Unit {0}} (Err s) (perform SetCell (nth us 0 ∷ i ∷ v ∷ []) w) w w1) c.operand.ensures
+    (subst (λ (i : meant.Value). IsStored {X = Unit {0}} (Err s) (perform SetCell (i ∷ values.view c.operand.result.now ∷ v ∷ []) w) w w1) c.operand-slice.ensures c.in_err-set_cell-in-Cell.ensures) in
     rw q.1 (subst (λ (h : List meant.Value → meant.Value → Comp). IsLeft q.0 m1 (outcome (h us v) d m)) (sym ip.store) (set_left SetCell (nth us 0 ∷ nth us 1 ∷ v ∷ []) d m m1 s q.0 done refl refl q.2))
 
 pub store-requires : goal.store-requires

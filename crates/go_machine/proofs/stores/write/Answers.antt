@@ -48,7 +48,7 @@ returns-in_err-set_cell-in-Cell-clause-is c = λ x us d h.
     let a = view c.in-Cell.slice in
     let b = view c.in-Cell.index in
     let w = view c.in_ok-other-in-Cell.other in
-    rw q.1 (set_trapped x us (view c.args.value) d c.args.machine.now m1 a b (view c.in_ok-whole-in-Cell.whole) w (world_view c.take_cell-whole.new.self) (world_view c.set_cell.new.self) c.in_err-set_cell-in-Cell.field-0.0 q.0
+    rw q.1 (set_trapped x us (view c.args.value) d c.args.machine.now m1 a b (view c.in_ok-whole-in-Cell.whole) w (world_view c.take_cell.new.self) (world_view c.set_cell.new.self) c.in_err-set_cell-in-Cell.field-0.0 q.0
       c.in_ok-whole-in-Cell.ensures.taken (c.in_ok-whole-in-Cell.ensures.left w) c.in_err-set_cell-in-Cell.ensures q.2)
 
 pub returns-in-Nothing-clause-is : goal.returns-in-Nothing-clause-is
