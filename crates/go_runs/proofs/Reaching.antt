@@ -125,12 +125,12 @@ reached_field k x us d m t s h e =
       whole = h.whole;
       root = subst (λ (q : Root). Reads (root_read q) d m h.whole) (sym e.0) h.root;
       load = one_reads (x.load us) (λ v. operate (Field k) (v ∷ [])) d m u (inner_at s.path.items h.whole) h.load (reads_by (Field k) (u ∷ []) d m (inner_at s.path.items h.whole)
-        (ap (λ v. Gives (v ∷ []) (world_view m.world)) (sym (ap (λ (ks : List ℕ). inner_at ks h.whole) e.1 ∙ inner_more t.path.items k h.whole))));
+          (ap (λ v. Gives (v ∷ []) (world_view m.world)) (sym (ap (λ (ks : List ℕ). inner_at ks h.whole) e.1 ∙ inner_more t.path.items k h.whole))));
       store = λ v.
-        one_is (x.load us) (λ u1. one (operate (WithField k) (u1 ∷ v ∷ [])) (λ r. x.store us r)) d m u h.load
-        ∙ one_is (operate (WithField k) (u ∷ v ∷ [])) (λ r. x.store us r) d m (with_part u k v) (reads_by (WithField k) (u ∷ v ∷ []) d m (with_part u k v) refl)
-        ∙ h.store (with_part u k v) ∙ ap (λ w. outcome (root_written t.root w) d m) (with_more t.path.items k h.whole v ∙ sym (ap (λ (ks : List ℕ). with_inner ks h.whole v) e.1))
-        ∙ ap (λ (q : Root). outcome (root_written q (with_inner s.path.items h.whole v)) d m) (sym e.0);
+          one_is (x.load us) (λ u1. one (operate (WithField k) (u1 ∷ v ∷ [])) (λ r. x.store us r)) d m u h.load
+          ∙ one_is (operate (WithField k) (u ∷ v ∷ [])) (λ r. x.store us r) d m (with_part u k v) (reads_by (WithField k) (u ∷ v ∷ []) d m (with_part u k v) refl)
+          ∙ h.store (with_part u k v) ∙ ap (λ w. outcome (root_written t.root w) d m) (with_more t.path.items k h.whole v ∙ sym (ap (λ (ks : List ℕ). with_inner ks h.whole v) e.1))
+          ∙ ap (λ (q : Root). outcome (root_written q (with_inner s.path.items h.whole v)) d m) (sym e.0);
     }
 
 pub reached_element : (n : ℕ) (x i : Doing) (us : List meant.Value) (d : ℕ) (m : Machine) (t s : Target) (k : ℕ) → Reached x (drop 1 us) d m t → index_below n (whole_of (nth us 0)) ≡ Some k → (s.root ≡ t.root) × (s.path.items ≡ t.path.items ++ k ∷ [])
@@ -144,13 +144,13 @@ reached_element n x i us d m t s k h there e =
       whole = h.whole;
       root = subst (λ (q : Root). Reads (root_read q) d m h.whole) (sym e.0) h.root;
       load = one_reads (x.load (drop 1 us)) (λ v. operate (Element n) (v ∷ j ∷ [])) d m u (inner_at s.path.items h.whole) h.load (reads_by (Element n) (u ∷ j ∷ []) d m (inner_at s.path.items h.whole)
-        (at_place_is n j k (λ p. Gives (nth (parts_of u) p ∷ []) w) there ∙ ap (λ v. Gives (v ∷ []) w) (sym (ap (λ (ks : List ℕ). inner_at ks h.whole) e.1 ∙ inner_more t.path.items k h.whole))));
+          (at_place_is n j k (λ p. Gives (nth (parts_of u) p ∷ []) w) there ∙ ap (λ v. Gives (v ∷ []) w) (sym (ap (λ (ks : List ℕ). inner_at ks h.whole) e.1 ∙ inner_more t.path.items k h.whole))));
       store = λ v.
-        passed n j k (one (x.load (drop 1 us)) (λ u1. one (operate WithElement (u1 ∷ j ∷ v ∷ [])) (λ r. x.store (drop 1 us) r))) d m there
-        ∙ one_is (x.load (drop 1 us)) (λ u1. one (operate WithElement (u1 ∷ j ∷ v ∷ [])) (λ r. x.store (drop 1 us) r)) d m u h.load
-        ∙ one_is (operate WithElement (u ∷ j ∷ v ∷ [])) (λ r. x.store (drop 1 us) r) d m (with_part u k v) (reads_by WithElement (u ∷ j ∷ v ∷ []) d m (with_part u k v) (put v))
-        ∙ h.store (with_part u k v) ∙ ap (λ w. outcome (root_written t.root w) d m) (with_more t.path.items k h.whole v ∙ sym (ap (λ (ks : List ℕ). with_inner ks h.whole v) e.1))
-        ∙ ap (λ (q : Root). outcome (root_written q (with_inner s.path.items h.whole v)) d m) (sym e.0);
+          passed n j k (one (x.load (drop 1 us)) (λ u1. one (operate WithElement (u1 ∷ j ∷ v ∷ [])) (λ r. x.store (drop 1 us) r))) d m there
+          ∙ one_is (x.load (drop 1 us)) (λ u1. one (operate WithElement (u1 ∷ j ∷ v ∷ [])) (λ r. x.store (drop 1 us) r)) d m u h.load
+          ∙ one_is (operate WithElement (u ∷ j ∷ v ∷ [])) (λ r. x.store (drop 1 us) r) d m (with_part u k v) (reads_by WithElement (u ∷ j ∷ v ∷ []) d m (with_part u k v) (put v))
+          ∙ h.store (with_part u k v) ∙ ap (λ w. outcome (root_written t.root w) d m) (with_more t.path.items k h.whole v ∙ sym (ap (λ (ks : List ℕ). with_inner ks h.whole v) e.1))
+          ∙ ap (λ (q : Root). outcome (root_written q (with_inner s.path.items h.whole v)) d m) (sym e.0);
     }
 
 pub reached_field_left : (k : ℕ) (x : Doing) (us : List meant.Value) (d : ℕ) (m : Machine) (e : Exit) → IsLeft e m (outcome (x.load us) d m) → IsLeft e m (outcome ((field_place k x).load us) d m)
@@ -165,7 +165,7 @@ pub reached_index_left : (n : ℕ) (x i : Doing) (us : List meant.Value) (d : �
 reached_index_left n x i us d m t e h there =
     let u = inner_at t.path.items h.whole in
     one_then_left (x.load (drop 1 us)) (λ v. operate (Element n) (v ∷ nth us 0 ∷ [])) d m u e h.load (subst (λ (y : Exit). IsLeft y m (outcome (operate (Element n) (u ∷ nth us 0 ∷ [])) d m)) (sym there.1)
-      (panics_by (Element n) (u ∷ nth us 0 ∷ []) d m panic.Index (ap (λ o. found o (λ p. Gives (nth (parts_of u) p ∷ []) (world_view m.world))) there.0)))
+    (panics_by (Element n) (u ∷ nth us 0 ∷ []) d m panic.Index (ap (λ o. found o (λ p. Gives (nth (parts_of u) p ∷ []) (world_view m.world))) there.0)))
 
 pub reached_cell : (x i : Doing) (us : List meant.Value) (d : ℕ) (m : Machine) (t : Target) (a b : Value) (k : ℕ) → t.root ≡ root.Cell a b → t.path.items ≡ [] → view a ≡ nth us 0 → view b ≡ nth us 1 → index_below (length_of (nth us 0)) (whole_of (nth us 1)) ≡ Some k
     → Reached (cell_place x i) us d m t
@@ -174,6 +174,6 @@ reached_cell x i us d m t a b k er ep ea eb there =
     let v = cell (view a) k w in
     let same : index_below (length_of (view a)) (whole_of (view b)) ≡ Some k = ap (λ s. index_below (length_of s) (whole_of (view b))) ea ∙ ap (λ j. index_below (length_of (nth us 0)) (whole_of j)) eb ∙ there in
     reached_whole (cell_place x i) us d m t (root.Cell a b) v er ep
-      (ap (λ s. operate Cell (s ∷ nth us 1 ∷ [])) (sym ea) ∙ ap (λ j. operate Cell (view a ∷ j ∷ [])) (sym eb))
-      (λ u. ap (λ s. operate SetCell (s ∷ nth us 1 ∷ u ∷ [])) (sym ea) ∙ ap (λ j. operate SetCell (view a ∷ j ∷ u ∷ [])) (sym eb))
-      (reads_by Cell (view a ∷ view b ∷ []) d m v (at_place_is (length_of (view a)) (view b) k (λ p. Gives (cell (view a) p w ∷ []) w) same))
+    (ap (λ s. operate Cell (s ∷ nth us 1 ∷ [])) (sym ea) ∙ ap (λ j. operate Cell (view a ∷ j ∷ [])) (sym eb))
+    (λ u. ap (λ s. operate SetCell (s ∷ nth us 1 ∷ u ∷ [])) (sym ea) ∙ ap (λ j. operate SetCell (view a ∷ j ∷ u ∷ [])) (sym eb))
+    (reads_by Cell (view a ∷ view b ∷ []) d m v (at_place_is (length_of (view a)) (view b) k (λ p. Gives (cell (view a) p w ∷ []) w) same))

@@ -130,19 +130,12 @@ pub fn take_part(alloc: Global, value: Value, place: usize) -> Result<(Value, Va
             let part = take_shared(alloc, &mut parts, place)?;
             Ok((Value::Parts(parts), part))
         }
-        _ => Ok((
-            Value::of_parts(alloc, Vec::new(alloc))?,
-            Value::NilFunction,
-        )),
+        _ => Ok((Value::of_parts(alloc, Vec::new(alloc))?, Value::NilFunction)),
     }
 }
 
 /// Takes the part at a place out, and leaves a nil function: in place where nobody shares the parts, else in a copy of them.
-fn take_shared(
-    alloc: Global,
-    parts: &mut Rc<Vec<Value>>,
-    place: usize,
-) -> Result<Value, Memory>
+fn take_shared(alloc: Global, parts: &mut Rc<Vec<Value>>, place: usize) -> Result<Value, Memory>
     ensures taken { IfOk result (λ v. view v ≡ nth (views parts.old.value.items) place) }
     ensures left { OnOk result (views parts.new.value.items ≡ slice_set (views parts.old.value.items) place NilFunction) }
 {

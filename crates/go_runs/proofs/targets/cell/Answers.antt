@@ -36,4 +36,4 @@ returns c = λ x i d m.
     (subst (λ (a : meant.Value). (then : ℕ → Deed) → at_index (length_of a) j then ≡ then k) c.operand-slice.ensures
     (subst (λ (n : ℕ). (then : ℕ → Deed) → at_index n j then ≡ then k) c.length.ensures c.in_ok-place_of.ensures.place)) in
     reached_cell x i us d m c.whole.result c.in_ok-array.array c.in_ok-place.place k c.whole.ensures.root c.whole.ensures.path
-      (c.in_ok-array.ensures ∙ c.operand-slice.ensures) (c.in_ok-place.ensures ∙ c.operand-index.ensures) (index_place (length_of (nth us 0)) (nth us 1) k told)
+    (c.in_ok-array.ensures ∙ c.operand-slice.ensures) (c.in_ok-place.ensures ∙ c.operand-index.ensures) (index_place (length_of (nth us 0)) (nth us 1) k told)
