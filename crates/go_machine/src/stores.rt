@@ -1,22 +1,25 @@
 //! Assignments to places (Go specification, "Assignment statements").
 
-ghost use Rattle.std.specs.Prelude.{◌≡◌, ℕ, suc, IfOk, length};
+ghost use Rattle.std.specs.Prelude.{◌≡◌, ℕ, List, suc, IfOk, length};
 ghost use Rattle.go_typed.specs.Views.{AllKnown};
-ghost use Rattle.go_meaning.specs.Doings.{at};
+ghost use Rattle.go_meaning.specs.Values as meant;
+ghost use Rattle.go_meaning.specs.Doings.{Doing, at};
 ghost use Rattle.go_values.specs.Views.{view, views};
 ghost use Rattle.go_runs.specs.Machines.{outcome};
 ghost use Rattle.go_runs.specs.Programs.{doings};
+ghost use Rattle.go_runs.specs.Targets.{Reached};
 ghost use Rattle.go_machine.specs.Written.{IsWritten};
 
 use go_base::Memory;
 use go_eval::parts::part;
-use go_runs::calls::put_at;
+use go_runs::calls::{put_at, take_at};
 use go_runs::exit::Exit;
 use go_runs::machine::Machine;
-use go_runs::places::{Place, as_place, in_array, load, operand, rest};
+use go_runs::places::{Place, as_place, operand, rest};
+use go_runs::targets::{Root, Target, place_in, reach};
 use go_typed::checked::Checked;
 use go_typed::node::TypedNode;
-use go_values::{Value, with_element, with_field};
+use go_values::{Value, with_inner};
 use std::alloc::Global;
 
 /// How many operands a part has as a place.
@@ -65,6 +68,40 @@ fn one_more(number: usize) -> Result<usize, Memory>
     }
 }
 
+/// Assigns a value to a part of a root. The value of the root is taken out meanwhile, so that nothing is copied that nobody else
+/// shares.
+///
+/// # Errors
+///
+/// The panic of an index; want of memory.
+fn write(alloc: Global, target: Target, value: Value, machine: &mut Machine) -> Result<(), Exit>
+    ensures is { (x : Doing) (us : List meant.Value) (d : ℕ) → Reached x us d machine.old target → IsWritten (outcome (x.store us (view value)) d machine.old) result machine.new }
+    ensures turns { machine.new.turns ≡ machine.old.turns }
+{
+    let Target { root, path } = target;
+    match root {
+        Root::Local(local) => {
+            let whole = take_at(&mut machine.frame, local as usize);
+            let other = with_inner(alloc, whole, path.as_slice(), value)?;
+            put_at(&mut machine.frame, local as usize, other);
+            Ok(())
+        }
+        Root::Variable(variable) => {
+            let whole = machine.world.take_variable(variable as usize);
+            let other = with_inner(alloc, whole, path.as_slice(), value)?;
+            machine.world.write_variable(variable as usize, other);
+            Ok(())
+        }
+        Root::Cell(slice, index) => {
+            let whole = machine.world.take_cell(&slice, &index)?;
+            let other = with_inner(alloc, whole, path.as_slice(), value)?;
+            machine.world.set_cell(&slice, &index, other)?;
+            Ok(())
+        }
+        Root::Nothing => Ok(()),
+    }
+}
+
 /// Assigns a value to the place that a part is, with these operands.
 ///
 /// # Errors
@@ -103,16 +140,13 @@ pub fn store(
         Place::Blank => Ok(()),
         Place::Inner => store(alloc, checked, &node.parts, 0, operands, value, machine),
         Place::Field(field) => {
-            let whole = load(alloc, checked, &node.parts, 0, operands, machine)?;
-            let other = with_field(alloc, field as usize, whole, value);
-            store(alloc, checked, &node.parts, 0, operands, other, machine)
+            let whole = reach(alloc, checked, &node.parts, 0, operands)?;
+            write(alloc, whole.inner(field as usize)?, value, machine)
         }
         Place::Element(length) => {
-            in_array(length, operands)?;
-            let array = rest(operands);
-            let whole = load(alloc, checked, &node.parts, 0, array, machine)?;
-            let other = with_element(alloc, whole, operand(operands, 0, &nil), value);
-            store(alloc, checked, &node.parts, 0, array, other, machine)
+            let place = place_in(length, operands)?;
+            let array = reach(alloc, checked, &node.parts, 0, rest(operands))?;
+            write(alloc, array.inner(place)?, value, machine)
         }
         Place::Cell => {
             let slice = operand(operands, 0, &nil);

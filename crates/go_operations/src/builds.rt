@@ -8,7 +8,6 @@ ghost use Rattle.go_typed.specs.Views as typed;
 ghost use Rattle.go_meaning.specs.Computations as meaning;
 ghost use Rattle.go_meaning.specs.Operations.{Build, Gives, perform, placed};
 ghost use Rattle.go_meaning.specs.Planning.{place_of, places_from, places_of, zero_in};
-ghost use Rattle.go_meaning.specs.Values.{parts_of};
 ghost use Rattle.go_eval.specs.Views.{type_in};
 ghost use Rattle.go_values.specs.Views.{view, views};
 ghost use Rattle.go_operations.specs.Building.{place_there};
@@ -91,16 +90,6 @@ fn placed(values: Vec<Value>, places: &[usize], others: Vec<Value>) -> Vec<Value
     values
 }
 
-/// The parts of an array or a struct; none of what is neither.
-fn parts_of(alloc: Global, value: Value) -> Vec<Value>
-    ensures { views result.items ≡ parts_of (view value) }
-{
-    match value {
-        Value::Parts(parts) => parts,
-        _ => Vec::new(alloc),
-    }
-}
-
 /// An array or a struct with the operands as the elements that stand in a literal, the rest as in the zero value of the type.
 ///
 /// # Errors
@@ -119,6 +108,6 @@ pub fn build(
 {
     let zero = zero_value(alloc, types, ty)?;
     let places = places(alloc, parts)?;
-    let built = placed(parts_of(alloc, zero), places.as_slice(), operands);
-    Ok(Value::Parts(built))
+    let built = placed(zero.into_parts(alloc)?, places.as_slice(), operands);
+    Value::of_parts(alloc, built)
 }

@@ -53,12 +53,12 @@ fn of_settled(alloc: Global, types: &Types, a: TypeId) -> Result<Value, Memory>
         Some(Shape::Int(_)) => Ok(Value::Whole(0)),
         Some(Shape::Array { length, elem }) => {
             let element = of_settled(alloc, types, *elem)?;
-            Ok(Value::Parts(copies(alloc, &element, *length)?))
+            Value::of_parts(alloc, copies(alloc, &element, *length)?)
         }
         Some(Shape::Slice { .. }) => Ok(Value::NilSlice),
         Some(Shape::Struct { fields }) => {
             let values = of_fields(alloc, types, fields.as_slice())?;
-            Ok(Value::Parts(values))
+            Value::of_parts(alloc, values)
         }
         Some(Shape::Func { .. }) => Ok(Value::NilFunction),
         Some(Shape::Named { .. }) => Ok(Value::NilFunction),

@@ -4,3 +4,4 @@ pub mod Nodes
 pub mod Sizes
 pub mod Placing
 pub mod Frames
+pub mod Reaching

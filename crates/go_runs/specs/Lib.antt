@@ -2,3 +2,4 @@ pub mod Called
 pub mod Machines
 pub mod Places
 pub mod Programs
+pub mod Targets

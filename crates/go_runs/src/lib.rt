@@ -11,3 +11,4 @@ pub mod exit;
 pub mod machine;
 pub mod parts;
 pub mod places;
+pub mod targets;

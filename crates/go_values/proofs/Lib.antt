@@ -7,3 +7,4 @@ pub mod Arrays
 pub mod Appending
 pub mod Quotients
 pub mod Copying
+pub mod Inner

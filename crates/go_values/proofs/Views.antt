@@ -1,6 +1,7 @@
 -- Values, level by level, and lists of them.
 use Rattle.std.proofs.Common.{◌≡◌, ℕ, zero, suc, ◌<◌, ◌≤◌, List, [], ◌∷◌, Vec, Global, None, slice_get, slice_set, get_or, length, ℤ, refl, sym, ap, ◌∙◌, arith, rules}
 use Rattle.std.specs.Option.{unwrap_or}
+use Rattle.std.specs.declared.rc.Rc.{Rc}
 use Rattle.std.proofs.lemmas.List.{map-set}
 use Rattle.std.proofs.lemmas.Option.{unwrap_or-slice_get}
 use Rattle.go_meaning.specs.Values as meant
@@ -9,7 +10,7 @@ use Rattle.go_values.specs.Views.{view, views}
 use Rattle.go_values.specs.declared.value.Segment.{Segment}
 use Rattle.go_values.specs.declared.value.Value.{Value, Whole, Parts, Slice, NilFunction, the_lemmas}
 
-pub view_parts : (v : Vec Value Global) → view (Parts v) ≡ meant.Parts (valued (views v.items))
+pub view_parts : (v : Rc (Vec Value Global) Global) → view (Parts v) ≡ meant.Parts (valued (views v.value.items))
 view_parts v = search (rules, the_lemmas)
 
 pub view_nil : view NilFunction ≡ meant.NilFunction
@@ -25,8 +26,8 @@ pub listed_valued : (vs : List meant.Value) → listed (valued vs) ≡ vs
 listed_valued [] = refl
 listed_valued (v ∷ vs) = ap (λ us. v ∷ us) (listed_valued vs)
 
-pub parts_are : (u : Value) (v : Vec Value Global) → u ≡ Parts v → parts_of (view u) ≡ views v.items
-parts_are u v e = ap (λ x. parts_of (view x)) e ∙ ap parts_of (view_parts v) ∙ listed_valued (views v.items)
+pub parts_are : (u : Value) (v : Rc (Vec Value Global) Global) → u ≡ Parts v → parts_of (view u) ≡ views v.value.items
+parts_are u v e = ap (λ x. parts_of (view x)) e ∙ ap parts_of (view_parts v) ∙ listed_valued (views v.value.items)
 
 pub views_set : (vs : List Value) (i : ℕ) (v : Value) → views (slice_set vs i v) ≡ slice_set (views vs) i (view v)
 views_set vs i v = map-set view vs i v

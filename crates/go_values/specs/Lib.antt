@@ -2,3 +2,4 @@ pub mod Views
 pub mod Deeds
 pub mod Worlds
 pub mod Lines
+pub mod Inner

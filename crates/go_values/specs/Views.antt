@@ -12,7 +12,7 @@ abbrev pub view_step : Value-F meant.Value → meant.Value
 view_step (Value-F.Truth b) = meant.Truth b
 view_step (Value-F.Whole z) = meant.Whole z
 view_step (Value-F.Text bytes) = meant.Text bytes
-view_step (Value-F.Parts v) = meant.Parts (valued v.items)
+view_step (Value-F.Parts v) = meant.Parts (valued v.value.items)
 view_step (Value-F.Slice s) = meant.Slice s.array s.start s.length s.capacity
 view_step Value-F.NilSlice = meant.NilSlice
 view_step (Value-F.Function n) = meant.Function n

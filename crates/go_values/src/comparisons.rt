@@ -44,7 +44,10 @@ pub fn equal(a: &Value, b: &Value) -> bool
         (Value::Truth(a), Value::Truth(b)) => *a == *b,
         (Value::Whole(a), Value::Whole(b)) => *a == *b,
         (Value::Text(a), Value::Text(b)) => a.as_slice() == b.as_slice(),
-        (Value::Parts(a), Value::Parts(b)) => all_equal(a, b),
+        (Value::Parts(a), Value::Parts(b)) => all_equal(
+            a.as_ref().as_slice(),
+            b.as_ref().as_slice(),
+        ),
         (Value::NilSlice, Value::NilSlice) => true,
         (Value::NilFunction, Value::NilFunction) => true,
         _ => false,

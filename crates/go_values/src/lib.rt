@@ -20,9 +20,7 @@ mod world;
 pub use comparisons::{compare, equal};
 pub use integers::{complement, compute, convert, negate, not};
 pub use panic::{Panic, Stop};
-pub use parts::{
-    copy_part, element, field, part, place_of, take_part, with_element, with_field, with_part,
-};
+pub use parts::{copy_part, element, field, part, place_of, take_part, with_inner, with_part};
 pub use slices::{capacity, length};
 pub use texts::{byte, join};
 pub use value::{Segment, Value, copies_of};

@@ -2,15 +2,16 @@
 
 ghost use Rattle.std.specs.Prelude.{◌≡◌, ◌&&◌, ◌+◌, ◌*◌, ◌^◌, ◌<◌, ◌≤◌, ◌++◌, max, [], ◌∷◌, IfOk, IfSome, IfNone, OnOk, OnErr, get_or, int_le, is_some, length, pos, slice_set, take};
 ghost use Rattle.type_tests.specs.Zeros.{Zero};
-ghost use Rattle.go_meaning.specs.Values.{Slice, whole_of, zero_value};
+ghost use Rattle.go_meaning.specs.Values as meant;
+ghost use Rattle.go_meaning.specs.Values.{NilFunction, Slice, nth, whole_of, zero_value};
 ghost use Rattle.go_meaning.specs.Operations.{Append, Cell, Copy, Gather, Gives, SetCell, array_at, capacity_of, cell, contents, length_of, longer, made, new_slice, perform, put_at, source, with_cells};
 ghost use Rattle.go_values.specs.Views.{view, views};
 ghost use Rattle.go_values.specs.Worlds.{array_views, world_view};
-ghost use Rattle.go_values.specs.Deeds.{IsDone, IsStored};
+ghost use Rattle.go_values.specs.Deeds.{IsDone, IsStored, deed};
 
 use crate::lists::{copy_at, filled, joined, put_all, put_or_push, window};
 use crate::panic::{Panic, Stop};
-use crate::parts::place_of;
+use crate::parts::{place_of, taken};
 use crate::texts::values_of;
 use crate::value::{Segment, Value, copies_of};
 use crate::world::World;
@@ -27,7 +28,7 @@ pub fn length(value: &Value) -> usize
     match value {
         Value::Slice(segment) => segment.length,
         Value::Text(bytes) => bytes.as_slice().len(),
-        Value::Parts(parts) => parts.as_slice().len(),
+        Value::Parts(parts) => parts.as_ref().as_slice().len(),
         _ => 0,
     }
 }
@@ -97,6 +98,19 @@ fn put_in(
         put_or_push(&mut arrays[array], place, value)?;
     }
     Ok(())
+}
+
+/// Takes a value out of one of the arrays, and leaves a nil function.
+#[tactic(auto, using(crate::proofs::Arrays::arrays_set, crate::proofs::Arrays::array_within, crate::proofs::Arrays::arrays_beyond, crate::proofs::Views::view_nil, crate::proofs::Arrays::none_there))]
+fn take_in(arrays: &mut Vec<Vec<Value>>, array: usize, place: u128) -> Value
+    ensures taken { view result ≡ nth (get_or (array_views arrays.old.items) array []) place }
+    ensures left { array_views arrays.new.items ≡ slice_set (array_views arrays.old.items) array (slice_set (get_or (array_views arrays.old.items) array []) place NilFunction) }
+{
+    if array < arrays.len() {
+        taken(&mut arrays[array], place)
+    } else {
+        Value::NilFunction
+    }
 }
 
 /// Puts values into one of the arrays, one behind the other from a place on.
@@ -248,6 +262,33 @@ impl World {
     {
         let place = place_of(index, length(slice))?;
         Ok(self.put_cell(slice, place, value)?)
+    }
+
+    /// Takes an element of a slice out, which serves to change it without a copy. The element is to be assigned next: that does
+    /// the same as before. Where it panics the world stays as it was.
+    ///
+    /// # Errors
+    ///
+    /// An index out of range.
+    pub fn take_cell(&mut self, slice: &Value, index: &Value) -> Result<Value, Panic>
+        ensures taken { perform Cell (view slice.now ∷ view index.now ∷ []) (world_view self.old) ≡ deed (world_view self.old) result }
+        ensures left { (v : meant.Value) → perform SetCell (view slice.now ∷ view index.now ∷ v ∷ []) (world_view self.new) ≡ perform SetCell (view slice.now ∷ view index.now ∷ v ∷ []) (world_view self.old) }
+    {
+        let place = place_of(index, length(slice))?;
+        Ok(self.take_from(slice, place))
+    }
+
+    fn take_from(&mut self, slice: &Value, place: usize) -> Value
+        ensures taken { view result ≡ cell (view slice.now) place (world_view self.old) }
+        ensures left { (v : meant.Value) → with_cells (view slice.now) place (v ∷ []) (world_view self.new) ≡ with_cells (view slice.now) place (v ∷ []) (world_view self.old) }
+    {
+        match slice {
+            Value::Slice(segment) => {
+                let place = segment.start as u128 + place as u128;
+                take_in(&mut self.arrays, segment.array, place)
+            }
+            _ => Value::NilFunction,
+        }
     }
 
     fn put_cell(&mut self, slice: &Value, place: usize, value: Value) -> Result<(), Memory>

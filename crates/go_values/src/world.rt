@@ -1,12 +1,14 @@
 //! The world: what calls share.
 
 ghost use Rattle.std.specs.Prelude.{◌≡◌, [], ◌∷◌, IfOk};
+ghost use Rattle.go_meaning.specs.Values as meant;
 ghost use Rattle.go_meaning.specs.Operations.{ReadVariable, WriteVariable, ReadByte, Gives, perform};
 ghost use Rattle.go_meaning.specs.Meaning.{Program, start};
 ghost use Rattle.go_values.specs.Views.{view, views};
 ghost use Rattle.go_values.specs.Worlds.{world_view};
 
 use crate::lists::{copy_at, filled, put};
+use crate::parts::taken;
 use crate::value::Value;
 use go_base::Memory;
 use std::alloc::Global;
@@ -57,6 +59,15 @@ impl World {
         ensures { IfOk result (λ v. perform (ReadVariable number) [] (world_view self.now) ≡ Gives (view v ∷ []) (world_view self.now)) }
     {
         copy_at(alloc, &self.variables, number as u128)
+    }
+
+    /// Takes the value of a variable of the package out, which serves to change it without a copy. The variable is to be assigned
+    /// next: that does the same as before.
+    pub fn take_variable(&mut self, number: usize) -> Value
+        ensures taken { perform (ReadVariable number) [] (world_view self.old) ≡ Gives (view result ∷ []) (world_view self.old) }
+        ensures left { (v : meant.Value) → perform (WriteVariable number) (v ∷ []) (world_view self.new) ≡ perform (WriteVariable number) (v ∷ []) (world_view self.old) }
+    {
+        taken(&mut self.variables, number as u128)
     }
 
     /// Assigns to a variable of the package (Go specification, "Assignment statements").

@@ -1,12 +1,13 @@
 use Rattle.std.proofs.Common.{◌≡◌, [], List, Option, Some, IsSome, false, pos, length, replicate, slice_get, refl, sym, ap, ◌∙◌, subst, arith, rules}
 use Rattle.std.proofs.lemmas.Option.{slice_get_read}
+use Rattle.std.proofs.lemmas.Result.{IfOk-weaker}
 use Rattle.go_types.specs.declared.shape.Field.{Field}
 use Rattle.go_types.specs.declared.shape.Shape.{Shape}
 use Rattle.go_types.specs.Tables.{HasPartsBelow, type_of, rights_of, tree_of}
 use Rattle.type_tests.specs.Zeros.{Zero, zero_of, zeros_of}
 use Rattle.go_meaning.specs.Values as meant
 use Rattle.go_meaning.specs.Values.{valued}
-use Rattle.go_values.proofs.Views.{view_nil, view_parts, view_whole}
+use Rattle.go_values.proofs.Views.{view_nil, view_whole}
 use Rattle.go_values.proofs.Copying.{view_text}
 use Rattle.go_operations.specs.Settled.{AreKnown, row_of, zeros_in, told_size, told_row_size}
 use Rattle.go_operations.proofs.Plain.{view_truth, view_nil_slice}
@@ -82,9 +83,9 @@ of_settled-returns-in_ok-copies-in-Some-Array t c =
     let a = c.in-Some-Array in
     let z = arm R F T a.field-0.now _ a.field-0-is a.ensures.tree in
     let told = array_told (zero_of R (F a.elem)) a.length (subst (λ (o : Option Zero). IsSome o) z c.requires.told) in
-    view_parts c.in_ok-copies-in-Some-Array.field-0
+    IfOk-weaker c.of_parts.result _ _ (λ v h. h
     ∙ ap (λ (us : List meant.Value). meant.Parts (valued us)) (c.in_ok-copies-in-Some-Array.ensures ∙ ap (replicate a.length) c.in_ok-element-in-Some-Array.ensures)
-    ∙ array_value (zero_of R (F a.elem)) a.length told ∙ value_at R F T a.field-0.now _ a.field-0-is a.ensures.tree
+    ∙ array_value (zero_of R (F a.elem)) a.length told ∙ value_at R F T a.field-0.now _ a.field-0-is a.ensures.tree) c.of_parts.ensures
 
 pub of_settled-of_fields-requires : goal.of_settled-of_fields-requires
 of_settled-of_fields-requires t c =
@@ -109,9 +110,9 @@ of_settled-returns-in_ok-values-in-Some-Struct t c =
     let e = c.as_slice.ensures in
     let z = arm R F T a.field-0.now _ a.field-0-is a.ensures.tree in
     let told = struct_told (zeros_of R (row_of F a.fields)) (subst (λ (o : Option Zero). IsSome o) z c.requires.told) in
-    view_parts c.in_ok-values-in-Some-Struct.values
+    IfOk-weaker c.of_parts-in-Some-Struct.result _ _ (λ v h. h
     ∙ ap (λ (us : List meant.Value). meant.Parts (valued us)) (c.in_ok-values-in-Some-Struct.ensures ∙ ap (zeros_in R F) e)
-    ∙ struct_value R F a.fields told ∙ value_at R F T a.field-0.now _ a.field-0-is a.ensures.tree
+    ∙ struct_value R F a.fields told ∙ value_at R F T a.field-0.now _ a.field-0-is a.ensures.tree) c.of_parts-in-Some-Struct.ensures
 
 pub of_fields-of_settled-requires : goal.of_fields-of_settled-requires
 of_fields-of_settled-requires t c =
