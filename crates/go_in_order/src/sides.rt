@@ -1,0 +1,121 @@
+//! The right sides of declared types, by their numbers.
+ghost use Rattle.std.specs.Prelude.{◌≡◌, ◌++◌, ℕ, IfOk, IsTrue, OnOk, Some, length, slice_get};
+ghost use Rattle.std.specs.Option.{option_map};
+ghost use Rattle.go_package.specs.Knowledge.{is_type};
+ghost use Rattle.go_types.specs.Tables.{Table};
+ghost use Rattle.type_tests.specs.Extends.{Extends};
+ghost use Rattle.go_judging.specs.Held.{KnownRight, AllHeld};
+ghost use Rattle.go_judging.specs.Rights.{rights_held};
+ghost use Rattle.go_judging.specs.World.{AreNamed};
+ghost use Rattle.go_in_order.specs.Progress.{KnownRights, HasRights, own_right, sides};
+
+use crate::progress::put_right;
+use go_base::Memory;
+use go_judging::world::{named_type, type_number};
+use go_judging::{Held, World};
+use go_local_types::rights::give_right;
+use go_tree::context::Entity;
+use go_tree::object::Declared;
+use go_types::{TypeId, Types};
+use std::alloc::Global;
+
+/// What the object of this number is declared as.
+fn entity_at(objects: &[Declared], number: usize) -> Result<Entity, Memory>
+    ensures { IfOk result (λ e. option_map (λ d. d.entity) (slice_get objects.now number) ≡ Some e) }
+{
+    match objects.get(number) {
+        Some(object) => Ok(object.entity),
+        None => Err(Memory),
+    }
+}
+
+/// The right side that is held of the object of this number.
+fn right_at(all: &[Held], number: usize) -> Result<Option<TypeId>, Memory>
+    ensures { IfOk result (λ r. option_map (λ h. h.right) (slice_get all.now number) ≡ Some r) }
+{
+    match all.get(number) {
+        Some(known) => Ok(known.right),
+        None => Err(Memory),
+    }
+}
+
+/// Adds the right side of an object, if it is a type.
+fn add_right(
+    rights: &mut Vec<Option<TypeId>>,
+    entity: Entity,
+    right: Option<TypeId>,
+) -> Result<(), Memory>
+    ensures { OnOk result (rights.new.items ≡ rights.old.items ++ own_right (is_type entity) right) }
+{
+    match entity {
+        Entity::Type => {
+            rights.push(right)?;
+            Ok(())
+        }
+        _ => Ok(()),
+    }
+}
+
+/// The right sides that are held of the objects that are types.
+pub fn sides_held(
+    alloc: Global,
+    objects: &[Declared],
+    all: &[Held],
+) -> Result<Vec<Option<TypeId>>, Memory>
+    ensures known { (n : ℕ) → AllHeld n all.now → IfOk result (λ v. KnownRights n v.items) }
+    ensures are { IfOk result (λ v. (t : Table) → sides t v.items ≡ rights_held t objects.now all.now) }
+{
+    let mut rights = Vec::new(alloc);
+    for number in 0..objects.len() {
+        let entity = entity_at(objects, number)?;
+        let right = right_at(all, number)?;
+        add_right(&mut rights, entity, right)?;
+    }
+    Ok(rights)
+}
+
+/// Whether the right sides are those that are held of the objects.
+pub fn are_held(
+    alloc: Global,
+    objects: &[Declared],
+    all: &[Held],
+    rights: &[Option<TypeId>],
+) -> Result<bool, Memory>
+    ensures { IfOk result (λ b. IsTrue b → (t : Table) → sides t rights.now ≡ rights_held t objects.now all.now) }
+{
+    let held = sides_held(alloc, objects, all)?;
+    Ok(held.as_slice() == rights)
+}
+
+/// A type takes the right side that is found of it, if it has none yet and may take it.
+pub fn give(
+    types: &mut Types,
+    world: &World<'_>,
+    rights: &mut Vec<Option<TypeId>>,
+    number: usize,
+    right: Option<TypeId>,
+) -> Result<(), Memory>
+    requires named { AreNamed types.old world.now.named.now }
+    requires right { KnownRight (length types.old.shapes) right }
+    requires rights { HasRights types.old rights.old.items }
+    ensures extends { Extends types.old types.new }
+    ensures shapes { types.new.shapes ≡ types.old.shapes }
+    ensures rights { OnOk result (HasRights types.new rights.new.items) }
+{
+    types.count();
+    let Some(right) = right else {
+        return Ok(());
+    };
+    let Some(place) = type_number(world.env, number) else {
+        return Ok(());
+    };
+    let Some(named) = named_type(world.named, place as usize) else {
+        return Ok(());
+    };
+    if !types.can_define(named, right) {
+        return Ok(());
+    }
+    give_right(types, named, Some(right))?;
+    put_right(rights, place as usize, right);
+    Ok(())
+}
