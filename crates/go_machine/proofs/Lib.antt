@@ -7,6 +7,8 @@ pub mod Looping
 pub mod Again
 pub mod Performed
 pub mod Gathering
+pub mod Plans
+pub mod Giving
 pub mod Stepping
 pub mod Performing
 pub mod Writing

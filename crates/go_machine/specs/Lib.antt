@@ -1,4 +1,5 @@
 pub mod Rests
 pub mod Tasks
 pub mod Engines
+pub mod Giving
 pub mod Written

@@ -1,6 +1,7 @@
 //! Asking parts, and tasks that stand behind what parts give.
 
 use crate::engine::Engine;
+use crate::ready::{block_at, is_plain_part, ready_value};
 use crate::task::What;
 use go_base::Memory;
 use go_eval::parts::part;
@@ -9,15 +10,49 @@ use go_typed::node::TypedNode;
 use go_values::Value;
 
 impl<'a> Engine<'a> {
-    ghost use Rattle.std.specs.Prelude.{length, OnOk};
+    ghost use Rattle.std.specs.Prelude.{ℕ, length, IfOk};
     ghost use Rattle.go_typed.specs.Packages.{PackageView};
     ghost use Rattle.go_typed.specs.Views.{Known};
     ghost use Rattle.go_values.specs.Views.{view};
-    ghost use Rattle.go_machine.specs.Tasks.{IsFit};
+    ghost use Rattle.go_meaning.specs.Doings.{at};
+    ghost use Rattle.go_machine.specs.Tasks.{IsFit, parts_of};
+    ghost use Rattle.go_machine.specs.Giving.{IsGiven};
     ghost use Rattle.go_machine.specs.Engines.{Goes, IsPushed, asks_part, seeks_part, lays, lays_value, lays_find, lays_values, lays_finds, lays_given};
 
-    /// Asks a part for its value; one that isn't there gives nothing.
+    /// Gives the value of a part that is ready, and nothing for one that isn't there; false where neither is so.
+    ///
+    /// # Errors
+    ///
+    /// Want of memory.
+    pub fn give_ready(&mut self, node: &TypedNode, number: usize) -> Result<bool, Memory>
+        ensures { IfOk result (λ ready. IsGiven (λ p n. (at (parts_of p n node.now) number).value) self.old ready self.new) }
+    {
+        let Some(asked) = part(&node.parts, number) else {
+            return Ok(true);
+        };
+        let alloc = *self.values.allocator();
+        match ready_value(alloc, &self.machine, asked)? {
+            Some(value) => {
+                self.give(value)?;
+                Ok(true)
+            }
+            None => Ok(false),
+        }
+    }
+
+    /// Asks a part for its value; one that is ready is given at once, and one that isn't there gives nothing.
     pub fn ask(&mut self, node: &'a TypedNode, number: usize) -> Result<(), Exit>
+        ensures { (p : PackageView) → Known (length p.types.shapes) node.now → Goes p (asks_part p node.now number) self.old result self.new }
+    {
+        if self.give_ready(node, number)? {
+            Ok(())
+        } else {
+            self.ask_later(node, number)
+        }
+    }
+
+    /// Asks a part for its value by a task; one that isn't there gives nothing.
+    pub fn ask_later(&mut self, node: &'a TypedNode, number: usize) -> Result<(), Exit>
         ensures { (p : PackageView) → Known (length p.types.shapes) node.now → Goes p (asks_part p node.now number) self.old result self.new }
     {
         match part(&node.parts, number) {
@@ -29,8 +64,29 @@ impl<'a> Engine<'a> {
         }
     }
 
-    /// Asks a part for its operands as a place; what isn't there is none.
+    /// The same as `ask`, but the statements of a block begin at once.
+    pub fn ask_block(&mut self, node: &'a TypedNode, number: usize) -> Result<(), Exit>
+        ensures { (p : PackageView) → Known (length p.types.shapes) node.now → Goes p (asks_part p node.now number) self.old result self.new }
+    {
+        match block_at(node, number) {
+            Some(block) => self.begin_sequence(block, 0),
+            None => self.ask(node, number),
+        }
+    }
+
+    /// Asks a part for its operands as a place; a place without operands gives none, and what isn't there is no place.
     pub fn seek(&mut self, node: &'a TypedNode, number: usize) -> Result<(), Exit>
+        ensures { (p : PackageView) → Known (length p.types.shapes) node.now → Goes p (seeks_part p node.now number) self.old result self.new }
+    {
+        if is_plain_part(node, number) {
+            Ok(())
+        } else {
+            self.seek_later(node, number)
+        }
+    }
+
+    /// Asks a part for its operands as a place by a task; what isn't there is none.
+    pub fn seek_later(&mut self, node: &'a TypedNode, number: usize) -> Result<(), Exit>
         ensures { (p : PackageView) → Known (length p.types.shapes) node.now → Goes p (seeks_part p node.now number) self.old result self.new }
     {
         match part(&node.parts, number) {
@@ -60,6 +116,15 @@ impl<'a> Engine<'a> {
         self.ask(node, number)
     }
 
+    /// The same, behind a part that may be a block.
+    pub fn lay_block(&mut self, node: &'a TypedNode, what: What, number: usize) -> Result<(), Exit>
+        ensures { (p : PackageView) → IsFit (length p.types.shapes) node.now what → Goes p (lays_value p node.now what number) self.old result self.new }
+    {
+        let base = self.top();
+        self.push(node, base, what)?;
+        self.ask_block(node, number)
+    }
+
     /// The same, behind the operands of a part.
     pub fn lay_find(&mut self, node: &'a TypedNode, what: What, number: usize) -> Result<(), Exit>
         ensures { (p : PackageView) → IsFit (length p.types.shapes) node.now what → Goes p (lays_find p node.now what number) self.old result self.new }
@@ -75,8 +140,7 @@ impl<'a> Engine<'a> {
     {
         let base = self.top();
         self.push(node, base, what)?;
-        self.push(node, base, What::Values { next: 0, end })?;
-        Ok(())
+        self.next_value(node, base, 0, end)
     }
 
     /// The same, behind the operands of the first parts, up to `end`.
@@ -85,8 +149,7 @@ impl<'a> Engine<'a> {
     {
         let base = self.top();
         self.push(node, base, what)?;
-        self.push(node, base, What::Finds { next: 0, end })?;
-        Ok(())
+        self.next_find(node, base, 0, end)
     }
 
     /// The same, behind a value that is given.

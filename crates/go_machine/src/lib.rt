@@ -10,6 +10,7 @@ pub mod asks;
 pub mod engine;
 pub mod loops;
 pub mod parts;
+pub mod ready;
 pub mod start;
 pub mod steps;
 pub mod stores;

@@ -12,7 +12,7 @@ use go_typed::form::Form;
 use go_typed::node::TypedNode;
 
 /// Whether a node is a loop without a range clause.
-fn is_loop(node: &TypedNode) -> bool
+pub fn is_loop(node: &TypedNode) -> bool
     ensures { result ≡ is_for (out-TypedNode node.now).form }
 {
     matches!(node.form, Form::For)
@@ -32,7 +32,7 @@ impl<'a> Engine<'a> {
         self.cut(base);
         if is_loop(node) {
             let condition = is_there(&node.parts, 1);
-            self.lay(node, What::Turn(condition))
+            self.begin_turn(node, condition)
         } else {
             self.push(node, 0, What::Value)?;
             Ok(())

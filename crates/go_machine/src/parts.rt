@@ -8,8 +8,10 @@ ghost use Rattle.go_operations.specs.Performing.{IsPerformed};
 ghost use Rattle.go_machine.specs.Tasks.{KnownDeed, deed_view};
 
 use crate::engine::Engine;
+use crate::ready::first_sought;
 use crate::start::count;
 use crate::task::{Deed, What};
+use go_base::Memory;
 use go_operations::perform;
 use go_runs::exit::Exit;
 use go_runs::places::operand;
@@ -58,13 +60,14 @@ fn perform_deed(
 }
 
 impl<'a> Engine<'a> {
-    ghost use Rattle.std.specs.Prelude.{◌≡◌, length, take};
+    ghost use Rattle.std.specs.Prelude.{◌≡◌, length, take, IfOk};
     ghost use Rattle.go_typed.specs.Packages.{PackageView};
     ghost use Rattle.go_typed.specs.Views.{Known};
     ghost use Rattle.go_values.specs.Views.{views};
     ghost use Rattle.go_machine.specs.declared.task.What.TheVariants as what;
     ghost use Rattle.go_machine.specs.Tasks.{KnownDeed};
-    ghost use Rattle.go_machine.specs.Engines.{Goes, works};
+    ghost use Rattle.go_machine.specs.Engines.{Goes, works, lays_values};
+    ghost use Rattle.go_machine.specs.Giving.{GaveParts};
 
     /// The base, or the number of all values where there aren't so many.
     pub fn lower(&self, base: usize) -> usize
@@ -72,6 +75,22 @@ impl<'a> Engine<'a> {
     {
         let top = self.top();
         if base < top { base } else { top }
+    }
+
+    /// Gives the values of the parts from one on, up to `end`, as far as they are ready: the number of the first that isn't.
+    ///
+    /// # Errors
+    ///
+    /// Want of memory.
+    fn give_parts(&mut self, node: &TypedNode, next: usize, end: usize) -> Result<usize, Memory>
+        ensures { IfOk result (λ number. GaveParts node.now next end number self.old self.new) }
+    {
+        for number in next..end {
+            if !self.give_ready(node, number)? {
+                return Ok(number);
+            }
+        }
+        Ok(end)
     }
 
     /// The values of the parts from one on.
@@ -84,14 +103,15 @@ impl<'a> Engine<'a> {
     ) -> Result<(), Exit>
         ensures { (p : PackageView) → Known (length p.types.shapes) node.now → Goes p (works p node.now base (what.Values next end)) self.old result self.new }
     {
-        if next >= end {
-            return Ok(());
-        }
-        if next >= count(node) {
-            return Ok(());
-        }
         let low = self.lower(base);
-        let following = next + 1;
+        let number = self.give_parts(node, next, end)?;
+        if number >= end {
+            return Ok(());
+        }
+        if number >= count(node) {
+            return Ok(());
+        }
+        let following = number + 1;
         self.push(
             node,
             low,
@@ -100,7 +120,7 @@ impl<'a> Engine<'a> {
                 end,
             },
         )?;
-        self.ask(node, next)
+        self.ask_later(node, number)
     }
 
     /// The operands of the parts from one on.
@@ -116,11 +136,15 @@ impl<'a> Engine<'a> {
         if next >= end {
             return Ok(());
         }
-        if next >= count(node) {
+        let number = first_sought(node, next, end);
+        if number >= end {
+            return Ok(());
+        }
+        if number >= count(node) {
             return Ok(());
         }
         let low = self.lower(base);
-        let following = next + 1;
+        let following = number + 1;
         self.push(
             node,
             low,
@@ -129,7 +153,7 @@ impl<'a> Engine<'a> {
                 end,
             },
         )?;
-        self.seek(node, next)
+        self.seek_later(node, number)
     }
 
     /// The tag of a switch, which is true where there is none (Go specification, "Expression switches").
@@ -158,8 +182,29 @@ impl<'a> Engine<'a> {
         self.push(node, base, What::Store { targets, values })?;
         let next = targets as usize;
         let end = count(node);
-        self.push(node, values, What::Values { next, end })?;
-        Ok(())
+        self.next_value(node, values, next, end)
+    }
+
+    /// A deed on the values of the first parts, up to `end`: at once where all of them are ready.
+    pub fn perform_values(
+        &mut self,
+        alloc: Global,
+        checked: &Checked,
+        node: &'a TypedNode,
+        deed: Deed,
+        end: usize,
+    ) -> Result<(), Exit>
+        requires node { Known (length checked.now.types.shapes) node.now }
+        requires deed { KnownDeed (length checked.now.types.shapes) deed }
+        ensures { Goes checked.now (lays_values checked.now node.now (what.Perform deed) end) self.old result self.new }
+    {
+        let base = self.top();
+        let number = self.give_parts(node, 0, end)?;
+        if number >= end {
+            return self.perform(alloc, checked, node, base, deed);
+        }
+        self.push(node, base, What::Perform(deed))?;
+        self.next_value(node, base, number, end)
     }
 
     /// The deed on the operands.

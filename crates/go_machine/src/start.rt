@@ -4,6 +4,7 @@ ghost use Rattle.std.specs.Prelude.{◌≡◌, length};
 ghost use Rattle.go_typed.specs.declared.node.TypedNode.TheViews.{out-TypedNode};
 
 use crate::engine::Engine;
+use crate::ready::constant_of;
 use crate::task::{Deed, What};
 use go_eval::form_plan::plan_of;
 use go_eval::plan::{Items, Plan};
@@ -12,7 +13,6 @@ use go_runs::exit::Exit;
 use go_runs::places::operand;
 use go_typed::checked::Checked;
 use go_typed::node::TypedNode;
-use go_typed::sort::Sort;
 use go_types::TypeId;
 use go_values::Value;
 use std::alloc::Global;
@@ -42,20 +42,8 @@ impl<'a> Engine<'a> {
     fn constant(&mut self, node: &TypedNode) -> Result<(), Exit>
         ensures { (p : PackageView) → Goes p (gives (constant_in (sort_seen p.types (out-TypedNode node.now).label.sort))) self.old result self.new }
     {
-        match &node.label.sort {
-            Sort::Constant(_, constant) => {
-                self.give(Value::of_constant(constant)?)?;
-                Ok(())
-            }
-            Sort::OpenConstant(constant) => {
-                self.give(Value::of_constant(constant)?)?;
-                Ok(())
-            }
-            _ => {
-                self.give(Value::NilFunction)?;
-                Ok(())
-            }
-        }
+        self.give(constant_of(node)?)?;
+        Ok(())
     }
 
     /// Gives the zero value of a type.
@@ -130,12 +118,12 @@ impl<'a> Engine<'a> {
             Plan::Inner => self.ask(node, 0),
             Plan::FieldOf(field) => self.lay_value(node, What::Perform(Deed::Field(field)), 0),
             Plan::ElementOf(length) => {
-                self.lay_values(node, What::Perform(Deed::Element(length)), 2)
+                self.perform_values(alloc, checked, node, Deed::Element(length), 2)
             }
-            Plan::CellOf => self.lay_values(node, What::Perform(Deed::Cell), 2),
+            Plan::CellOf => self.perform_values(alloc, checked, node, Deed::Cell, 2),
             Plan::Perform(operation) => {
                 let end = count(node);
-                self.lay_values(node, What::Perform(Deed::Planned(operation)), end)
+                self.perform_values(alloc, checked, node, Deed::Planned(operation), end)
             }
             Plan::Both => self.lay_value(node, What::Both, 0),
             Plan::Either => self.lay_value(node, What::Either, 0),
@@ -158,16 +146,11 @@ impl<'a> Engine<'a> {
             Plan::Breaks => Err(Exit::Break),
             Plan::Continues => Err(Exit::Continue),
             Plan::Falls => Err(Exit::Fallthrough),
-            Plan::Sequence => self.lay(node, What::Sequence { next: 0 }),
+            Plan::Sequence => self.begin_sequence(node, 0),
             Plan::Branch => self.lay_value(node, What::Condition, 0),
             Plan::Select { tag, default } => self.lay_value(node, What::Tag { tag, default }, 0),
-            Plan::CaseOf(values) => self.lay(
-                node,
-                What::Sequence {
-                    next: values as usize,
-                },
-            ),
-            Plan::Otherwise => self.lay(node, What::Sequence { next: 0 }),
+            Plan::CaseOf(values) => self.begin_sequence(node, values as usize),
+            Plan::Otherwise => self.begin_sequence(node, 0),
             Plan::Iterate(targets, items) => self.items(node, targets, items),
             Plan::Loop(condition) => self.lay_value(node, What::Turn(condition), 0),
         }

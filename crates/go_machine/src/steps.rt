@@ -17,7 +17,7 @@ impl<'a> Engine<'a> {
     ghost use Rattle.go_values.specs.Views.{views};
     ghost use Rattle.go_machine.specs.declared.task.What.TheVariants as what;
     ghost use Rattle.go_machine.specs.Tasks.{first_above};
-    ghost use Rattle.go_machine.specs.Engines.{Goes, IsKept, works, falls};
+    ghost use Rattle.go_machine.specs.Engines.{Goes, IsKept, works, lays, falls};
 
     /// Whether the first operand is true; the operands are dropped.
     pub fn test(&mut self, base: usize) -> bool
@@ -68,9 +68,9 @@ impl<'a> Engine<'a> {
         ensures { (p : PackageView) → Known (length p.types.shapes) node.now → Goes p (works p node.now base what.Branch) self.old result self.new }
     {
         if self.test(base) {
-            self.ask(node, 2)
+            self.ask_block(node, 2)
         } else {
-            self.ask(node, 3)
+            self.ask_block(node, 3)
         }
     }
 
@@ -84,6 +84,14 @@ impl<'a> Engine<'a> {
         } else {
             Ok(())
         }
+    }
+
+    /// Begins with the statements from one on, behind all values (Go specification, "Blocks").
+    pub fn begin_sequence(&mut self, node: &'a TypedNode, next: usize) -> Result<(), Exit>
+        ensures { (p : PackageView) → Known (length p.types.shapes) node.now → Goes p (lays p node.now (what.Sequence next)) self.old result self.new }
+    {
+        let base = self.top();
+        self.sequence(node, base, next)
     }
 
     /// The clauses from one on, as far as each falls through (Go specification, "Fallthrough statements").
@@ -118,13 +126,21 @@ impl<'a> Engine<'a> {
         }
     }
 
+    /// Begins with a turn of a loop, behind all values (Go specification, "For statements with for clause").
+    pub fn begin_turn(&mut self, node: &'a TypedNode, condition: bool) -> Result<(), Exit>
+        ensures { (p : PackageView) → Known (length p.types.shapes) node.now → Goes p (lays p node.now (what.Turn condition)) self.old result self.new }
+    {
+        let base = self.top();
+        self.turn(node, base, condition)
+    }
+
     /// The block of a turn, for which a turn is spent (Go specification, "For statements with for clause").
     pub fn block(&mut self, node: &'a TypedNode, base: usize) -> Result<(), Exit>
         ensures { (p : PackageView) → Known (length p.types.shapes) node.now → Goes p (works p node.now base what.Block) self.old result self.new }
     {
         if self.test(base) {
             self.machine.spend()?;
-            self.lay_value(node, What::Round, 3)
+            self.lay_block(node, What::Round, 3)
         } else {
             Ok(())
         }

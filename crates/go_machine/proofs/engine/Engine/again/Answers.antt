@@ -1,5 +1,4 @@
-use Rattle.std.proofs.Common.{◌≡◌, ℕ, List, [], ◌∷◌, take, length, refl, sym, ap, ◌∙◌, subst, arith, Ok, Option}
-use Rattle.std.specs.Prelude.{Bool}
+use Rattle.std.proofs.Common.{◌≡◌, List, take, sym, ap, ◌∙◌, Ok, Option}
 use Rattle.go_types.specs.Tables.{type_of}
 use Rattle.go_typed.specs.declared.node.TypedNode.{TypedNode}
 use Rattle.go_typed.specs.declared.node.TypedNode.TheViews.{out-TypedNode}
@@ -7,13 +6,9 @@ use Rattle.go_typed.specs.Views.{all_seen}
 use Rattle.go_meaning.specs.Planning.{part_at, is_there}
 use Rattle.go_values.specs.Views.{views}
 use Rattle.go_values.specs.Worlds.{world_view}
-use Rattle.go_runs.specs.Programs.{again, doing}
 use Rattle.go_machine.specs.declared.task.What.TheVariants as what
-use Rattle.go_machine.specs.Rests.{Rest}
-use Rattle.go_machine.specs.Tasks.{parts_of, rest, turn_at, task_rest}
-use Rattle.go_machine.specs.Engines.{Goes, Work, works, lays, asks}
+use Rattle.go_machine.specs.Engines.{works, lays, asks}
 use Rattle.go_machine.proofs.Going.{goes_kept_at, goes_laid}
-use Rattle.go_machine.proofs.Rests.{begins_plain}
 use Rattle.go_machine.proofs.Again.{again_turns, again_asks, laid_value}
 use Rattle.go_machine.proofs.engine.Engine.again.Goals as goal
 
@@ -26,7 +21,7 @@ returns-then-is_loop c = λ p h.
     let q = c.is_there-condition.result in
     let there : q ≡ is_there (part_at (all_seen p.types (out-TypedNode x).parts.items) 1) =
     c.is_there-condition.ensures (type_of p.types.shapes) ∙ ap (λ (ys : List (Option TypedNode)). is_there (part_at (all_seen p.types ys) 1)) c.deref.ensures.value in
-    goes_kept_at p (works p x b what.Again) (lays p x (what.Turn q)) old c.cut.new.self c.lay.result c.lay.new.self (take b vs) c.cut.ensures.kept c.cut.ensures.values (c.lay.ensures p (h, tt))
+    goes_kept_at p (works p x b what.Again) (lays p x (what.Turn q)) old c.cut.new.self c.begin_turn.result c.begin_turn.new.self (take b vs) c.cut.ensures.kept c.cut.ensures.values (c.begin_turn.ensures p h)
     (λ n s le. again_turns p n x b s vs q there (sym c.is_loop.ensures ∙ c.if-is_loop.true) old.depth (views old.machine.frame.items) (world_view old.machine.world) old.machine.turns le)
 
 pub returns-in_ok-push : goal.returns-in_ok-push

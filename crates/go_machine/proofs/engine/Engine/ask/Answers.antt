@@ -1,22 +1,29 @@
-use Rattle.std.proofs.Common.{length, refl}
-use Rattle.go_values.specs.Views.{views}
-use Rattle.go_machine.specs.declared.task.What.TheVariants as what
-use Rattle.go_machine.specs.Engines.{asks_part}
-use Rattle.go_machine.proofs.Going.{goes_laid, goes_given}
-use Rattle.go_machine.proofs.Asking.{known_part, asks_some, asks_none}
+use Rattle.std.proofs.Common.{ℕ, subst}
+use Rattle.std.specs.Prelude.{Bool}
+use Rattle.go_typed.specs.Packages.{PackageView}
+use Rattle.go_meaning.specs.Computations.{Comp}
+use Rattle.go_meaning.specs.Doings.{at}
+use Rattle.go_machine.specs.declared.engine.Engine.{Engine}
+use Rattle.go_machine.specs.Tasks.{parts_of}
+use Rattle.go_machine.specs.Engines.{Goes, asks_part}
+use Rattle.go_machine.specs.Giving.{IsGiven}
+use Rattle.go_machine.proofs.Giving.{asked_given}
 use Rattle.go_machine.proofs.engine.Engine.ask.Goals as goal
 
-pub returns-in_ok-push-in-Some : goal.returns-in_ok-push-in-Some
-returns-in_ok-push-in-Some c = λ p h.
+pub returns-then-branch : goal.returns-then-branch
+returns-then-branch c = λ p h.
     let x = c.args.node.now in
-    let y = c.in-Some.asked.now in
     let k = c.args.number in
-    let xs = c.deref.result.now in
-    let e = c.deref.ensures.value in
-    goes_laid p (asks_part p x k) y 0 what.Value c.args.self.now c.push.new.self tt (known_part x k xs e (length p.types.shapes) y c.in-Some.ensures h, tt) c.in_ok-push-in-Some.ensures
-    (λ n s. asks_some x k xs e p n s (views c.args.self.now.values.items) y c.in-Some.ensures)
+    let old = c.args.self.now in
+    let m = c.give_ready.new.self in
+    let part : PackageView → ℕ → Comp = λ q n. (at (parts_of q n x) k).value in
+    asked_given p x k old m (tt {0}) (subst (λ (b : Bool). IsGiven part old b m) c.if-branch.true c.in_ok-give_ready.ensures)
 
-pub returns-in-None : goal.returns-in-None
-returns-in-None c = λ p h.
-    goes_given p (asks_part p c.args.node.now c.args.number) c.args.self.now c.args.self.now tt (views c.args.self.now.values.items) (record { tasks = refl; machine = refl; depth = refl }) refl
-    (λ n s. asks_none c.args.node.now c.args.number c.deref.result.now c.deref.ensures.value p n s (views c.args.self.now.values.items) c.in-None.ensures)
+pub returns-else-branch : goal.returns-else-branch
+returns-else-branch c = λ p h.
+    let x = c.args.node.now in
+    let k = c.args.number in
+    let old = c.args.self.now in
+    let m = c.give_ready.new.self in
+    let part : PackageView → ℕ → Comp = λ q n. (at (parts_of q n x) k).value in
+    subst (λ (e : Engine). Goes p (asks_part p x k) e c.ask_later.result c.ask_later.new.self) (subst (λ (b : Bool). IsGiven part old b m) c.if-branch.false c.in_ok-give_ready.ensures) (c.ask_later.ensures p h)

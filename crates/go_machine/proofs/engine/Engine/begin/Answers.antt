@@ -1,7 +1,6 @@
-use Rattle.std.proofs.Common.{◌≡◌, ◌∷◌, [], ◌++◌, ℕ, length, refl, sym, ap, ◌∙◌, subst, Ok, Err}
+use Rattle.std.proofs.Common.{◌∷◌, [], ◌++◌, length, refl, sym, ap, ◌∙◌, subst, Ok, Err}
 use Rattle.go_types.specs.Tables.{type_of, rights_of}
 use Rattle.go_meaning.specs.Values as meant
-use Rattle.go_values.specs.declared.value.Value.{Value}
 use Rattle.go_meaning.specs.Operations.{ReadVariable}
 use Rattle.go_meaning.specs.Planning.{zero_in}
 use Rattle.go_typed.specs.declared.node.TypedNode.TheViews.{out-TypedNode}
@@ -10,10 +9,10 @@ use Rattle.go_eval.specs.declared.plan.Plan.{Plan}
 use Rattle.go_eval.specs.declared.plan.Plan.TheVariants as plan
 use Rattle.go_eval.specs.Known.{KnownPlan}
 use Rattle.go_eval.specs.Views.{constant_in, type_in}
-use Rattle.go_values.specs.Views.{view, views}
+use Rattle.go_values.specs.Views.{views}
 use Rattle.go_machine.specs.declared.task.Deed.TheVariants as deed
 use Rattle.go_machine.specs.declared.task.What.TheVariants as what
-use Rattle.go_machine.specs.Engines.{Goes, begins, asks_part, gives, reads, operates, lays, lays_value, lays_find, lays_values, lays_finds, skips}
+use Rattle.go_machine.specs.Engines.{Goes, begins, asks_part, gives, reads, operates, lays, lays_value, lays_find, lays_values, lays_finds}
 use Rattle.go_machine.proofs.Going.{goes_same, goes_given}
 use Rattle.go_machine.proofs.Begins.{begins_inner, begins_field, begins_element, begins_cell, begins_perform, begins_apply, begins_returns, begins_both, begins_either, begins_branch, begins_loop, begins_step, begins_operate, begins_assign, begins_zero, begins_sequence, begins_otherwise, begins_case, begins_select, begins_local, begins_variable, begins_constant, begins_function, begins_nil, begins_declare, begins_ignore, begins_skip, left_break, left_continue, left_fall, as_many}
 use Rattle.go_runs.specs.declared.exit.Exit.TheVariants as exit
@@ -107,8 +106,8 @@ returns-in-ElementOf c =
     let x = c.args.node.now in
     let old = c.args.self.now in
     let vs = views old.values.items in
-    subst (λ (q : Plan). Goes p (begins p x q) old c.lay_values.result c.lay_values.new.self) (sym c.in-ElementOf.is)
-    (goes_same p (begins p x (plan.ElementOf c.in-ElementOf.length)) (lays_values p x (what.Perform (deed.Element c.in-ElementOf.length)) 2) old c.lay_values.result c.lay_values.new.self (c.lay_values.ensures p (c.requires.node, tt)) (λ n s. begins_element p n x s vs c.in-ElementOf.length))
+    subst (λ (q : Plan). Goes p (begins p x q) old c.perform_values.result c.perform_values.new.self) (sym c.in-ElementOf.is)
+    (goes_same p (begins p x (plan.ElementOf c.in-ElementOf.length)) (lays_values p x (what.Perform (deed.Element c.in-ElementOf.length)) 2) old c.perform_values.result c.perform_values.new.self c.perform_values.ensures (λ n s. begins_element p n x s vs c.in-ElementOf.length))
 
 pub returns-in-CellOf : goal.returns-in-CellOf
 returns-in-CellOf c =
@@ -116,8 +115,8 @@ returns-in-CellOf c =
     let x = c.args.node.now in
     let old = c.args.self.now in
     let vs = views old.values.items in
-    subst (λ (q : Plan). Goes p (begins p x q) old c.lay_values-in-CellOf.result c.lay_values-in-CellOf.new.self) (sym c.in-CellOf.is)
-    (goes_same p (begins p x plan.CellOf) (lays_values p x (what.Perform deed.Cell) 2) old c.lay_values-in-CellOf.result c.lay_values-in-CellOf.new.self (c.lay_values-in-CellOf.ensures p (c.requires.node, tt)) (λ n s. begins_cell p n x s vs))
+    subst (λ (q : Plan). Goes p (begins p x q) old c.perform_values-in-CellOf.result c.perform_values-in-CellOf.new.self) (sym c.in-CellOf.is)
+    (goes_same p (begins p x plan.CellOf) (lays_values p x (what.Perform deed.Cell) 2) old c.perform_values-in-CellOf.result c.perform_values-in-CellOf.new.self c.perform_values-in-CellOf.ensures (λ n s. begins_cell p n x s vs))
 
 pub returns-in-Perform : goal.returns-in-Perform
 returns-in-Perform c =
@@ -125,8 +124,8 @@ returns-in-Perform c =
     let x = c.args.node.now in
     let old = c.args.self.now in
     let vs = views old.values.items in
-    subst (λ (q : Plan). Goes p (begins p x q) old c.lay_values-in-Perform.result c.lay_values-in-Perform.new.self) (sym c.in-Perform.is)
-    (goes_same p (begins p x (plan.Perform c.in-Perform.operation)) (lays_values p x (what.Perform (deed.Planned c.in-Perform.operation)) c.count-end.result) old c.lay_values-in-Perform.result c.lay_values-in-Perform.new.self (c.lay_values-in-Perform.ensures p (c.requires.node, (subst (KnownPlan (length p.types.shapes)) c.in-Perform.is c.requires.plan))) (λ n s. begins_perform p n x s vs c.count-end.result (c.count-end.ensures ∙ sym (as_many p n (out-TypedNode x).parts.items)) c.in-Perform.operation))
+    subst (λ (q : Plan). Goes p (begins p x q) old c.perform_values-in-Perform.result c.perform_values-in-Perform.new.self) (sym c.in-Perform.is)
+    (goes_same p (begins p x (plan.Perform c.in-Perform.operation)) (lays_values p x (what.Perform (deed.Planned c.in-Perform.operation)) c.count-end.result) old c.perform_values-in-Perform.result c.perform_values-in-Perform.new.self c.perform_values-in-Perform.ensures (λ n s. begins_perform p n x s vs c.count-end.result (c.count-end.ensures ∙ sym (as_many p n (out-TypedNode x).parts.items)) c.in-Perform.operation))
 
 pub returns-in-Both : goal.returns-in-Both
 returns-in-Both c =
@@ -152,8 +151,8 @@ returns-in-Apply c =
     let x = c.args.node.now in
     let old = c.args.self.now in
     let vs = views old.values.items in
-    subst (λ (q : Plan). Goes p (begins p x q) old c.lay_values-in-Apply.result c.lay_values-in-Apply.new.self) (sym c.in-Apply.is)
-    (goes_same p (begins p x plan.Apply) (lays_values p x what.Apply c.count-end-in-Apply.result) old c.lay_values-in-Apply.result c.lay_values-in-Apply.new.self (c.lay_values-in-Apply.ensures p (c.requires.node, tt)) (λ n s. begins_apply p n x s vs c.count-end-in-Apply.result (c.count-end-in-Apply.ensures ∙ sym (as_many p n (out-TypedNode x).parts.items))))
+    subst (λ (q : Plan). Goes p (begins p x q) old c.lay_values.result c.lay_values.new.self) (sym c.in-Apply.is)
+    (goes_same p (begins p x plan.Apply) (lays_values p x what.Apply c.count-end-in-Apply.result) old c.lay_values.result c.lay_values.new.self (c.lay_values.ensures p (c.requires.node, tt)) (λ n s. begins_apply p n x s vs c.count-end-in-Apply.result (c.count-end-in-Apply.ensures ∙ sym (as_many p n (out-TypedNode x).parts.items))))
 
 pub returns-in-Returns : goal.returns-in-Returns
 returns-in-Returns c =
@@ -215,8 +214,8 @@ returns-in-Sequence c =
     let x = c.args.node.now in
     let old = c.args.self.now in
     let vs = views old.values.items in
-    subst (λ (q : Plan). Goes p (begins p x q) old c.lay.result c.lay.new.self) (sym c.in-Sequence.is)
-    (goes_same p (begins p x plan.Sequence) (lays p x (what.Sequence 0)) old c.lay.result c.lay.new.self (c.lay.ensures p (c.requires.node, tt)) (λ n s. begins_sequence p n x s vs))
+    subst (λ (q : Plan). Goes p (begins p x q) old c.begin_sequence.result c.begin_sequence.new.self) (sym c.in-Sequence.is)
+    (goes_same p (begins p x plan.Sequence) (lays p x (what.Sequence 0)) old c.begin_sequence.result c.begin_sequence.new.self (c.begin_sequence.ensures p c.requires.node) (λ n s. begins_sequence p n x s vs))
 
 pub returns-in-Branch : goal.returns-in-Branch
 returns-in-Branch c =
@@ -242,8 +241,8 @@ returns-in-CaseOf c =
     let x = c.args.node.now in
     let old = c.args.self.now in
     let vs = views old.values.items in
-    subst (λ (q : Plan). Goes p (begins p x q) old c.lay-in-CaseOf.result c.lay-in-CaseOf.new.self) (sym c.in-CaseOf.is)
-    (goes_same p (begins p x (plan.CaseOf c.in-CaseOf.values)) (lays p x (what.Sequence c.in-CaseOf.values)) old c.lay-in-CaseOf.result c.lay-in-CaseOf.new.self (c.lay-in-CaseOf.ensures p (c.requires.node, tt)) (λ n s. begins_case p n x s vs c.in-CaseOf.values))
+    subst (λ (q : Plan). Goes p (begins p x q) old c.begin_sequence-in-CaseOf.result c.begin_sequence-in-CaseOf.new.self) (sym c.in-CaseOf.is)
+    (goes_same p (begins p x (plan.CaseOf c.in-CaseOf.values)) (lays p x (what.Sequence c.in-CaseOf.values)) old c.begin_sequence-in-CaseOf.result c.begin_sequence-in-CaseOf.new.self (c.begin_sequence-in-CaseOf.ensures p c.requires.node) (λ n s. begins_case p n x s vs c.in-CaseOf.values))
 
 pub returns-in-Otherwise : goal.returns-in-Otherwise
 returns-in-Otherwise c =
@@ -251,8 +250,8 @@ returns-in-Otherwise c =
     let x = c.args.node.now in
     let old = c.args.self.now in
     let vs = views old.values.items in
-    subst (λ (q : Plan). Goes p (begins p x q) old c.lay-in-Otherwise.result c.lay-in-Otherwise.new.self) (sym c.in-Otherwise.is)
-    (goes_same p (begins p x plan.Otherwise) (lays p x (what.Sequence 0)) old c.lay-in-Otherwise.result c.lay-in-Otherwise.new.self (c.lay-in-Otherwise.ensures p (c.requires.node, tt)) (λ n s. begins_otherwise p n x s vs))
+    subst (λ (q : Plan). Goes p (begins p x q) old c.begin_sequence-in-Otherwise.result c.begin_sequence-in-Otherwise.new.self) (sym c.in-Otherwise.is)
+    (goes_same p (begins p x plan.Otherwise) (lays p x (what.Sequence 0)) old c.begin_sequence-in-Otherwise.result c.begin_sequence-in-Otherwise.new.self (c.begin_sequence-in-Otherwise.ensures p c.requires.node) (λ n s. begins_otherwise p n x s vs))
 
 pub returns-in-Loop : goal.returns-in-Loop
 returns-in-Loop c =

@@ -1,12 +1,11 @@
-use Rattle.std.proofs.Common.{◌≡◌, ℕ, suc, List, [], ◌∷◌, ◌++◌, take, length, refl, sym, ap, subst, ◌∙◌, arith, Ok, Err}
-use Rattle.go_values.specs.Views.{view, views}
+use Rattle.std.proofs.Common.{take, refl, sym, subst, ◌∙◌, Err}
+use Rattle.go_values.specs.Views.{views}
 use Rattle.go_machine.specs.declared.task.What.TheVariants as what
 use Rattle.go_machine.specs.Engines.{works, lays_value, Goes}
 use Rattle.go_machine.proofs.Going.{goes_given, goes_spent, goes_unspent}
 use Rattle.go_machine.proofs.Stepping.{block_true, block_false, block_spent}
 use Rattle.std.proofs.lemmas.Result.{err_from_is_err_and}
 use Rattle.go_runs.specs.declared.exit.Exit.{Exit}
-use Rattle.go_runs.specs.declared.machine.Machine.{Machine}
 use Rattle.go_machine.proofs.engine.Engine.block.Goals as goal
 
 pub returns-else-test : goal.returns-else-test
@@ -24,7 +23,7 @@ returns-in_ok-spend c = λ p h.
     let old = c.args.self.now in
     let vs = views old.values.items in
     let m = record c.test.new.self { machine = c.spend.new.self } in
-    goes_spent p (works p x b what.Block) (lays_value p x what.Round 3) old c.test.new.self m c.lay_value.result c.lay_value.new.self (take b vs) c.test.ensures.kept c.test.ensures.values refl refl refl c.in_ok-spend.ensures (c.lay_value.ensures p (h, tt))
+    goes_spent p (works p x b what.Block) (lays_value p x what.Round 3) old c.test.new.self m c.lay_block.result c.lay_block.new.self (take b vs) c.test.ensures.kept c.test.ensures.values refl refl refl c.in_ok-spend.ensures (c.lay_block.ensures p (h, tt))
     (λ n s. block_true p n x b s vs (sym c.test.ensures.holds ∙ c.if-test.true))
 
 pub returns-in_err-spend : goal.returns-in_err-spend

@@ -1,5 +1,5 @@
-use Rattle.std.proofs.Common.{◌≡◌, ℕ, suc, List, [], ◌∷◌, ◌++◌, take, length, refl, sym, ap, ◌∙◌, arith, Ok, Err}
-use Rattle.go_values.specs.Views.{view, views}
+use Rattle.std.proofs.Common.{take, sym, ◌∙◌}
+use Rattle.go_values.specs.Views.{views}
 use Rattle.go_machine.specs.declared.task.What.TheVariants as what
 use Rattle.go_machine.specs.Engines.{works, asks_part}
 use Rattle.go_machine.proofs.Going.{goes_kept}
@@ -12,7 +12,7 @@ returns-then-test c = λ p h.
     let b = c.args.base in
     let old = c.args.self.now in
     let vs = views old.values.items in
-    goes_kept p (works p x b what.Branch) (asks_part p x 2) old c.test.new.self c.ask.result c.ask.new.self (take b vs) c.test.ensures.kept c.test.ensures.values (c.ask.ensures p h)
+    goes_kept p (works p x b what.Branch) (asks_part p x 2) old c.test.new.self c.ask_block.result c.ask_block.new.self (take b vs) c.test.ensures.kept c.test.ensures.values (c.ask_block.ensures p h)
     (λ n s. branch_true p n x b s vs (sym c.test.ensures.holds ∙ c.if-test.true))
 
 pub returns-else-test : goal.returns-else-test
@@ -21,5 +21,5 @@ returns-else-test c = λ p h.
     let b = c.args.base in
     let old = c.args.self.now in
     let vs = views old.values.items in
-    goes_kept p (works p x b what.Branch) (asks_part p x 3) old c.test.new.self c.ask-else-test.result c.ask-else-test.new.self (take b vs) c.test.ensures.kept c.test.ensures.values (c.ask-else-test.ensures p h)
+    goes_kept p (works p x b what.Branch) (asks_part p x 3) old c.test.new.self c.ask_block-else-test.result c.ask_block-else-test.new.self (take b vs) c.test.ensures.kept c.test.ensures.values (c.ask_block-else-test.ensures p h)
     (λ n s. branch_false p n x b s vs (sym c.test.ensures.holds ∙ c.if-test.false))

@@ -1,42 +1,46 @@
-use Rattle.std.proofs.Common.{◌≡◌, ℕ, suc, List, [], ◌∷◌, ◌++◌, take, length, refl, sym, ap, subst, ◌∙◌, arith, Ok, Err}
-use Rattle.std.specs.Prelude.{◌+◌, Bool, true, false}
+use Rattle.std.proofs.Common.{◌≡◌, ◌+◌, length, refl, arith, Ok}
 use Rattle.go_typed.specs.declared.node.TypedNode.TheViews.{out-TypedNode}
-use Rattle.go_meaning.specs.Values as meant
-use Rattle.go_values.specs.Views.{view, views}
+use Rattle.go_values.specs.Views.{views}
 use Rattle.go_machine.specs.declared.task.What.TheVariants as what
-use Rattle.go_machine.specs.Tasks.{parts_of, task_rest}
+use Rattle.go_machine.specs.Tasks.{parts_of}
 use Rattle.go_machine.specs.Engines.{works, asks_part}
 use Rattle.go_machine.proofs.Begins.{as_many}
-use Rattle.go_machine.proofs.Values.{view_truth}
 use Rattle.go_machine.proofs.Going.{goes_pushed, goes_given}
 use Rattle.go_machine.proofs.Gathering.{values_next, values_done, values_over}
+use Rattle.go_machine.proofs.Giving.{kept_still, goes_gave, gave_low}
 use Rattle.go_machine.proofs.engine.Engine.next_value.Goals as goal
 
 pub returns : goal.returns
 returns c = λ p h.
     let x = c.args.node.now in
-    let b = c.args.base in
+    let low = c.lower-low.result in
     let old = c.args.self.now in
-    let vs = views old.values.items in
-    let k = c.args.next in
     let end = c.args.end in
-    goes_pushed p (works p x b (what.Values k end)) (asks_part p x k) x c.lower-low.result (what.Values (k + 1) end) old c.push.new.self c.ask.result c.ask.new.self (h, tt) c.in_ok-push.ensures (c.ask.ensures p h)
-    (λ n s. let e : length (parts_of p n x) ≡ length (out-TypedNode x).parts.items = as_many p n (out-TypedNode x).parts.items in values_next p n x b s vs k end (k + 1) c.lower-low.result (omega arith) c.lower-low.ensures (omega (arith, c.if-next-end.false)) (omega (arith, e, c.count.ensures, c.if-next-count.false)))
+    let j = c.in_ok-number.number in
+    let m = c.give_parts.new.self in
+    let g = c.in_ok-number.ensures in
+    goes_gave p x c.args.next end j c.args.base low old m c.lower-low.ensures g c.ask_later.result c.ask_later.new.self
+    (goes_pushed p (works p x low (what.Values j end)) (asks_part p x j) x low (what.Values (j + 1) end) m c.push.new.self c.ask_later.result c.ask_later.new.self (h, tt) c.in_ok-push.ensures (c.ask_later.ensures p h)
+    (λ n s. let e : length (parts_of p n x) ≡ length (out-TypedNode x).parts.items = as_many p n (out-TypedNode x).parts.items in
+    values_next p n x low s (views m.values.items) j end (j + 1) low (omega arith) (gave_low p x c.args.next end j c.args.base low old m c.lower-low.ensures g) (omega (arith, c.if-number-end.false)) (omega (arith, e, c.count.ensures, c.if-number-count.false))))
 
-pub returns-then-next-end : goal.returns-then-next-end
-returns-then-next-end c = λ p h.
+pub returns-then-number-end : goal.returns-then-number-end
+returns-then-number-end c = λ p h.
     let x = c.args.node.now in
-    let b = c.args.base in
-    let old = c.args.self.now in
-    let vs = views old.values.items in
-    goes_given p (works p x b (what.Values c.args.next c.args.end)) old old (tt {0}) vs (record { tasks = refl; machine = refl; depth = refl }) refl
-    (λ n s. values_done p n x b s vs c.args.next c.args.end (omega (arith, c.if-next-end.true)))
+    let low = c.lower-low.result in
+    let m = c.give_parts.new.self in
+    let end = c.args.end in
+    let j = c.in_ok-number.number in
+    goes_gave p x c.args.next end j c.args.base low c.args.self.now m c.lower-low.ensures c.in_ok-number.ensures (Ok (tt {0})) m
+    (goes_given p (works p x low (what.Values j end)) m m (tt {0}) (views m.values.items) (kept_still m) refl (λ n s. values_done p n x low s (views m.values.items) j end (omega (arith, c.if-number-end.true))))
 
-pub returns-then-next-count : goal.returns-then-next-count
-returns-then-next-count c = λ p h.
+pub returns-then-number-count : goal.returns-then-number-count
+returns-then-number-count c = λ p h.
     let x = c.args.node.now in
-    let b = c.args.base in
-    let old = c.args.self.now in
-    let vs = views old.values.items in
-    goes_given p (works p x b (what.Values c.args.next c.args.end)) old old (tt {0}) vs (record { tasks = refl; machine = refl; depth = refl }) refl
-    (λ n s. let e : length (parts_of p n x) ≡ length (out-TypedNode x).parts.items = as_many p n (out-TypedNode x).parts.items in values_over p n x b s vs c.args.next c.args.end (omega (arith, e, c.count.ensures, c.if-next-count.true)))
+    let low = c.lower-low.result in
+    let m = c.give_parts.new.self in
+    let end = c.args.end in
+    let j = c.in_ok-number.number in
+    goes_gave p x c.args.next end j c.args.base low c.args.self.now m c.lower-low.ensures c.in_ok-number.ensures (Ok (tt {0})) m
+    (goes_given p (works p x low (what.Values j end)) m m (tt {0}) (views m.values.items) (kept_still m) refl
+    (λ n s. let e : length (parts_of p n x) ≡ length (out-TypedNode x).parts.items = as_many p n (out-TypedNode x).parts.items in values_over p n x low s (views m.values.items) j end (omega (arith, e, c.count.ensures, c.if-number-count.true))))
