@@ -26,8 +26,7 @@ impl Check for PackageCheck {
     }
 }
 
-/// What answers the commands: a workspace over the check of a whole package, which finds windows by their numbers without names
-/// of fields.
+/// What answers the commands: a workspace over the check of a whole package, which finds windows by their numbers.
 pub type Goclone = PackageWorkspace<PackageCheck, AlphaHash>;
 
 /// Runs the program over the folders of the file system, standard input and standard output.

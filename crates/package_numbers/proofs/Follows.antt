@@ -15,7 +15,7 @@ use Rattle.go_package.specs.Checked.{IsChecked, IsCheckedPackage, origins, texts
 use Rattle.go_package.specs.Single.{HasOneAnswer}
 use Rattle.go_package.specs.Sources.{source_of}
 use Rattle.clone_window.specs.declared.bounds.Bounds.{Bounds}
-use Rattle.clone_same.specs.Bodies.{Body, body_of, bodies_of}
+use Rattle.clone_same.specs.Bodies.{body_of, bodies_of}
 use Rattle.clone_replies.specs.Classes.{body_in, classes_in}
 use Rattle.clone_replies.proofs.Fields.{UnderlyingRenamed}
 use Rattle.clone_replies.proofs.Mapped.{body-mapped}

@@ -1,6 +1,6 @@
 -- The hashes of windows of functions over other words for types.
 use mathlib.Core.Path.{fun_ext}
-use Rattle.std.proofs.Common.{◌≡◌, ◌∙◌, ℕ, List, map, refl, sym, ap, slice_get}
+use Rattle.std.proofs.Common.{◌≡◌, ◌∙◌, ℕ, List, map, ap, slice_get}
 use Rattle.go_typed.specs.declared.window.Window.{Window}
 use Rattle.go_typed.specs.Trees.{Sort, Typeds, sort_mapped}
 use Rattle.clone_window.specs.declared.bounds.Bounds.{Bounds}

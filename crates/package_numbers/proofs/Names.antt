@@ -8,8 +8,8 @@ use Rattle.go_tree.specs.declared.object.Declared.{Declared}
 use Rattle.go_tree.specs.File.{FileTree}
 use Rattle.go_tree.specs.Predeclared.{known_names}
 use Rattle.go_tree.specs.Spans.{token_text}
-use Rattle.go_tree.specs.Uses.{UsesView, declared_as}
-use Rattle.go_types.specs.Tables.{type_of, rights_of}
+use Rattle.go_tree.specs.Uses.{declared_as}
+use Rattle.go_types.specs.Tables.{type_of}
 use Rattle.go_types.specs.Trees.{TypeTree}
 use Rattle.go_typed.specs.declared.form.Referent.{Referent}
 use Rattle.go_typed.specs.declared.origin.Origin.{Origin}

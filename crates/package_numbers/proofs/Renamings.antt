@@ -1,15 +1,12 @@
 -- A package has the same names under other numbers of declared types, where as many of these have a place.
-use mathlib.Core.Path.{fun_ext}
-use Rattle.std.proofs.Common.{◌≡◌, ◌∙◌, ℕ, zero, suc, ◌<◌, ◌≤◌, Bool, true, false, List, [], ◌∷◌, ◌++◌, length, map, Option, Some, None, inl, inr, ◌⊎◌, refl, sym, ap, subst, slice_get, arith}
+use Rattle.std.proofs.Common.{◌≡◌, ◌∙◌, ℕ, zero, suc, ◌<◌, ◌≤◌, Bool, true, false, List, [], ◌∷◌, ◌++◌, length, Option, Some, None, inl, inr, ◌⊎◌, refl, sym, ap, subst, slice_get, arith}
 use Rattle.std.proofs.lemmas.Bool.Decides.{nat_tests}
 use Rattle.std.proofs.lemmas.Option.{slice_get_past, slice_get_within}
 use Rattle.std.specs.Prelude.{if◌then◌else◌, nat_lt, codes}
 use Rattle.std.specs.Fmt.{decimal}
 use Rattle.go_tree.specs.Uses.{UsesView, declared_as}
-use Rattle.go_tree.specs.File.{FileTree}
 use Rattle.go_types.specs.Trees.{TypeTree, boolean, text, integer, array, slice, structure, function, declared, TypeRow, none, more}
 use Rattle.type_tests.specs.Renaming.{renamed, renamed_row, IsOneToOne}
-use Rattle.go_typed.specs.declared.form.Referent.{Referent}
 use Rattle.go_typed.specs.declared.origin.Origin.{Origin}
 use Rattle.go_typed.specs.Contents.{Content, IsRenamed}
 use Rattle.go_print.specs.Texts.{type_text, row_texts, fields_text, function_text, named}
@@ -17,7 +14,7 @@ use Rattle.clone_window.specs.declared.outline.Outline.{Outline}
 use Rattle.clone_replies.proofs.Fields.{UnderlyingRenamed, fields-renamed}
 use Rattle.go_print.specs.Names.{object_at}
 use Rattle.package_numbers.specs.Names.{name_of, name_at, declared_name, declared_text, object_text}
-use Rattle.package_numbers.proofs.Mapping.{Names, Agree}
+use Rattle.package_numbers.proofs.Mapping.{Agree}
 use Rattle.package_numbers.proofs.Holes.{Into, OneToOne, pigeonhole}
 use Rattle.package_numbers.proofs.Names.{by-number, content_names}
 

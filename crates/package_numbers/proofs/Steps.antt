@@ -1,5 +1,5 @@
 -- The hashes of one more function.
-use Rattle.std.proofs.Common.{◌≡◌, ◌∙◌, ℕ, suc, ◌+◌, true, List, [], ◌∷◌, ◌++◌, map, drop, Some, slice_get, refl, sym, ap, arith}
+use Rattle.std.proofs.Common.{◌≡◌, ◌∙◌, ℕ, ◌+◌, true, List, [], ◌∷◌, ◌++◌, map, drop, Some, slice_get, refl, sym, ap, arith}
 use Rattle.std.proofs.lemmas.List.{append_assoc, map-append}
 use Rattle.go_typed.specs.declared.window.Window.{Window}
 use Rattle.go_typed.specs.Funcs.{FuncView}

@@ -1,10 +1,9 @@
 -- What the program counts of a package are its numbers.
-use Rattle.std.proofs.Common.{◌≡◌, ◌∙◌, ℕ, suc, ◌+◌, List, [], ◌∷◌, length, map, count_by, sum_by, refl, sym, ap, arith}
+use Rattle.std.proofs.Common.{◌≡◌, ◌∙◌, ℕ, suc, ◌+◌, List, [], ◌∷◌, length, count_by, sum_by, refl, sym, ap, arith}
 use Rattle.std.proofs.lemmas.List.{length-map}
 use Rattle.std.proofs.lemmas.List.Sums.{sum_by-cons}
 use Rattle.std.specs.Prelude.{nat_eq}
 use Rattle.std.specs.Set.{distinct_count}
-use Rattle.go_base.specs.declared.bytes.FileText.{FileText}
 use Rattle.go_base.specs.Package.{total_bytes}
 use Rattle.go_tree.specs.File.{FileTree}
 use Rattle.go_typed.specs.declared.window.Class.{Class}
@@ -17,7 +16,7 @@ use Rattle.clone_classes.specs.Listing.{members_of}
 use Rattle.clone_replies.specs.Classes.{classes_in}
 use Rattle.package_numbers.specs.declared.numbers.Numbers.{Numbers}
 use Rattle.package_numbers.specs.Names.{content_hash, hashes_of, windows_of}
-use Rattle.package_numbers.specs.Numbers.{has_body, hashes_in, numbers_in}
+use Rattle.package_numbers.specs.Numbers.{has_body, numbers_in}
 use Rattle.package_numbers.proofs.Functions.{with_body}
 
 as-many : (ns : List (List ℕ)) (fs : List FileTree) → length ns ≡ length fs → length (texts_by ns fs) ≡ length fs

@@ -1,8 +1,8 @@
 -- The words of windows are the same over other words for types, where types have the same texts and fields the same names.
-use Rattle.std.proofs.Common.{◌≡◌, ◌∙◌, ℕ, suc, Bool, true, false, List, [], ◌∷◌, ◌++◌, Option, Some, None, refl, sym, ap}
+use Rattle.std.proofs.Common.{◌≡◌, ◌∙◌, ℕ, suc, Bool, false, List, [], ◌∷◌, ◌++◌, Option, Some, None, refl, ap}
 use Rattle.std.specs.Prelude.{if◌then◌else◌, nat_eq}
 use Rattle.go_typed.specs.Forms.{local_of}
-use Rattle.go_typed.specs.Trees.{Sort, Nothing, Label, Typed, typed, Typeds, none, more, skip, sort_of, sort_mapped, label_mapped, mapped, all_mapped}
+use Rattle.go_typed.specs.Trees.{Sort, Nothing, Typed, typed, Typeds, none, more, skip, sort_mapped, label_mapped, mapped, all_mapped}
 use Rattle.clone_window.specs.declared.outline.Outline.{Outline}
 use Rattle.clone_window.specs.Kinds.{outline}
 use Rattle.clone_window.specs.Masses.{is_hole, is_inside}
@@ -14,7 +14,7 @@ use Rattle.clone_window.specs.Fields.{names_field}
 use Rattle.alpha_hash.specs.Hash.{text_fold}
 use Rattle.alpha_hash.specs.Naming.{Naming, final_text}
 use Rattle.alpha_hash.specs.Numbers.{hash, words_hash}
-use Rattle.alpha_hash.specs.Words.{Word, number, named, one_if, row_length, lengths_at, kind_words, operator_words, local_words, object_words, field_words, value_text, compared_words, defined_words, constant_words, blank_words, name_words, declared_words, all_declared, constants_words, own_words, hole_words, is_defined, words, row_words, window_words}
+use Rattle.alpha_hash.specs.Words.{Word, number, one_if, row_length, lengths_at, kind_words, operator_words, local_words, object_words, field_words, value_text, compared_words, defined_words, constant_words, blank_words, name_words, declared_words, all_declared, constants_words, own_words, hole_words, is_defined, words, row_words, window_words}
 
 -- The second names types by the first's texts, and its fields, objects and locals as the first does.
 pub record Matches {T U : Type 0} (g : T → U) (n : Naming T) (m : Naming U) : Type 0 where

@@ -1,6 +1,6 @@
 -- The last one of some numbers.
-use Rattle.std.proofs.Common.{◌≡◌, ◌∙◌, ℕ, zero, suc, ◌-◌, List, [], ◌∷◌, length, slice_get, refl, ap, arith}
-use Rattle.std.specs.Prelude.{min, unwrap_or}
+use Rattle.std.proofs.Common.{◌≡◌, ◌∙◌, ℕ, zero, suc, ◌-◌, List, [], ◌∷◌, length, refl, ap, arith}
+use Rattle.std.specs.Prelude.{min}
 use Rattle.rolling_hash.specs.Starts.{number_at, number_of}
 
 at_last : (ns : List ℕ) (k : ℕ) → number_of ns (min k (length ns - 1)) ≡ number_at ns k

@@ -1,12 +1,12 @@
 -- The words of rows of parts, part by part.
-use Rattle.std.proofs.Common.{◌≡◌, ◌∙◌, ℕ, zero, suc, ◌+◌, ◌-◌, ◌<◌, ◌≤◌, Bool, true, false, List, [], ◌∷◌, ◌++◌, length, drop, get_or, Option, Some, None, refl, sym, ap, subst, arith, append_assoc, drop-cons, length-append, length-drop}
-use Rattle.std.specs.Prelude.{◌&&◌, if◌then◌else◌, slice_get, Result, Ok, Err, OnOk}
+use Rattle.std.proofs.Common.{◌≡◌, ◌∙◌, ℕ, zero, suc, ◌+◌, ◌-◌, ◌<◌, ◌≤◌, Bool, true, false, List, [], ◌∷◌, ◌++◌, length, drop, get_or, Option, Some, None, refl, sym, ap, arith, append_assoc, drop-cons, length-append, length-drop}
+use Rattle.std.specs.Prelude.{if◌then◌else◌, slice_get, Result, Ok, Err, OnOk}
 use Rattle.std.proofs.lemmas.Bool.{and_parts}
 use Rattle.go_typed.specs.declared.node.TypedNode.{TypedNode, out-TypedNode}
 use Rattle.go_typed.specs.Forms.{local_of}
 use Rattle.go_typed.specs.Funcs.{size, sizes}
 use Rattle.go_typed.specs.Packages.{is_below}
-use Rattle.go_typed.specs.Trees.{Sort, Nothing, Typeds, every}
+use Rattle.go_typed.specs.Trees.{Sort, every}
 use Rattle.go_typed.specs.Views.{label_view, sort_view, view, views}
 use Rattle.clone_window.specs.declared.outline.Outline.{Outline}
 use Rattle.clone_window.specs.Kinds.{outline}

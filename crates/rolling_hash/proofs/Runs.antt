@@ -1,5 +1,5 @@
 -- The numbers of the windows from one start.
-use Rattle.std.proofs.Common.{◌≡◌, ◌∙◌, ℕ, zero, suc, ◌+◌, ◌<◌, ◌≤◌, Bool, true, false, List, [], ◌∷◌, ◌++◌, length, map, take, drop, Option, Some, None, slice_get, refl, sym, ap, subst, arith, append_assoc, length-append}
+use Rattle.std.proofs.Common.{◌≡◌, ◌∙◌, ℕ, zero, suc, ◌+◌, ◌≤◌, Bool, true, false, List, [], ◌∷◌, ◌++◌, length, map, take, drop, Option, Some, None, slice_get, refl, sym, ap, subst, arith, append_assoc, length-append}
 use Rattle.std.specs.Prelude.{◌&&◌, if◌then◌else◌, nat_eq, nat_le, nat_lt, unwrap_or}
 use Rattle.std.specs.List.{AllByRecursion, list_all}
 use Rattle.std.proofs.lemmas.Bool.{and_parts, and_from, eqb-true}
@@ -12,8 +12,8 @@ use Rattle.go_typed.specs.Forms.{is_statement_list, values_count}
 use Rattle.go_typed.specs.Funcs.{FuncView, tree_of}
 use Rattle.go_typed.specs.Lists.{lists_among, own_list, present, statement_lists, statements_of}
 use Rattle.go_typed.specs.Packages.{PackageView, counts, is_below, is_known_func, refers_to}
-use Rattle.go_typed.specs.Trees.{Sort, Typed, typed, Typeds, none, more, skip, every, every_part, every_form, sort_has, form_of, parts_of}
-use Rattle.go_typed.specs.Views.{view, views, sort_view}
+use Rattle.go_typed.specs.Trees.{Sort, Typed, typed, Typeds, none, more, skip, every, every_part, every_form, sort_has, form_of}
+use Rattle.go_typed.specs.Views.{view, views}
 use Rattle.clone_window.specs.Windows.{row_of, run_at, statements_in, window_statements}
 use Rattle.clone_same.specs.Bodies.{Body, body_of, bodies_of, locals_in, statements_at}
 use Rattle.alpha_hash.specs.Naming.{Naming}

@@ -1,5 +1,5 @@
 -- Steps of the rolling number.
-use Rattle.std.specs.Prelude.{◌≡◌, ℕ, suc, ◌+◌, List, [], ◌∷◌, Option, Some, None}
+use Rattle.std.specs.Prelude.{◌≡◌, ℕ, suc, List, [], ◌∷◌, Option}
 use Rattle.alpha_hash.specs.Hash.{term}
 use Rattle.alpha_hash.specs.Numbers.{place_before}
 use Rattle.alpha_hash.specs.Words.{Word, number, named}

@@ -52,12 +52,7 @@ fn push_numbered(
 }
 
 /// The start of a window: this one, if it is the same.
-fn reached(
-    alloc: Global,
-    checked: &Checked,
-    start: Start,
-    window: Window,
-) -> Result<Start, Memory>
+fn reached(alloc: Global, checked: &Checked, start: Start, window: Window) -> Result<Start, Memory>
     requires { IsStart checked.now start }
     ensures start { IfOk result (IsStart checked.now) }
     ensures covers { IfOk result (λ s. covers s window ≡ true) }

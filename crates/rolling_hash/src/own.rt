@@ -90,7 +90,6 @@ pub fn push_back(
     out: &mut Vec<Word>,
 ) -> Result<(), Memory>
     requires locals { knows_locals names ≡ true }
-    requires owner { knows_sort names (sort_view owner.now) ≡ true }
     requires sort { knows_sort names (sort_view sort.now) ≡ true }
     requires parts { knows_parts names (views parts.now) ≡ true }
     ensures { OnOk result (shown out.new.items ≡ shown out.old.items ++ field_words (naming names.entry) (sort_view owner.now) (outline form) (views parts.now)

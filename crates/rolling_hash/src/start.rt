@@ -36,11 +36,7 @@ impl Start {
     /// # Errors
     ///
     /// Want of memory.
-    pub fn of(
-        alloc: Global,
-        checked: &Checked,
-        window: Window,
-    ) -> Result<Start, Memory>
+    pub fn of(alloc: Global, checked: &Checked, window: Window) -> Result<Start, Memory>
         ensures start { IfOk result (IsStart checked.now) }
         ensures covers { IfOk result (λ s. covers s window ≡ true) }
     {
@@ -79,11 +75,7 @@ fn number_at(numbers: &[u64], place: usize) -> u64
 }
 
 /// The numbers of the first statements of a run, none of them to all.
-fn numbers_from(
-    alloc: Global,
-    checked: &Checked,
-    run: Window,
-) -> Result<Vec<u64>, Memory>
+fn numbers_from(alloc: Global, checked: &Checked, run: Window) -> Result<Vec<u64>, Memory>
     ensures { IfOk result (λ v. (n : ℕ) → n ≤ run.count → number_at v.items n ≡ window_hash checked.now (with_count run n)) }
 {
     let _types = checked.types();

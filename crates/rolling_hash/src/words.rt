@@ -52,7 +52,6 @@ fn push_words(
     out: &mut Vec<Word>,
 ) -> Result<(), Memory>
     requires locals { knows_locals names ≡ true }
-    requires owner { knows_sort names (sort_view owner.now) ≡ true }
     requires node { knows names (view node.now) ≡ true }
     ensures { OnOk result (shown out.new.items ≡ shown out.old.items ++ words (naming names.entry) inside defined (sort_view owner.now) (view node.now)) }
 {
@@ -87,7 +86,6 @@ fn push_open(
     out: &mut Vec<Word>,
 ) -> Result<(), Memory>
     requires locals { knows_locals names ≡ true }
-    requires owner { knows_sort names (sort_view owner.now) ≡ true }
     requires sort { knows_sort names (sort_view sort.now) ≡ true }
     requires parts { knows_parts names (views parts.now) ≡ true }
     ensures { OnOk result (shown out.new.items ≡ shown out.old.items
@@ -111,7 +109,6 @@ fn push_row(
     out: &mut Vec<Word>,
 ) -> Result<(), Memory>
     requires locals { knows_locals names ≡ true }
-    requires owner { knows_sort names (sort_view owner.now) ≡ true }
     requires parts { knows_parts names (views parts.now) ≡ true }
     ensures { OnOk result (shown out.new.items ≡ shown out.old.items ++ row_words (naming names.entry) inside outline (sort_view owner.now) 0 (views parts.now)) }
 {
@@ -144,7 +141,6 @@ fn push_part(
     out: &mut Vec<Word>,
 ) -> Result<(), Memory>
     requires locals { knows_locals names ≡ true }
-    requires owner { knows_sort names (sort_view owner.now) ≡ true }
     requires part { knows_part names part.now ≡ true }
     ensures { OnOk result (shown out.new.items ≡ shown out.old.items ++ part_words names.entry inside defined (sort_view owner.now) part.now) }
 {

@@ -4,7 +4,7 @@ use Rattle.std.specs.Set.{distinct_count}
 use Rattle.go_typed.specs.Funcs.{tree_of}
 use Rattle.go_package.specs.Checked.{origins}
 use Rattle.package_numbers.specs.Numbers.{has_body}
-use Rattle.package_numbers.proofs.Told.{counted, six-equal, told}
+use Rattle.package_numbers.proofs.Told.{six-equal, told}
 use Rattle.package_numbers.proofs.numbers.numbers_of.Goals as goal
 
 pub returns : goal.returns

@@ -1,5 +1,5 @@
-use Rattle.std.proofs.Common.{◌≡◌, ◌∙◌, ◌<◌, ◌≤◌, List, true, false, length, ap, sym, subst, arith}
-use Rattle.std.specs.Prelude.{if◌then◌else◌, Option, Some, None, slice_get}
+use Rattle.std.proofs.Common.{◌≡◌, ◌∙◌, ◌<◌, ◌≤◌, List, true, false, length, ap, sym, subst}
+use Rattle.std.specs.Prelude.{Some, slice_get}
 use Rattle.go_tree.specs.declared.object.Declared.{Declared}
 use Rattle.rolling_hash.proofs.Declared.{declared-at, declared-end, declared-nowhere, shows}
 use Rattle.rolling_hash.proofs.names.declared_text.Goals as goal

@@ -1,4 +1,4 @@
-use Rattle.std.proofs.Common.{◌≡◌, ◌∙◌, ◌++◌, ◌∷◌, [], ap}
+use Rattle.std.proofs.Common.{◌∙◌, ◌++◌, ◌∷◌, [], ap}
 use Rattle.rolling_hash.proofs.Runs.{start-number}
 use Rattle.rolling_hash.proofs.numbered.push_numbered.Goals as goal
 

@@ -1,8 +1,8 @@
-use Rattle.std.proofs.Common.{◌≡◌, ◌∙◌, ◌+◌, ◌++◌, ◌∷◌, [], ℕ, refl, ap}
+use Rattle.std.proofs.Common.{◌∙◌, ◌+◌, ◌++◌, ◌∷◌, [], refl, ap}
 use Rattle.std.specs.Prelude.{◌%◌, ◌^◌, nat_eq}
 use Rattle.std.specs.HashMap.{get}
 use Rattle.alpha_hash.specs.Hash.{mix}
-use Rattle.rolling_hash.specs.Shown.{shown, word_view}
+use Rattle.rolling_hash.specs.Shown.{shown}
 use Rattle.rolling_hash.proofs.Folds.{rolled-more}
 use Rattle.rolling_hash.proofs.Rows.{word-at}
 use Rattle.rolling_hash.proofs.numbers.numbers_of.Goals as goal

@@ -1,4 +1,4 @@
-use Rattle.std.proofs.Common.{◌≡◌, ◌∙◌, ◌++◌, [], ℕ, List, length, map, ap, arith}
+use Rattle.std.proofs.Common.{◌≡◌, ◌∙◌, ◌++◌, [], length, map, ap, arith}
 use Rattle.go_typed.specs.Views.{views}
 use Rattle.alpha_hash.specs.Words.{window_words}
 use Rattle.rolling_hash.specs.Shown.{naming, shown}

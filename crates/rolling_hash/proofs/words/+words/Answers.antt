@@ -16,22 +16,22 @@ push_words-push_open-requires t c =
     let k = opened-known c.args.names c.args.node.now c.requires.node in
     let small : sizes (views c.deref.result.now) ≡ sizes (views (out-TypedNode c.args.node.now).parts.items) = ap (λ ps. sizes (views ps)) c.deref.ensures.value in (
       omega (arith, opened-size c.args.node.now, small, c.decreases),
-      (c.requires.locals, (c.requires.owner, (k.sort, subst (λ (ps : List (Option TypedNode)). knows_parts c.args.names (views ps) ≡ true) (sym c.deref.ensures.value) k.parts))),
+      (c.requires.locals, (k.sort, subst (λ (ps : List (Option TypedNode)). knows_parts c.args.names (views ps) ≡ true) (sym c.deref.ensures.value) k.parts)),
     )
 
 pub push_open-push_row-requires : goal.push_open-push_row-requires
-push_open-push_row-requires t c = (omega (arith, c.decreases), (c.requires.locals, (c.requires.sort, c.requires.parts)))
+push_open-push_row-requires t c = (omega (arith, c.decreases), (c.requires.locals, c.requires.parts))
 
 pub push_row-push_part-requires : goal.push_row-push_part-requires
 push_row-push_part-requires t c =
     let k = (row-known c.args.names c.args.parts.now c.loop-part.part-index c.part-item.result c.loop-part-test.true c.part-item.is c.loop-part.invariant.known).0 in
     let small = part-small c.args.parts.now c.loop-part.part-index c.part-item.result c.loop-part-test.true c.part-item.is in
-    (omega (arith, small, c.decreases), (c.requires.locals, (c.requires.owner, k)))
+    (omega (arith, small, c.decreases), (c.requires.locals, k))
 
 pub push_part-push_words-requires : goal.push_part-push_words-requires
 push_part-push_words-requires t c =
     let small : part-size c.args.part.now ≡ size (view c.in-Some.node) = ap part-size c.in-Some.is in
-    (omega (arith, small, c.decreases), (c.requires.locals, (c.requires.owner, subst (λ (o : Option TypedNode). knows_part c.args.names o ≡ true) c.in-Some.is c.requires.part)))
+    (omega (arith, small, c.decreases), (c.requires.locals, subst (λ (o : Option TypedNode). knows_part c.args.names o ≡ true) c.in-Some.is c.requires.part))
 
 pub push_row-loop-part-preserved : goal.push_row-loop-part-preserved
 push_row-loop-part-preserved t c =
