@@ -8,3 +8,4 @@ pub mod Environments
 pub mod Standing
 pub mod Faulty
 pub mod Starting
+pub mod Undeclared

@@ -1,5 +1,5 @@
 //! The declarations of a package, typed.
-ghost use Rattle.std.specs.Prelude.{◌≡◌, ◌≤◌, true, None, [], IfOk, length, map};
+ghost use Rattle.std.specs.Prelude.{◌≡◌, ◌≤◌, true, None, [], IfOk, length, map, count_by, take};
 ghost use Rattle.std.specs.List.{list_all};
 ghost use Rattle.go_base.specs.Gives.{Gives};
 ghost use Rattle.go_tree.specs.Faults.{reported};
@@ -8,7 +8,8 @@ ghost use Rattle.go_scopes.specs.Resolve.{units_of};
 ghost use Rattle.type_tests.specs.Extends.{Extends};
 ghost use Rattle.go_typed.specs.Packages.{referents, is_there};
 ghost use Rattle.go_contexts.specs.Expressions.{failure_named};
-ghost use Rattle.go_types.specs.Tables.{rights_of};
+ghost use Rattle.go_types.specs.Changes.{first_types};
+ghost use Rattle.go_types.specs.Tables.{Table, rights_of, is_declaration};
 ghost use Rattle.go_package.specs.Answer.{answer_with, package_answer};
 ghost use Rattle.go_package.specs.Sources.{source_of};
 ghost use Rattle.go_judging.specs.World.{package_in, outlines_in, specifications_in, Fits};
@@ -21,6 +22,7 @@ use go_contexts::TypeError;
 use go_contexts::laws::literals_read;
 use go_declarations::laws::literals_of_specifications_are_read;
 use go_declarations::specifications;
+use go_in_order::judge_in_order;
 use go_judging::{World, first, rounds};
 use go_needs::needs_of;
 use go_tree::file::File;
@@ -30,12 +32,13 @@ use go_typed::Env;
 use go_types::Types;
 use std::alloc::Global;
 
-/// What the objects of a package stand for, whose declared types have no right sides yet; or the fault that is reported.
+/// What the objects of a package stand for, whose declared types have no right sides yet; or the fault that is reported. All of them are
+/// judged in each round.
 ///
 /// # Errors
 ///
 /// The fault, or want of memory.
-fn judged(alloc: Global, types: &mut Types, world: &World<'_>) -> Result<Env, TypeError>
+fn judged_in_rounds(alloc: Global, types: &mut Types, world: &World<'_>) -> Result<Env, TypeError>
     requires fits { Fits types.old world.now }
     requires fresh { rights_of types.old ≡ open_rights world.now.uses.now.package_level }
     ensures extends { Extends types.old types.new }
@@ -48,6 +51,56 @@ fn judged(alloc: Global, types: &mut Types, world: &World<'_>) -> Result<Env, Ty
     let start = first(alloc, types, world)?;
     let all = rounds(alloc, types, world, start)?;
     answer(alloc, types, world, &all)
+}
+
+/// The same of a package whose types are not declared in this table.
+fn judged_anew(alloc: Global, types: &mut Types, world: &World<'_>) -> Result<Env, TypeError>
+    requires fits { (t : Table) × Fits t world.now }
+    requires fresh { types.old.rights ≡ [] }
+    ensures extends { Extends types.old types.new }
+    ensures exact { Gives (environment_seen types.new) failure_named result (answer_with (package_in world.now) (specifications_in world.now) (outlines_in world.now)) }
+    ensures defined { IfOk result (λ _. list_all is_there types.new.rights ≡ true) }
+    ensures referents { IfOk result (λ e. e.referents ≡ referents world.now.uses.now.package_level) }
+    ensures known { IfOk result (KnownObjects (length types.new.shapes)) }
+{
+    types.count();
+    let named = declare_types(alloc, types, world.uses.package_objects())?;
+    types.count();
+    let basics = basics(alloc, types)?;
+    let anew = World {
+        files: world.files,
+        uses: world.uses,
+        specifications: world.specifications,
+        needs: world.needs,
+        env: world.env,
+        named: &named,
+        basics,
+    };
+    judged_in_rounds(alloc, types, &anew)
+}
+
+/// The same, where the package's types are declared in the table behind the first `size` ones. Each object is judged behind those that it
+/// needs, if that comes to what all rounds do.
+fn judged(alloc: Global, types: &mut Types, world: &World<'_>, size: u64) -> Result<Env, TypeError>
+    requires fits { Fits types.old world.now }
+    requires fresh { rights_of types.old ≡ open_rights world.now.uses.now.package_level }
+    requires within { size ≤ length types.old.shapes }
+    requires bare { count_by is_declaration (take size types.old.shapes) ≡ 0 }
+    ensures extends { Extends (first_types size types.old) types.new }
+    ensures exact { Gives (environment_seen types.new) failure_named result (answer_with (package_in world.now) (specifications_in world.now) (outlines_in world.now)) }
+    ensures defined { IfOk result (λ _. list_all is_there types.new.rights ≡ true) }
+    ensures referents { IfOk result (λ e. e.referents ≡ referents world.now.uses.now.package_level) }
+    ensures known { IfOk result (KnownObjects (length types.new.shapes)) }
+{
+    types.count();
+    let start = first(alloc, types, world)?;
+    match judge_in_order(alloc, types, world, start)? {
+        Some(all) => answer(alloc, types, world, &all),
+        None => {
+            types.cut(size);
+            judged_anew(alloc, types, world)
+        }
+    }
 }
 
 /// The types, constants, variables and functions of a package, by what its names mean (Go specification, "Constant declarations",
@@ -75,7 +128,7 @@ pub fn type_package(
     ensures referents { IfOk result (λ e. e.referents ≡ referents uses.now.package_level) }
     ensures known { IfOk result (KnownObjects (length types.new.shapes)) }
 {
-    types.count();
+    let size = types.count();
     literals_read();
     literals_of_specifications_are_read();
     let specifications = specifications(alloc, files)?;
@@ -96,5 +149,5 @@ pub fn type_package(
         named: &named,
         basics,
     };
-    judged(alloc, types, &world)
+    judged(alloc, types, &world, size)
 }
