@@ -4,6 +4,7 @@
 #   sizes     checks of packages of functions of 16 kB to 1 MiB, and of an edit with the check behind it
 #   shapes    checks of packages of one shape, each in three sizes: a body of many statements, a function of many locals, blocks
 #             nested as deep as a file may, many functions, and functions that call one another
+#   chains    checks of declarations over 256 files, each of which names another one, in two sizes
 #   phases    the phases of the check of the largest package of functions. It is given up at the first phase with a fault, and the
 #             fault stands at the end of the file; so the times of two packages with faults of adjoining phases differ by a phase
 #   listings  listings of clone classes: functions of one statement over and over, and the largest package of functions
@@ -12,7 +13,7 @@
 top=$(cd "$(dirname "${BASH_SOURCE[0]}")/.." && pwd) || exit 1
 program=${1:-${GOCLONE:-$top/crates/clone_cli/out/clone_cli}}
 tables=${*:2}
-tables=${tables:-sizes shapes phases listings}
+tables=${tables:-sizes shapes chains phases listings}
 read -ra sizes <<<"${SIZES:-16384 65536 262144 1048576}"
 room=$(mktemp -d) || exit 1
 trap 'rm -rf "$room"' EXIT
@@ -130,6 +131,29 @@ idle() {
     }'
 }
 
+# So many declarations over the 256 files of a new folder, each of which names another one: constants behind the one that they name or
+# in front of it, slices or structs of the next type, or types and variables that name one another.
+#   chain SORT COUNT FOLDER
+chain() {
+    mkdir "$3" && awk -v sort="$1" -v count="$2" -v folder="$3" '
+        function put(place, text) { print text > sprintf("%s/f%03d.go", folder, place % 256) }
+        BEGIN {
+            for (i = 0; i < 256; i++) put(i, "package main\n")
+            put(0, "func main() {}\n")
+            last = count - 1
+            for (i = 0; i < count && sort != "mixed"; i++) {
+                if (sort == "behind") put(i, "const c" i " = " (i ? "c" (i - 1) " + 1" : "1"))
+                if (sort == "before") put(i, "const c" i " = " (i < last ? "c" (i + 1) " + 1" : "1"))
+                if (sort == "slices") put(i, "type t" i " " (i < last ? "[]t" (i + 1) : "int"))
+                if (sort == "structs") put(i, "type t" i " " (i < last ? "struct{ next t" (i + 1) " }" : "int"))
+            }
+            for (i = 0; i < count / 2 && sort == "mixed"; i++) {
+                put(i, "type t" i " []t" (i + 1) % (count / 2))
+                put(i, "var v" i " = t" i "{}")
+            }
+        }'
+}
+
 # ---- tables
 
 # A row for a package of functions of one size.
@@ -171,6 +195,27 @@ table_of_shapes() {
     shape_rows 'functions with 99 blocks in one another' nested 160 320 640 || return 1
     shape_rows 'functions that do nothing' idle 2500 5000 10000 || return 1
     shape_rows 'functions, each calling the one before' callers 2500 5000 10000 || return 1
+}
+
+# Rows for declarations that name one another.
+#   chain_rows TEXT SORT COUNT ..
+chain_rows() {
+    local text=$1 sort=$2 count seen
+    shift 2
+    for count in "$@"; do
+        chain "$sort" "$count" "$room/$sort$count" && seen=$(check 'classes 0' "$room/$sort$count") || return 1
+        echo "| $text | $count | ${seen% *} | ${seen#* } |"
+    done
+}
+
+table_of_chains() {
+    echo '| Declarations over 256 files | How many | Check, ms | Memory, kB |'
+    echo '|---|---|---|---|'
+    chain_rows 'constants, each behind the one that it names' behind 1000 10000 || return 1
+    chain_rows 'constants, each in front of the one that it names' before 1000 10000 || return 1
+    chain_rows 'types, slices of the next one' slices 1000 10000 || return 1
+    chain_rows 'types, structs of the next one' structs 1000 10000 || return 1
+    chain_rows 'types and variables that name one another' mixed 2500 25000 || return 1
 }
 
 # A row for the phases up to one: the package ends in a text with a fault of this phase.
