@@ -2,6 +2,9 @@
 use Rattle.std.proofs.Common.{◌≡◌, ℕ, suc, ◌+◌, ◌≤◌, Bool, true, false, List, [], ◌∷◌, length, drop, Option, Some, None, refl, ap, sym, subst, ◌∙◌, arith}
 use Rattle.std.specs.Prelude.{is_some}
 use Rattle.std.proofs.lemmas.List.{drop_all}
+use Rattle.std.specs.Option.{option_map}
+use Rattle.go_base.specs.declared.fault.Fault.{Fault}
+use Rattle.go_tokens.specs.Tokens.{TokenList}
 use Rattle.go_tree.specs.Failures.{Failure, least_from}
 use Rattle.go_types.specs.Tables.{Table, IsTable}
 use Rattle.type_tests.specs.Extends.{Grows}
@@ -20,7 +23,9 @@ use Rattle.go_judging.specs.declared.world.World.{World}
 use Rattle.go_judging.specs.World.{Fits, KnownStandings}
 use Rattle.go_judging.proofs.Stays.{fits_more, standings_more, stand_more}
 use Rattle.go_package_types.specs.declared.faults.Known.{Known}
+use Rattle.go_scopes.specs.Views.{failure_of}
 use Rattle.go_package_types.specs.Known.{Tells}
+use Rattle.go_package_types.specs.Merged.{merged, failure_in}
 use Rattle.go_package_types.specs.Places.{SpecificationStands}
 use Rattle.go_package_types.proofs.Merged.{least_from_append}
 use Rattle.go_package_types.proofs.Noted.{nothing_fails, inner_fails, own_fails, blocked_fails}
@@ -41,6 +46,10 @@ fits_grown old new ok g w h = fits_more old new ok g.extends w h
 
 pub known_grown : (old new : Table) → IsTable old → Grows old new → (k : Known) → KnownStandings (length old.shapes) k.sound.now → KnownStandings (length new.shapes) k.sound.now
 known_grown old new ok g k h = standings_more old new ok g.extends k.sound.now h
+
+-- what is told beside a fault that may be there
+abbrev pub told : Option Fault → TokenList → Option TypeFault → Option Failure
+told found ts o = merged (option_map failure_of found) (option_map (failure_in ts) o)
 
 -- ---- the rules that fail at a specification
 
@@ -83,6 +92,16 @@ module _ (p : Package) (os : List Outline) (ss : List State) (d : Specification)
 
   pub each_there : (q : ℕ → ℕ → Bool) → SpecificationStands q d → EachFault q (specification_faults p os ss d)
   each_there q h = subst (EachFault q) (sym faults_are) (whole_at q blocked scope d h)
+
+  -- a fault that isn't before the one that is there changes nothing, whether or not it is blocked
+  changes_by : (b : Bool) → b ≡ blocked → (found : Option Fault) (ts : TokenList) (f : TypeFault) → None ≡ least (whole true) → Some f ≡ least (whole false) → merged (option_map failure_of found) (Some (failure_in ts f)) ≡ option_map failure_of found
+      → told found ts None ≡ told found ts (least (specification_faults p os ss d))
+  changes_by true h found ts f n e same = ap (told found ts) (blocked_there n h)
+  changes_by false h found ts f n e same = sym same ∙ ap (told found ts) (own_there (Some f) n e h)
+
+  pub changes_nothing : (found : Option Fault) (ts : TokenList) (f : TypeFault) → None ≡ least (whole true) → Some f ≡ least (whole false) → merged (option_map failure_of found) (Some (failure_in ts f)) ≡ option_map failure_of found
+      → told found ts None ≡ told found ts (least (specification_faults p os ss d))
+  changes_nothing found ts f n e same = changes_by blocked refl found ts f n e same
 
 -- ---- all specifications
 

@@ -7,7 +7,7 @@ ghost use Rattle.go_scopes.specs.Views.{failure_of};
 use go_base::Fault;
 
 /// Whether the first is reported before the second.
-fn is_earlier(a: Fault, b: Fault) -> bool
+pub fn is_earlier(a: Fault, b: Fault) -> bool
     ensures { result ≡ is_earlier (failure_of a) (failure_of b) }
 {
     let (p, q) = (a.span, b.span);

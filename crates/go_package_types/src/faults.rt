@@ -1,10 +1,11 @@
 //! The fault of the declarations of a package that is reported.
-ghost use Rattle.std.specs.Prelude.{◌≡◌, ◌<◌, ℕ, List, Some, None, IfOk, length, map, slice_get};
+ghost use Rattle.std.specs.Prelude.{◌≡◌, ◌<◌, ℕ, false, List, Option, Some, None, IfOk, length, map, slice_get};
 ghost use Rattle.std.specs.Option.{option_map};
 ghost use Rattle.go_tree.specs.Failures.{least, least_from};
 ghost use Rattle.go_types.specs.Tables.{rights_of};
 ghost use Rattle.type_tests.specs.Extends.{Grows};
 ghost use Rattle.go_rules.specs.Faults as faults;
+ghost use Rattle.go_rules.specs.declared.fault.TypeFault.{TypeFault as Failing};
 ghost use Rattle.go_scopes.specs.Views.{failure_of};
 ghost use Rattle.go_package.specs.Answer.{all_failures, mains_from, failures_at};
 ghost use Rattle.go_package.specs.Declarations as declarations;
@@ -19,7 +20,7 @@ ghost use Rattle.go_judging.specs.World.{package_in, outlines_in, specifications
 ghost use Rattle.go_package_types.specs.Known.{Tells};
 ghost use Rattle.go_package_types.specs.Merged as merging;
 
-use crate::earliest::earlier;
+use crate::earliest::{earlier, is_earlier};
 use crate::stands::specification_stands;
 use go_base::{Fault, Memory};
 use go_declarations::Specification;
@@ -76,8 +77,29 @@ fn fault_as(
     specification_fault(alloc, types, &scope, specification, blocked)
 }
 
-/// The least of the rules that fail at the specification of this number. Whether another one's fault blocks it is asked where its own
-/// rule alone fails.
+/// Whether a fault of a file, by its tokens, is the one to report, where another one may be there.
+fn is_first(found: Option<Fault>, tokens: &Tokens, fault: TypeFault) -> bool
+    ensures { result ≡ false → merging.merged (option_map failure_of found) (Some (merging.failure_in tokens.now fault)) ≡ option_map failure_of found }
+{
+    match found {
+        None => true,
+        Some(found) => is_earlier(fault_in(tokens, fault), found),
+    }
+}
+
+/// A fault of a file, by its bytes.
+fn fault_in(tokens: &Tokens, fault: TypeFault) -> Fault
+    ensures { failure_of result ≡ merging.failure_in tokens.now fault }
+{
+    Fault {
+        code: fault.code,
+        span: bytes_of(tokens.file(), tokens, fault.first, fault.last),
+    }
+}
+
+/// What is to be told of the specification of this number beside a fault that may be there: the least of the rules that fail at it,
+/// or nothing, if that changes nothing. Whether another one's fault blocks it is asked where its own rule alone fails, and where that
+/// would be the first fault.
 fn fault_of(
     alloc: Global,
     types: &mut Types,
@@ -85,13 +107,17 @@ fn fault_of(
     known: &Known<'_>,
     number: usize,
     specification: &Specification<'_>,
+    tokens: &Tokens,
+    found: Option<Fault>,
 ) -> Result<Option<TypeFault>, Memory>
     requires fits { Fits types.old world.now }
     requires known { KnownStandings (length types.old.shapes) known.now.sound.now }
     requires literals { let d = specification_view specification.now in SpecificationRead (text_at (package_in world.now) d.file) d }
     requires number { slice_get (specifications_in world.now) number ≡ Some (specification_view specification.now) }
     ensures grows { Grows types.old types.new }
-    ensures fault { (ss : List State) → Tells types.old world.now known.now ss → IfOk result (λ o. o ≡ faults.least (specification_faults (package_in world.now) (outlines_in world.now) ss (specification_view specification.now))) }
+    ensures fault { let shown = λ (o : Option Failing). merging.merged (option_map failure_of found) (option_map (merging.failure_in tokens.now) o) in
+        (ss : List State) → Tells types.old world.now known.now ss
+        → IfOk result (λ o. shown o ≡ shown (faults.least (specification_faults (package_in world.now) (outlines_in world.now) ss (specification_view specification.now)))) }
 {
     types.count();
     let Some(fault) = fault_as(alloc, types, world, known, specification, false)? else {
@@ -100,6 +126,9 @@ fn fault_of(
     let inner = fault_as(alloc, types, world, known, specification, true)?;
     if inner.is_some() {
         return Ok(inner);
+    }
+    if !is_first(found, tokens, fault) {
+        return Ok(None);
     }
     if world
         .needs
@@ -146,10 +175,19 @@ fn note_fault(
     let Some(specification) = world.specifications.get(number) else {
         return Err(Memory);
     };
-    let fault = fault_of(alloc, types, world, known, number, specification)?;
     let Some(tokens) = tokens_of(world, specification.file) else {
         return Err(Memory);
     };
+    let fault = fault_of(
+        alloc,
+        types,
+        world,
+        known,
+        number,
+        specification,
+        tokens,
+        found,
+    )?;
     if specification_stands(tokens, specification) {
         Ok(merged(found, tokens, fault))
     } else {

@@ -3,6 +3,7 @@ use Rattle.std.specs.Option.{option_map}
 use Rattle.go_tree.specs.Failures.{least_from}
 use Rattle.go_lookup.proofs.Told.{get_some}
 use Rattle.go_scopes.specs.Views.{failure_of}
+use Rattle.go_rules.specs.Faults.{least}
 use Rattle.go_package.specs.Answer.{failures_at}
 use Rattle.go_package.specs.Declarations.{Specification}
 use Rattle.go_package.specs.Verdicts.{specification_faults}
@@ -24,6 +25,6 @@ returns-then-specification_stands-clause-fault c = λ ss d h at.
     let ts = c.in-Some-tokens_of.tokens.now in
     let found = option_map failure_of c.args.found in
     let is : v ≡ d = seen_at specification_view w.specifications.now c.args.number s d (get_some w.specifications.now c.args.number s c.in-Some.ensures.lookup.3.0 ∙ ap (λ x. Some x) (sym c.in-Some.ensures.lookup.1)) at in
-    noted p v.file ts c.in-Some-tokens_of.ensures.tokens c.in-Some-tokens_of.ensures.number c.in-Some-tokens_of.ensures.list (specification_faults p os ss v) found (option_map failure_of c.merged.result) c.in_ok-fault.fault
-    (each_there p os ss v (stands ts) (c.if-specification_stands.ensures refl)) (c.in_ok-fault.ensures.fault ss h) c.merged.ensures
+    noted p v.file ts c.in-Some-tokens_of.ensures.tokens c.in-Some-tokens_of.ensures.number c.in-Some-tokens_of.ensures.list (specification_faults p os ss v) found (option_map failure_of c.merged.result) (least (specification_faults p os ss v))
+    (each_there p os ss v (stands ts) (c.if-specification_stands.ensures refl)) refl (c.merged.ensures ∙ c.in_ok-fault.ensures.fault ss h)
     ∙ ap (λ (x : Specification). least_from found (failures_at p x.file (specification_faults p os ss x))) is
