@@ -1,45 +1,30 @@
 //! Compares whole sessions of the program with tables of cases whose answers come from outside.
 //!
-//! The answers of `typing`, `types_of`, `listings`, `scripts` and `runs` come from another reading of the language and of the commands,
-//! made apart from these crates. The rows of `worked_sessions`, `worked_types` and `collisions` were worked out by hand. The packages
-//! of `made` have no answers: their clone classes are listed from two indexes and by comparing every window with every other, and so
-//! are those of `listings`.
+//! The answers of `typing`, `listings`, `scripts` and `runs` come from another reading of the language and of the commands, made apart
+//! from these crates. The rows of `worked_sessions` were worked out by hand. The packages of `made` have no answers: their clone
+//! classes are listed from two indexes and by comparing every window with every other, and so are those of `listings`.
 //!
 //! The tables lie in the folder that the program is run in, each as a file `NAME.tsv`. A table that is not there is passed over.
 //! Each difference is printed, and for each table a line, as `typing 372 of 372`: how many of its cases agree.
 #![tactic(auto)]
 
 mod agreement;
-mod collisions;
-mod declared_names;
 mod listings;
 mod made;
-mod packages;
 mod runs;
 mod scripts;
 mod sessions;
-mod types_of;
 mod typing;
 
 use case_tables::table::run;
-use collisions::Collisions;
 use listings::Listings;
 use made::Made;
 use runs::Runs;
 use scripts::Scripts;
-use types_of::TypesOf;
 use typing::Typing;
 
 fn main(rt: HostRuntime) -> anyhow::Result<()> {
     run(&rt, &Typing)?;
-    run(
-        &rt,
-        &TypesOf {
-            name: "worked_types",
-        },
-    )?;
-    run(&rt, &TypesOf { name: "types_of" })?;
-    run(&rt, &Collisions)?;
     run(&rt, &Listings)?;
     run(&rt, &Made)?;
     run(
