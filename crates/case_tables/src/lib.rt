@@ -4,4 +4,5 @@
 #![tactic(auto)]
 
 pub mod digits;
+pub mod folders;
 pub mod table;

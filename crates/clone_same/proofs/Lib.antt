@@ -1,3 +1,4 @@
 pub mod Agreement
 pub mod Settled
 pub mod FieldNames
+pub mod Named

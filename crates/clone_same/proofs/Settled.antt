@@ -10,7 +10,7 @@ use Rattle.clone_same.specs.Pairing.{settles, is_settled}
 
 -- ---- both directions
 
-and-mixed : (a b c d : Bool) → ((a && b) && (c && d)) ≡ ((a && c) && (b && d))
+pub and-mixed : (a b c d : Bool) → ((a && b) && (c && d)) ≡ ((a && c) && (b && d))
 and-mixed true true c d = refl
 and-mixed true false true d = refl
 and-mixed true false false d = refl

@@ -1,3 +1,4 @@
 pub mod Bodies
+pub mod Named
 pub mod Pairing
 pub mod Shown

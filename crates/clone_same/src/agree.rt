@@ -1,21 +1,37 @@
-//! When trees agree node by node.
+//! When trees agree node by node, and name fields of the same names.
 
-ghost use Rattle.std.specs.Prelude.{◌≡◌, ◌&&◌, nat_eq};
+ghost use Rattle.std.specs.Prelude.{◌≡◌, ◌&&◌, false, nat_eq};
+ghost use Rattle.go_types.specs.Tables.{rights_of};
+ghost use Rattle.go_typed.specs.Trees.{Nothing};
 ghost use Rattle.go_typed.specs.Views.{sort_view, view, views};
+ghost use Rattle.clone_window.specs.Fields.{field_name, field_text, names_field, same_field};
 ghost use Rattle.clone_window.specs.Kinds.{outline};
-ghost use Rattle.clone_window.specs.Sameness.{agree, agree_besides, all_agree, compared, same_outline};
+ghost use Rattle.clone_window.specs.Sameness.{agree_besides, compared, same_outline};
+ghost use Rattle.clone_same.specs.Named as specs;
+ghost use Rattle.clone_same.specs.Named.{all_named};
 
 use crate::alike::{agree_besides, same_outline, same_type};
+use crate::fields::same_field;
 use clone_window::mass::{is_hole, is_inside};
 use clone_window::outline::outline_of;
 use go_typed::form::{Form, Referent};
 use go_typed::node::TypedNode;
 use go_typed::sort::Sort;
+use go_types::Types;
 
-/// Whether two trees, each of which may stand inside a constant expression, agree node by node, up to locals and constants.
+/// Whether two trees agree node by node, up to locals and constants, and name fields of the same names at corresponding places. Each
+/// may stand inside a constant expression, and in a composite literal that stands for an owner.
 #[cycle(agree)]
-fn agree(inside: bool, other_inside: bool, node: &TypedNode, other: &TypedNode) -> bool
-    ensures { result ≡ agree nat_eq inside other_inside (view node.now) (view other.now) }
+fn agree_named(
+    types: &Types,
+    inside: bool,
+    other_inside: bool,
+    owner: &Sort,
+    other_owner: &Sort,
+    node: &TypedNode,
+    other: &TypedNode,
+) -> bool
+    ensures { result ≡ specs.agree_named (field_text types.now) inside other_inside (sort_view owner.now) (sort_view other_owner.now) (view node.now) (view other.now) }
 {
     if is_hole(inside, node.form, &node.label) {
         return is_hole(other_inside, other.form, &other.label)
@@ -27,7 +43,24 @@ fn agree(inside: bool, other_inside: bool, node: &TypedNode, other: &TypedNode) 
     let within = is_inside(inside, node.form, &node.label);
     let other_within = is_inside(other_inside, other.form, &other.label);
     agree_alone(node.form, other.form, &node.label.sort, &other.label.sort)
-        && all_agree(within, other_within, &node.parts, &other.parts)
+        && same_field(
+            types,
+            owner,
+            other_owner,
+            node.form,
+            other.form,
+            &node.parts,
+            &other.parts,
+        )
+        && all_named(
+            types,
+            within,
+            other_within,
+            &node.label.sort,
+            &other.label.sort,
+            &node.parts,
+            &other.parts,
+        )
 }
 
 /// Whether two nodes that are no holes agree but for their parts.
@@ -59,15 +92,18 @@ fn same_shape(form: Form, other: Form) -> bool
     }
 }
 
-/// Whether two rows of parts agree part by part; a part that is left out agrees with one that is left out.
+/// Whether two rows of parts agree part by part, a part that is left out with one that is left out, and name fields of the same names.
 #[cycle(agree)]
-pub fn all_agree(
+fn all_named(
+    types: &Types,
     inside: bool,
     other_inside: bool,
+    owner: &Sort,
+    other_owner: &Sort,
     parts: &[Option<TypedNode>],
     others: &[Option<TypedNode>],
 ) -> bool
-    ensures { result ≡ all_agree nat_eq inside other_inside (views parts.now) (views others.now) }
+    ensures { result ≡ all_named (field_text types.now) inside other_inside (sort_view owner.now) (sort_view other_owner.now) (views parts.now) (views others.now) }
 {
     if parts.len() != others.len() {
         return false;
@@ -76,7 +112,7 @@ pub fn all_agree(
     for part in parts {
         match (part, &others[index]) {
             (Some(node), Some(other)) => {
-                if !agree(inside, other_inside, node, other) {
+                if !agree_named(types, inside, other_inside, owner, other_owner, node, other) {
                     return false;
                 }
             }
@@ -86,4 +122,16 @@ pub fn all_agree(
         index += 1;
     }
     true
+}
+
+/// Whether two runs of statements agree node by node, up to locals and constants, and name fields of the same names.
+pub fn statements_agree(
+    types: &Types,
+    statements: &[Option<TypedNode>],
+    others: &[Option<TypedNode>],
+) -> bool
+    ensures { result ≡ all_named (field_text types.now) false false Nothing Nothing (views statements.now) (views others.now) }
+{
+    let nothing = Sort::Nothing;
+    all_named(types, false, false, &nothing, &nothing, statements, others)
 }

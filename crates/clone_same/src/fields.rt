@@ -3,16 +3,15 @@
 ghost use Rattle.std.specs.Prelude.{◌≡◌};
 ghost use Rattle.go_types.specs.Tables.{rights_of, type_of};
 ghost use Rattle.go_typed.specs.Trees.{Nothing};
-ghost use Rattle.go_typed.specs.Views.{sort_view, view, views};
+ghost use Rattle.go_typed.specs.Views.{sort_view, views};
 ghost use Rattle.clone_window.specs.Kinds.{outline};
 ghost use Rattle.clone_window.specs.Sameness.{final};
 ghost use Rattle.type_tests.specs.Identity.{same_name};
 ghost use Rattle.type_tests.specs.Tests.{underlying_of};
 ghost use Rattle.clone_window.specs.Fields as specs;
-ghost use Rattle.clone_window.specs.Fields.{all_fields_agree, field_name, field_of, field_text, fields_agree, names_field, window_fields_agree};
+ghost use Rattle.clone_window.specs.Fields.{field_name, field_of, field_text, names_field};
 
 use crate::alike::{same_bytes, same_type};
-use clone_window::mass::{is_hole, is_inside};
 use clone_window::outline::{Outline, outline_of};
 use go_typed::form::{Form, Referent};
 use go_typed::node::TypedNode;
@@ -20,85 +19,8 @@ use go_typed::sort::Sort;
 use go_types::{Shape, TypeId, Types};
 use type_tests::underlying;
 
-/// Whether the fields that two runs of statements name at corresponding places outside holes have the same names.
-pub fn window_fields_agree(
-    types: &Types,
-    statements: &[Option<TypedNode>],
-    others: &[Option<TypedNode>],
-) -> bool
-    ensures { result ≡ window_fields_agree (field_text types.now) (field_text types.now) (views statements.now) (views others.now) }
-{
-    let nothing = Sort::Nothing;
-    all_fields_agree(types, false, false, &nothing, &nothing, statements, others)
-}
-
-/// Whether two rows of parts name fields of the same names, each of which may stand inside a constant expression, and in a
-/// composite literal that stands for an owner.
-#[cycle(fields_agree)]
-fn all_fields_agree(
-    types: &Types,
-    inside: bool,
-    other_inside: bool,
-    owner: &Sort,
-    other_owner: &Sort,
-    parts: &[Option<TypedNode>],
-    others: &[Option<TypedNode>],
-) -> bool
-    ensures { result ≡ all_fields_agree (field_text types.now) (field_text types.now) inside other_inside (sort_view owner.now) (sort_view other_owner.now) (views parts.now) (views others.now) }
-{
-    for index in 0..parts.len().min(others.len()) {
-        match (&parts[index], &others[index]) {
-            (Some(node), Some(other)) => {
-                if !fields_agree(types, inside, other_inside, owner, other_owner, node, other) {
-                    return false;
-                }
-            }
-            (None, None) => {}
-            _ => return true,
-        }
-    }
-    true
-}
-
-/// Whether two trees name fields of the same names.
-#[cycle(fields_agree)]
-fn fields_agree(
-    types: &Types,
-    inside: bool,
-    other_inside: bool,
-    owner: &Sort,
-    other_owner: &Sort,
-    node: &TypedNode,
-    other: &TypedNode,
-) -> bool
-    ensures { result ≡ fields_agree (field_text types.now) (field_text types.now) inside other_inside (sort_view owner.now) (sort_view other_owner.now) (view node.now) (view other.now) }
-{
-    if is_hole(inside, node.form, &node.label) {
-        return true;
-    }
-    let within = is_inside(inside, node.form, &node.label);
-    let other_within = is_inside(other_inside, other.form, &other.label);
-    same_field(
-        types,
-        owner,
-        other_owner,
-        node.form,
-        other.form,
-        &node.parts,
-        &other.parts,
-    ) && all_fields_agree(
-        types,
-        within,
-        other_within,
-        &node.label.sort,
-        &other.label.sort,
-        &node.parts,
-        &other.parts,
-    )
-}
-
 /// Whether two nodes of these forms and parts name fields of the same names, if the first one names a field.
-fn same_field(
+pub fn same_field(
     types: &Types,
     owner: &Sort,
     other_owner: &Sort,

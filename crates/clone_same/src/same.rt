@@ -1,13 +1,12 @@
 //! When two windows are the same.
 
-ghost use Rattle.std.specs.Prelude.{◌≡◌, ◌+◌, ◌&&◌, nat_eq, map, slice_get, IfOk};
+ghost use Rattle.std.specs.Prelude.{◌≡◌, ◌+◌, ◌&&◌, false, true, nat_eq, map, slice_get, IfOk};
 ghost use Rattle.go_typed.specs.Views.{sort_view, views};
-ghost use Rattle.clone_window.specs.Sameness.{is_same};
+ghost use Rattle.clone_window.specs.Sameness.{all_agree, is_same};
 ghost use Rattle.clone_same.specs.Bodies.{bodies_of, locals_in, same_in, statements_at};
 ghost use Rattle.clone_window.specs.Fields.{field_text, window_fields_agree};
 
-use crate::agree::all_agree;
-use crate::fields::window_fields_agree;
+use crate::agree::statements_agree;
 use crate::locals::locals_of;
 use crate::pairing::{are_matched, is_one_to_one};
 use clone_window::run::statements;
@@ -71,17 +70,17 @@ fn are_same(alloc: Global, types: &Types, run: &Run<'_>, other: &Run<'_>) -> Res
     ensures { IfOk result (λ b. b ≡ (is_same nat_eq (map sort_view run.now.locals.now) (map sort_view other.now.locals.now) (views run.now.statements.now) (views other.now.statements.now)
         && window_fields_agree (field_text types.now) (field_text types.now) (views run.now.statements.now) (views other.now.statements.now))) }
 {
-    let alike = are_alike(alloc, run, other)?;
-    Ok(alike && window_fields_agree(types, run.statements, other.statements))
-}
-
-/// Whether two runs of statements are the same but for the names of fields.
-fn are_alike(alloc: Global, run: &Run<'_>, other: &Run<'_>) -> Result<bool, Memory>
-    ensures { IfOk result (λ b. b ≡ is_same nat_eq (map sort_view run.now.locals.now) (map sort_view other.now.locals.now) (views run.now.statements.now) (views other.now.statements.now)) }
-{
-    if !all_agree(false, false, run.statements, other.statements) {
+    if !statements_agree(types, run.statements, other.statements) {
         return Ok(false);
     }
+    are_paired(alloc, run, other)
+}
+
+/// Whether the locals that two runs of statements name are paired one to one, each with one that is alike.
+fn are_paired(alloc: Global, run: &Run<'_>, other: &Run<'_>) -> Result<bool, Memory>
+    ensures { IfOk result (λ b. all_agree nat_eq false false (views run.now.statements.now) (views other.now.statements.now) ≡ true
+        → b ≡ is_same nat_eq (map sort_view run.now.locals.now) (map sort_view other.now.locals.now) (views run.now.statements.now) (views other.now.statements.now)) }
+{
     let left = locals_of(alloc, run.statements)?;
     if left.is_empty() {
         return Ok(true);

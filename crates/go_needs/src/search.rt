@@ -9,6 +9,12 @@ use crate::parts::{Part, Place, own_part};
 use std::alloc::{AllocError, Global};
 use std::collections::HashMap;
 
+/// The levels of an object that needs none that fails.
+const NO_LEVELS: Levels = Levels {
+    partly: None,
+    fully: None,
+};
+
 /// An object that is needed in part or in full.
 #[derive(Clone, Copy, Debug)]
 struct Step {
@@ -54,12 +60,8 @@ fn push_place(
 
 impl Search {
     fn new(alloc: Global, count: usize) -> Result<Search, AllocError> {
-        let none = Levels {
-            partly: None,
-            fully: None,
-        };
         Ok(Search {
-            levels: vec![in alloc; none; count]?,
+            levels: vec![in alloc; NO_LEVELS; count]?,
             users: HashMap::new(alloc),
             partial: rows(alloc, count)?,
             full: rows(alloc, count)?,
@@ -153,13 +155,17 @@ impl Search {
     }
 }
 
-/// The levels of the objects with these specifications, by what their names call for and which of them fail.
+/// The levels of the objects with these specifications, by what their names call for and which of them fail. Where none fails, none
+/// has a level, and nothing is searched.
 pub fn levels(
     alloc: Global,
     owners: &[Owner],
     calls: &[Call],
     fails: &[bool],
 ) -> Result<Vec<Levels>, AllocError> {
+    if !fails.contains(&true) {
+        return Ok(vec![in alloc; NO_LEVELS; owners.len()]?);
+    }
     let mut search = Search::new(alloc, owners.len())?;
     for (number, owner) in owners.iter().enumerate() {
         search.add_owner(alloc, number, owner)?;

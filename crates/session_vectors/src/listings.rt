@@ -1,7 +1,8 @@
 //! The table `listings`: a number, the two options, the files, and the reply to `classes` with `; ` for each newline but the last.
 //! Each listing is made in three ways, and all are compared with the reply.
 use crate::agreement::{Case, listed_thrice};
-use crate::sessions::{Session, folder_of};
+use crate::sessions::Session;
+use case_tables::folders::folder_of;
 use case_tables::table::Table;
 use go_base::Memory;
 use std::alloc::Global;

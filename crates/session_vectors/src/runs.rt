@@ -1,7 +1,7 @@
 //! The table `runs`: a number, the files in hexadecimal digits, divided by blanks, the input, the turns, the outcome, and the output.
 use crate::sessions::Session;
-use crate::typing::folder_of;
 use case_tables::digits::pieces;
+use case_tables::folders::numbered;
 use case_tables::table::Table;
 use go_base::Memory;
 use std::alloc::Global;
@@ -17,7 +17,7 @@ impl Table for Runs {
         let [_, texts, input, turns, outcome, output, ..] = fields else {
             return Ok(Some(String::from_str(alloc, "not six fields")?));
         };
-        let folder = folder_of(alloc, texts)?;
+        let folder = numbered(alloc, texts)?;
         let input = pieces(alloc, input)?;
         let session = Session {
             words: "d",

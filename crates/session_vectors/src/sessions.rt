@@ -1,8 +1,8 @@
 //! Whole runs of the program over folders, scripts and sinks in memory, as the tables write them.
-use case_tables::digits::pieces;
+use case_tables::folders::{file_of, folder_of};
 use clone_program::Goclone;
 use clone_server::serve::serve;
-use go_base::{Bytes, Memory, Name};
+use go_base::{Bytes, Memory};
 use port_io::{MemFolder, MemSink, MemSource};
 use std::alloc::Global;
 
@@ -24,35 +24,6 @@ pub struct Ended {
     pub status: u8,
     pub written: Vec<u8>,
     folder: MemFolder,
-}
-
-/// The name and the bytes of a file.
-fn file_of(alloc: Global, text: &str) -> Result<(Name, Vec<u8>), Memory> {
-    let Some((name, bytes)) = text.split_once('=') else {
-        return Err(Memory);
-    };
-    match Name::of(alloc, name.as_bytes()) {
-        Ok(name) => Ok((name, pieces(alloc, bytes)?)),
-        Err(_) => Err(Memory),
-    }
-}
-
-/// The folder that holds these files, of whose calls the ones with these numbers fail.
-pub fn folder_of(
-    alloc: Global,
-    dir: &str,
-    files: &str,
-    failing: Vec<u64>,
-) -> Result<MemFolder, Memory> {
-    let mut folder = MemFolder::new(alloc, failing);
-    if files == "-" {
-        return Ok(folder);
-    }
-    for file in files.split(' ') {
-        let (name, bytes) = file_of(alloc, file)?;
-        folder.add(dir, &name, &bytes)?;
-    }
-    Ok(folder)
 }
 
 /// The numbers of the calls of this object that fail.

@@ -1,5 +1,6 @@
 //! The table `typing`: a number, the files in hexadecimal digits, divided by blanks, and `ok` or the fault of the whole check.
 use crate::sessions::Session;
+use case_tables::folders::numbered;
 use case_tables::table::Table;
 use go_base::Memory;
 use std::alloc::Global;
@@ -15,7 +16,7 @@ impl Table for Typing {
         let [_, texts, wanted, ..] = fields else {
             return Ok(Some(String::from_str(alloc, "not three fields")?));
         };
-        let folder = folder_of(alloc, texts)?;
+        let folder = numbered(alloc, texts)?;
         let session = Session {
             words: "--min 32 --mass 1000 d",
             failing: "-",
@@ -33,19 +34,6 @@ impl Table for Typing {
             Ok(Some(ended.shown(alloc)?))
         }
     }
-}
-
-/// The files with names by their numbers.
-pub fn folder_of(alloc: Global, texts: &str) -> Result<String, Memory> {
-    let mut folder = String::new(alloc);
-    for (number, text) in texts.split(' ').enumerate() {
-        if number > 0 {
-            folder.push_str(" ")?;
-        }
-        let file = format!(in alloc; "f{number:03}.go={text}")?;
-        folder.push_str(file.as_str())?;
-    }
-    Ok(folder)
 }
 
 /// Whether a reply says what is wanted: no fault, or one with this code at this place.

@@ -1,12 +1,12 @@
 use Rattle.std.proofs.Common.{◌≡◌, drop}
-use Rattle.std.specs.Prelude.{nat_eq}
-use Rattle.go_typed.specs.Views.{views}
-use Rattle.clone_window.specs.Sameness.{all_agree}
+use Rattle.go_typed.specs.Views.{sort_view, views}
+use Rattle.clone_window.specs.Fields.{field_text}
+use Rattle.clone_same.specs.Named.{all_named}
 use Rattle.clone_same.proofs.agree.+agree.Given as goal
 
 -- the rows agree where what is left of them does
-abbrev pub invariant-all_agree-loop-part : goal.invariant-all_agree-loop-part
-invariant-all_agree-loop-part l =
-    (all_agree nat_eq l.inside l.other_inside (views l.parts) (views l.others)
-    ≡ all_agree nat_eq l.inside l.other_inside (views (drop l.part-index l.parts)) (views (drop l.part-index l.others)))
+abbrev pub invariant-all_named-loop-part : goal.invariant-all_named-loop-part
+invariant-all_named-loop-part l =
+    (all_named (field_text l.types) l.inside l.other_inside (sort_view l.owner) (sort_view l.other_owner) (views l.parts) (views l.others)
+    ≡ all_named (field_text l.types) l.inside l.other_inside (sort_view l.owner) (sort_view l.other_owner) (views (drop l.part-index l.parts)) (views (drop l.part-index l.others)))
     × (l.index ≡ l.part-index)

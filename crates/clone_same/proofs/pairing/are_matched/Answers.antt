@@ -1,4 +1,4 @@
-use Rattle.std.proofs.Common.{◌≡◌, ◌∙◌, ℕ, ◌+◌, ◌<◌, ◌≤◌, Bool, true, false, Some, drop, length, map, slice_get, ap, sym, arith}
+use Rattle.std.proofs.Common.{◌≡◌, ◌∙◌, ℕ, ◌+◌, ◌≤◌, Bool, Some, drop, length, map, slice_get, ap, sym, arith}
 use Rattle.std.specs.Prelude.{min, nat_eq, slice_index}
 use Rattle.std.specs.List.{list_all, zip}
 use Rattle.std.proofs.lemmas.Option.{slice_get-get_or}

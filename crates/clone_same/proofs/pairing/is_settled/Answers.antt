@@ -1,7 +1,6 @@
-use Rattle.std.proofs.Common.{◌≡◌, ◌∙◌, ℕ, ◌+◌, ◌<◌, ◌≤◌, Option, Some, None, length, slice_get, Global, HashMap, ap, sym, subst, arith}
+use Rattle.std.proofs.Common.{◌≡◌, ◌∙◌, ◌+◌, ◌≤◌, Some, None, length, slice_get, ap, sym, subst, arith}
 use Rattle.std.specs.Prelude.{min, nat_eq, slice_index}
 use Rattle.std.specs.HashMap.{get}
-use Rattle.std.specs.List.{zip}
 use Rattle.std.specs.Option.{option_copied}
 use Rattle.std.proofs.lemmas.Option.{slice_get-get_or}
 use Rattle.clone_same.specs.Pairing.{is_settled}
