@@ -30,6 +30,9 @@ fn nearer(a: Option<usize>, b: Option<usize>) -> Option<usize>
 fn level_at(nearest: &Nearest, place: Place) -> Option<usize>
     ensures { result ≡ hash.get same_place nearest.now place }
 {
+    if nearest.is_empty() {
+        return None;
+    }
     nearest.get(&place).copied()
 }
 
