@@ -104,12 +104,12 @@ level_at top (x ∷ bs) zero b false e = let is : x ≡ b = cc in ap (λ (y : Bo
 level_at top (x ∷ bs) (suc m) b g e = level_at top bs m b g e
 
 -- The object of this number has a rank and bounds.
-record IsBounded (g : Place → Option ℕ) (top : ℕ) (ranks : List ℕ) (bounds : List Bound) (m : ℕ) (o : Owner) : Type 0 where
-  rank : ℕ
-  ranked : slice_get ranks m ≡ Some rank
-  bound : Bound
-  there : slice_get bounds m ≡ Some bound
-  is : (f : Bool) → bounds_one top rank (bound_of f bound) (near g o f) ≡ true
+pub record IsBounded (g : Place → Option ℕ) (top : ℕ) (ranks : List ℕ) (bounds : List Bound) (m : ℕ) (o : Owner) : Type 0 where
+  pub rank : ℕ
+  pub ranked : slice_get ranks m ≡ Some rank
+  pub bound : Bound
+  pub there : slice_get bounds m ≡ Some bound
+  pub is : (f : Bool) → bounds_one top rank (bound_of f bound) (near g o f) ≡ true
 
 bounded_by : (g : Place → Option ℕ) (top : ℕ) (ranks : List ℕ) (bounds : List Bound) (m : ℕ) (o : Owner) (r : Option ℕ) (b : Option Bound) → slice_get ranks m ≡ r → slice_get bounds m ≡ b → bounds_by g top r b o ≡ true → IsBounded g top ranks bounds m o
 bounded_by g top ranks bounds m o None b re be e = absurd (grind (arith, e))

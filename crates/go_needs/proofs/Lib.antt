@@ -14,4 +14,4 @@ mod Passes
 mod Blocking
 mod Listed
 mod Bounded
-mod Ranked
+mod Ranking

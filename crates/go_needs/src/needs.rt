@@ -192,8 +192,10 @@ impl Needs {
         let bounds = own_bounds(alloc, own)?;
         let levels = levels_under(alloc, top, &bounds)?;
         let nearest = nearest(alloc, &self.calls, &levels)?;
-        Ok(are_bounded(&nearest, top, own, &bounds, &self.owners)
-            && are_ranked(&nearest, top, ranks, &self.groups))
+        if !are_bounded(&nearest, top, own, &bounds, &self.owners) {
+            return Ok(false);
+        }
+        Ok(are_ranked(&nearest, top, ranks, &self.groups))
     }
 
     /// Of each specification whether a search from the objects with a fault, those of the lowest rank first, comes to it from one under
@@ -228,7 +230,7 @@ impl Needs {
 
     /// Of each specification whether it is seen at once, by an order of all of them, that it needs a declaration with a fault, so that its
     /// own rule isn't judged; `faulty` and `assigning` are those of `is_blocked`, which tells of one specification whether it does. All
-    /// that do are seen but for those which need one another in a circle, as `var a, b = 1, c` and `var c, d = a, 2` do.
+    /// that do are seen but for those which need one another in a circle, as `const a, b = 1, c` and `const c, d = a, 2` do.
     ///
     /// # Errors
     ///

@@ -1,5 +1,5 @@
 //! The fault of the declarations of a package that is reported.
-ghost use Rattle.std.specs.Prelude.{◌≡◌, ◌<◌, ℕ, false, List, Option, Some, None, IfOk, length, map, slice_get};
+ghost use Rattle.std.specs.Prelude.{◌≡◌, ◌<◌, ℕ, false, List, Option, Some, None, IfOk, length, map, slice_get, unwrap_or};
 ghost use Rattle.std.specs.Option.{option_map};
 ghost use Rattle.go_tree.specs.Failures.{least, least_from};
 ghost use Rattle.go_needs.specs.Tells.{TellsNeeds};
@@ -99,6 +99,13 @@ fn fault_in(tokens: &Tokens, fault: TypeFault) -> Fault
     }
 }
 
+/// Whether the specification of this number is seen at once to be blocked.
+fn is_seen(blocked: &[bool], number: usize) -> bool
+    ensures { result ≡ unwrap_or (slice_get blocked.now number) false }
+{
+    blocked.get(number).copied().unwrap_or(false)
+}
+
 /// Whether another one's fault blocks the specification of this number. Where that isn't seen at once all that it needs is searched. So
 /// it is of a specification whose own rule is told, and then no later one has the first fault; and of those that need one another in a
 /// circle. Only ones with several names do that here, since an object that needs itself is a fault of an earlier phase.
@@ -111,7 +118,7 @@ fn is_blocked(
     ensures { let p = package_in world.now in let ds = specifications_in world.now in (t : Table) (ss : List State) (d : declarations.Specification) → TellsNeeds world.now.needs.now p ds → Tells t world.now known.now ss → slice_get ds number ≡ Some d
         → IfOk result (λ b. b ≡ is_blocked p (outlines_in world.now) ss d) }
 {
-    if known.blocked.get(number).copied().unwrap_or(false) {
+    if is_seen(known.blocked, number) {
         return Ok(true);
     }
     world

@@ -126,16 +126,15 @@ module _ {S : Type 0} (x : Needs) (m : HashMap Place ℕ S) (p : Package) (ds : 
 
 -- ---- what blocks
 
+own_by : (rs : List ℕ) (r k n : ℕ) (b q : Bool) → nat_eq n k ≡ b → (b || q) ≡ true → r ≤ rank_at rs k → (q ≡ true → r ≤ rank_at rs n) → r ≤ rank_at rs n
+own_by rs r k n true q e w first rest = subst (λ j. r ≤ rank_at rs j) (sym (same_number n k e)) first
+own_by rs r k n false q e w first rest = rest w
+
 from_own : (rs : List ℕ) (r : ℕ) (ns : List ℕ) (n : ℕ) → all_from r rs ns ≡ true → is_in ns n ≡ true → r ≤ rank_at rs n
 from_own rs r [] n h e = absurd (grind (arith, e))
-from_own rs r (k ∷ ns) n h e = by (nat_eq n k) refl e
-  where
-    first : nat_le r (rank_at rs k) ≡ true
-    first = both_left (nat_le r (rank_at rs k)) (all_from r rs ns) h
-
-    by : (b : Bool) → nat_eq n k ≡ b → (b || is_in ns n) ≡ true → r ≤ rank_at rs n
-    by true q w = subst (λ j. r ≤ rank_at rs j) (sym (same_number n k q)) (grind (arith, first))
-    by false q w = from_own rs r ns n (both_right (nat_le r (rank_at rs k)) (all_from r rs ns) h) w
+from_own rs r (k ∷ ns) n h e =
+    let first : nat_le r (rank_at rs k) ≡ true = both_left (nat_le r (rank_at rs k)) (all_from r rs ns) h in
+    own_by rs r k n (nat_eq n k) (is_in ns n) refl e (grind (arith, first)) (from_own rs r ns n (both_right (nat_le r (rank_at rs k)) (all_from r rs ns) h))
 
 not_own : (rs : List ℕ) (r : ℕ) (ns : List ℕ) (n : ℕ) → all_from r rs ns ≡ true → rank_at rs n < r → is_in ns n ≡ false
 not_own rs r ns n h l = by (is_in ns n) refl
@@ -247,15 +246,15 @@ module _ (x : Needs) (p : Package) (ds : List Specification) (t : TellsNeeds x p
         → any_under (hash.get same_place g) gs most r (owner_of fd) k ≡ true → list_any f (needed_columns p d k) ≡ true
     some_under most d fd zero high e our h = absurd (grind (arith, h))
     some_under most d fd (suc k) high e our h =
-        any_append f (needed_columns p d k) (needed_at p d.file (first_name d.names) k false) ∙ by (any_under (hash.get same_place g) gs most r (owner_of fd) k) refl h
+        any_append f (needed_columns p d k) (needed_at p d.file (first_name d.names) k false) ∙ by (any_under (hash.get same_place g) gs most r (owner_of fd) k) h (some_under most d fd k high e our)
       where
         y : Needed
         y = record { it = with_number fd k; full = false }
 
-        by : (b : Bool) → any_under (hash.get same_place g) gs most r (owner_of fd) k ≡ b → (b || is_under gs most r (near (hash.get same_place g) (owner_of y.it) false)) ≡ true
+        by : (b : Bool) → (b || is_under gs most r (near (hash.get same_place g) (owner_of y.it) false)) ≡ true → (b ≡ true → list_any f (needed_columns p d k) ≡ true)
             → (list_any f (needed_columns p d k) || list_any f (needed_at p d.file (first_name d.names) k false)) ≡ true
-        by true q v = ap (λ b. b || list_any f (needed_at p d.file (first_name d.names) k false)) (some_under most d fd k high e our q)
-        by false q v = or_holds (list_any f (needed_columns p d k)) (list_any f (needed_at p d.file (first_name d.names) k false)) (ap (λ o. list_any f (needed_from p k false o)) e ∙ one_under most y high our v)
+        by true v rest = ap (λ b. b || list_any f (needed_at p d.file (first_name d.names) k false)) (rest refl)
+        by false v rest = or_holds (list_any f (needed_columns p d k)) (list_any f (needed_at p d.file (first_name d.names) k false)) (ap (λ o. list_any f (needed_from p k false o)) e ∙ one_under most y high our v)
 
     columns_under : (most : ℕ) (d : Specification) (o : Option Found) → most ≤ rounds p → declared_at d.file (first_name d.names) p.declared ≡ o → ((w : Owner) → option_map owner_of o ≡ Some w → IsOurs all w.file w.source)
         → (w : Owner) → option_map owner_of o ≡ Some w → any_under (hash.get same_place g) gs most r w (max (length d.names) (length d.values)) ≡ true → list_any f (needed_by_all p d) ≡ true
