@@ -11,14 +11,13 @@ use Rattle.go_package.specs.Declarations.{Specification}
 use Rattle.go_package.specs.Knowledge.{State, state_of, outlines}
 use Rattle.go_package.specs.Sources.{Package, declared_at, rounds, needed_by, needed_from, needed_at}
 use Rattle.go_package.specs.Verdicts.{first_name, needed_columns, needed_by_all, numbers_of, is_in, needs_one, blocks, is_blocked}
-use Rattle.go_needs.specs.declared.calls.Call.{Call}
 use Rattle.go_needs.specs.declared.groups.Group.{Group}
 use Rattle.go_needs.specs.declared.levels.Levels.{Levels}
 use Rattle.go_needs.specs.declared.needs.Needs.{Needs}
 use Rattle.go_needs.specs.declared.owners.Owner.{Owner}
 use Rattle.go_needs.specs.Bounds.{AtMost, AllAtMost, level_under, is_low, are_bounded}
 use Rattle.go_needs.specs.Calls.{calls_of}
-use Rattle.go_needs.specs.Groups.{Seen, group_view, group_in}
+use Rattle.go_needs.specs.Groups.{Seen, group_view}
 use Rattle.go_needs.specs.Levels.{near, nearest, fails_at, level_of, KnowsNearest}
 use Rattle.go_needs.specs.Owners.{owner_of}
 use Rattle.go_needs.specs.Parts.{Place, same_place}
@@ -26,7 +25,7 @@ use Rattle.go_needs.specs.Passing.{is_faulty, is_misassigned}
 use Rattle.go_needs.specs.Ranks.{rank_at, rank_by, own_bound, AreRanks, low_below, low_by, is_ranked, are_ranked, descends, is_lower, is_lower_at, are_lower, is_under, any_under, all_from, shown_by, is_shown, shown}
 use Rattle.go_needs.specs.Reached.{IsOurs}
 use Rattle.go_needs.specs.Tells.{TellsNeeds}
-use Rattle.go_needs.proofs.Blocking.{any_append, Grouped, grouped}
+use Rattle.go_needs.proofs.Blocking.{any_append, grouped}
 use Rattle.go_needs.proofs.Bounded.{needed_within}
 use Rattle.go_needs.proofs.Here.{or_holds}
 use Rattle.go_needs.proofs.Knowing.{everything, with_number, declared_by, as_many_declaring, as_many_outlines}

@@ -131,7 +131,13 @@ fn is_lower(
 }
 
 /// Whether that holds of the object of this number, in part and in full.
-fn is_lower_at(tried: &Tried<'_>, faulty: &[bool], assigning: &[bool], number: usize, owner: &Owner) -> bool
+fn is_lower_at(
+    tried: &Tried<'_>,
+    faulty: &[bool],
+    assigning: &[bool],
+    number: usize,
+    owner: &Owner,
+) -> bool
     ensures { result ≡ is_lower_at (hash.get same_place tried.now.nearest.now) tried.now.levels.now tried.now.grades.now tried.now.ranks.now faulty.now assigning.now number owner.now }
 {
     let fails = fails_at(faulty, number) || fails_at(assigning, number);
