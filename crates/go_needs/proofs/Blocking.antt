@@ -34,7 +34,7 @@ or_assoc : (b c d : Bool) → (b || (c || d)) ≡ ((b || c) || d)
 or_assoc true c d = refl
 or_assoc false c d = refl
 
-any_append : (f : ℕ → Bool) (xs ys : List ℕ) → list_any f (xs ++ ys) ≡ (list_any f xs || list_any f ys)
+pub any_append : (f : ℕ → Bool) (xs ys : List ℕ) → list_any f (xs ++ ys) ≡ (list_any f xs || list_any f ys)
 any_append f [] ys = refl
 any_append f (x ∷ xs) ys = ap (λ b. f x || b) (any_append f xs ys) ∙ or_assoc (f x) (list_any f xs) (list_any f ys)
 
@@ -84,12 +84,12 @@ module _ {S : Type 0} (m : HashMap Place ℕ S) (p : Package) (all : List Owner)
 
 module _ (x : Needs) (p : Package) (ds : List Specification) (t : TellsNeeds x p ds) where
   -- There is a group for a specification.
-  record Grouped (i : ℕ) (d : Specification) : Type 0 where
-    group : Group
-    there : slice_get x.groups.items i ≡ Some group
-    is : group_view group ≡ group_in p d
+  pub record Grouped (i : ℕ) (d : Specification) : Type 0 where
+    pub group : Group
+    pub there : slice_get x.groups.items i ≡ Some group
+    pub is : group_view group ≡ group_in p d
 
-  grouped : (i : ℕ) (d : Specification) → slice_get ds i ≡ Some d → Grouped i d
+  pub grouped : (i : ℕ) (d : Specification) → slice_get ds i ≡ Some d → Grouped i d
   grouped i d e = let b = from_one (group_in p) group_view ds x.groups.items i d (sym t.groups) e in record { group = b.it; there = b.there; is = b.is }
 
   pub group_column : {S : Type 0} (m : HashMap Place ℕ S) (f : ℕ → Bool) (i : ℕ) (d : Specification) (g : Group) → Reaches m p (everything x p ds t) f → slice_get ds i ≡ Some d → slice_get x.groups.items i ≡ Some g

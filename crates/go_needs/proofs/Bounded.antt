@@ -104,12 +104,12 @@ level_at top (x ∷ bs) zero b false e = let is : x ≡ b = cc in ap (λ (y : Bo
 level_at top (x ∷ bs) (suc m) b g e = level_at top bs m b g e
 
 -- The object of this number has a rank and bounds.
-record IsBounded (g : Place → Option ℕ) (top : ℕ) (ranks : List ℕ) (bounds : List Bound) (m : ℕ) (o : Owner) : Type 0 where
-  rank : ℕ
-  ranked : slice_get ranks m ≡ Some rank
-  bound : Bound
-  there : slice_get bounds m ≡ Some bound
-  is : (f : Bool) → bounds_one top rank (bound_of f bound) (near g o f) ≡ true
+pub record IsBounded (g : Place → Option ℕ) (top : ℕ) (ranks : List ℕ) (bounds : List Bound) (m : ℕ) (o : Owner) : Type 0 where
+  pub rank : ℕ
+  pub ranked : slice_get ranks m ≡ Some rank
+  pub bound : Bound
+  pub there : slice_get bounds m ≡ Some bound
+  pub is : (f : Bool) → bounds_one top rank (bound_of f bound) (near g o f) ≡ true
 
 bounded_by : (g : Place → Option ℕ) (top : ℕ) (ranks : List ℕ) (bounds : List Bound) (m : ℕ) (o : Owner) (r : Option ℕ) (b : Option Bound) → slice_get ranks m ≡ r → slice_get bounds m ≡ b → bounds_by g top r b o ≡ true → IsBounded g top ranks bounds m o
 bounded_by g top ranks bounds m o None b re be e = absurd (grind (arith, e))
@@ -206,7 +206,7 @@ module _ (p : Package) (os all others : List Owner) (ranks : List ℕ) (bounds :
         subst (λ o. AllAtMost ranks (top - l) (number_before o (needed_numbers p xs))) (sym h.0.fit.named)
         (at_most (slice_get ranks h.0.fit.number) w.rank (top - l) w.ranked w.far_below, numbers_far xs h.1)
 
-    needed_far : (x : Needed) → IsOurs all x.it.file x.it.it.source → is_low l (near far (owner_of x.it) x.full) ≡ true → AllAtMost ranks (top - l) (needed_by p x)
+    pub needed_far : (x : Needed) → IsOurs all x.it.file x.it.it.source → is_low l (near far (owner_of x.it) x.full) ≡ true → AllAtMost ranks (top - l) (needed_by p x)
     needed_far x our e = numbers_far (all_needed p.asked (rounds p) (with_all (needs p.asked x) []))
         (far_through (rounds p) (with_all (needs p.asked x) []) (each_all (Has p os all low_ones None) (needs p.asked x) [] (next_none x our e) tt))
 
@@ -240,6 +240,10 @@ module _ {S : Type 0} (x : Needs) (m : HashMap Place ℕ S) (p : Package) (ds : 
   right n o e =
       let b = bounded_by (hash.get same_place m) top ranks bounds n o (slice_get ranks n) (slice_get bounds n) refl refl (bounded_there (hash.get same_place m) top ranks bounds 0 n n os o (omega arith) e test) in
       record { rank = b.rank; ranked = b.ranked; bound = b.bound; there = b.there; is = λ f. ap (bounds_one top b.rank (bound_of f b.bound)) (near_same levels (hash.get same_place m) o.file o.source o.column f same) ∙ b.is f }
+
+  -- what is needed is as far below the top as what is needed at once
+  pub needed_within : (l : ℕ) (y : Needed) → IsOurs all y.it.file y.it.it.source → is_low l (near (hash.get same_place m) (owner_of y.it) y.full) ≡ true → AllAtMost ranks (top - l) (needed_by p y)
+  needed_within l y our e = needed_far p os all t.calls.others ranks bounds top t.calls.fit t.calls.among right l y our (ap (is_low l) (near_same levels (hash.get same_place m) y.it.file y.it.it.source y.it.it.column y.full same) ∙ e)
 
   record One (n : ℕ) (w : Outline) (f : Bool) : Type 0 where
     bound : Bound

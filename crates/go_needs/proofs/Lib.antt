@@ -14,3 +14,4 @@ mod Passes
 mod Blocking
 mod Listed
 mod Bounded
+mod Ranking

@@ -114,8 +114,7 @@ module _ (p : Package) (os all : List Owner) (ls : List Levels) (f : ℕ → Boo
   abbrev levels : Place → Option ℕ
   levels = nearest ls (calls_of p.uses all p.asked)
 
-  module _ (r : ℕ) (others : List Owner) (ok : fits p.uses os all p.asked ≡ true) (among : all ≡ os ++ others)
-      (right : (m : ℕ) (g : Bool) (o : Owner) → slice_get os m ≡ Some o → settled (f m) (level_of ls m g) (near levels o g) r ≡ true) where
+  module _ (others : List Owner) (ok : fits p.uses os all p.asked ≡ true) (among : all ≡ os ++ others) where
     ours : (y : Needed) → Fits p os all y → IsOurs all y.it.file y.it.it.source
     ours y t = subst (λ ws. IsOurs ws y.it.file y.it.it.source) (sym among) (ours_object os others y.it.file y.it.it.source (owner_of y.it) t.number t.owner refl refl)
 
@@ -123,34 +122,11 @@ module _ (p : Package) (os all : List Owner) (ls : List Levels) (f : ℕ → Boo
     fit_all [] h = tt
     fit_all (x ∷ xs) h = each_append (Fits p os all) (needs p.asked x) (needs_of p.asked xs) (all_fit p os all p.asked x (ours x h.0) ok) (fit_all xs h.1)
 
-    -- ---- none fails
+    abbrev start : Needed → List Needed
+    start x = with_all (needs p.asked x) []
 
-    not_failing : (b : Bool) (l n : Option ℕ) → settled b l n r ≡ true → l ≡ None → b ≡ false
-    not_failing b None n e h = grind (arith, e)
-    not_failing b (Some l) n e h = absurd (grind (arith, h))
-
-    next_none : (b : Bool) (l n : Option ℕ) → settled b l n r ≡ true → l ≡ None → n ≡ None
-    next_none b None None e h = refl
-    next_none b None (Some j) e h = absurd (grind (arith, e))
-    next_none b (Some l) n e h = absurd (grind (arith, h))
-
-    none_more : (xs : List Needed) → Each (Has p os all ls None) xs → Each (Has p os all ls None) (needs_of p.asked xs)
-    none_more [] h = tt
-    none_more (x ∷ xs) h =
-        let t = h.0.fit in
-        let next = next_none (f t.number) (level_of ls t.number x.full) (near levels (owner_of x.it) x.full) (right t.number x.full (owner_of x.it) t.owner) h.0.level in
-        each_append (Has p os all ls None) (needs p.asked x) (needs_of p.asked xs) (all_none p os all ls x (ours x t) ok next) (none_more xs h.1)
-
-    none_through : (k : ℕ) (xs : List Needed) → Each (Has p os all ls None) xs → Each (Has p os all ls None) (all_needed p.asked k xs)
-    none_through zero xs h = h
-    none_through (suc k) xs h = none_through k (with_all (needs_of p.asked xs) xs) (each_all (Has p os all ls None) (needs_of p.asked xs) xs (none_more xs h) h)
-
-    none_fails : (xs : List Needed) → Each (Has p os all ls None) xs → list_any f (needed_numbers p xs) ≡ false
-    none_fails [] h = refl
-    none_fails (x ∷ xs) h =
-        let t = h.0.fit in
-        let clear : f t.number ≡ false = not_failing (f t.number) (level_of ls t.number x.full) (near levels (owner_of x.it) x.full) (right t.number x.full (owner_of x.it) t.owner) h.0.level in
-        ap (λ o. list_any f (number_before o (needed_numbers p xs))) t.named ∙ (ap (λ b. b || list_any f (needed_numbers p xs)) clear ∙ none_fails xs h.1)
+    fit_start : (x : Needed) → IsOurs all x.it.file x.it.it.source → Each (Fits p os all) (start x)
+    fit_start x our = each_all (Fits p os all) (needs p.asked x) [] (all_fit p os all p.asked x our ok) tt
 
     -- ---- one fails
 
@@ -190,58 +166,96 @@ module _ (p : Package) (os all : List Owner) (ls : List Levels) (f : ℕ → Boo
     level_in j (x ∷ xs) (inl h) = record { number = h.fit.number; way = x.full; one = inl (record { named = h.fit.named; way = refl }); level = h.level }
     level_in j (x ∷ xs) (inr h) = let w = level_in j xs h in record { number = w.number; way = w.way; one = inr w.one; level = w.level }
 
-    -- It fails, or needs one of a lower level.
-    record Lower (l : ℕ) (n : Option ℕ) : Type 0 where
-      next : ℕ
-      is : n ≡ Some next
-      below : next < l
+    -- It needs one of a lower level, of which Q holds.
+    pub record Lower (Q : ℕ → Type 0) (l : ℕ) (n : Option ℕ) : Type 0 where
+      pub next : ℕ
+      pub is : n ≡ Some next
+      pub below : next < l
+      pub good : Q next
 
-    fails_or : (b : Bool) (l : ℕ) (n : Option ℕ) → settled b (Some l) n r ≡ true → (b ≡ true) ⊎ Lower l n
-    fails_or true l n e = inl refl
-    fails_or false l None e = absurd (grind (arith, e))
-    fails_or false l (Some j) e = inr (record { next = j; is = refl; below = grind (arith, e) })
+    module _ (Q : ℕ → Type 0) (down : (m : ℕ) (g : Bool) (o : Owner) (l : ℕ) → slice_get os m ≡ Some o → level_of ls m g ≡ Some l → Q l → (f m ≡ true) ⊎ Lower Q l (near levels o g)) where
+      found_by : (k : ℕ) (xs : List Needed) (m : ℕ) (g : Bool) (l : ℕ) → Each (Fits p os all) xs → One (Is m g) xs → level_of ls m g ≡ Some l → Q l
+          → ((j : ℕ) → j < l → Q j → One (Has p os all ls (Some j)) (needs_of p.asked xs) → list_any f (needed_numbers p (all_needed p.asked k xs)) ≡ true) → list_any f (needed_numbers p (all_needed p.asked k xs)) ≡ true
+      found_by k xs m g l h o e q next =
+          let w = pick xs m g h o in
+          let same : level_of ls w.fit.number w.it.full ≡ Some l = ap (λ n. level_of ls n w.it.full) w.number ∙ (ap (level_of ls m) w.way ∙ e) in
+          by w (down w.fit.number w.it.full (owner_of w.it.it) l w.fit.owner same q)
+        where
+          by : (w : Picked m g xs) → (f w.fit.number ≡ true) ⊎ Lower Q l (near levels (owner_of w.it.it) w.it.full) → list_any f (needed_numbers p (all_needed p.asked k xs)) ≡ true
+          by w (inl b) = one_fails (all_needed p.asked k xs) m g (ap f (sym w.number) ∙ b) (stays k xs m g o)
+          by w (inr v) = next v.next v.below v.good (w.more (Has p os all ls (Some v.next)) (one_some_level p os all ls w.it v.next ok v.is))
 
-    found_by : (k : ℕ) (xs : List Needed) (m : ℕ) (g : Bool) (l : ℕ) → Each (Fits p os all) xs → One (Is m g) xs → level_of ls m g ≡ Some l
-        → ((j : ℕ) → j < l → One (Has p os all ls (Some j)) (needs_of p.asked xs) → list_any f (needed_numbers p (all_needed p.asked k xs)) ≡ true) → list_any f (needed_numbers p (all_needed p.asked k xs)) ≡ true
-    found_by k xs m g l h o e next =
-        let w = pick xs m g h o in
-        let same : level_of ls w.fit.number w.it.full ≡ Some l = ap (λ n. level_of ls n w.it.full) w.number ∙ (ap (level_of ls m) w.way ∙ e) in
-        let s = right w.fit.number w.it.full (owner_of w.it.it) w.fit.owner in
-        by w (fails_or (f w.fit.number) l (near levels (owner_of w.it.it) w.it.full) (sym (ap (λ v. settled (f w.fit.number) v (near levels (owner_of w.it.it) w.it.full) r) same) ∙ s))
-      where
-        by : (w : Picked m g xs) → (f w.fit.number ≡ true) ⊎ Lower l (near levels (owner_of w.it.it) w.it.full) → list_any f (needed_numbers p (all_needed p.asked k xs)) ≡ true
-        by w (inl b) = one_fails (all_needed p.asked k xs) m g (ap f (sym w.number) ∙ b) (stays k xs m g o)
-        by w (inr v) = next v.next v.below (w.more (Has p os all ls (Some v.next)) (one_some_level p os all ls w.it v.next ok v.is))
+      found : (k : ℕ) (xs : List Needed) (m : ℕ) (g : Bool) (l : ℕ) → Each (Fits p os all) xs → One (Is m g) xs → level_of ls m g ≡ Some l → Q l → l ≤ k → list_any f (needed_numbers p (all_needed p.asked k xs)) ≡ true
+      found zero xs m g l h o e q high = found_by zero xs m g l h o e q (λ j below b w. absurd (omega (arith, below, high)))
+      found (suc k) xs m g l h o e q high = found_by (suc k) xs m g l h o e q (λ j below b one.
+          let w = level_in j (needs_of p.asked xs) one in
+          found k (with_all (needs_of p.asked xs) xs) w.number w.way j (each_all (Fits p os all) (needs_of p.asked xs) xs (fit_all xs h) h) (all_new (needs_of p.asked xs) xs w.number w.way w.one) w.level b (omega (arith, below, high)))
 
-    found : (k : ℕ) (xs : List Needed) (m : ℕ) (g : Bool) (l : ℕ) → Each (Fits p os all) xs → One (Is m g) xs → level_of ls m g ≡ Some l → l ≤ k → list_any f (needed_numbers p (all_needed p.asked k xs)) ≡ true
-    found zero xs m g l h o e high = found_by zero xs m g l h o e (λ j below q. absurd (omega (arith, below, high)))
-    found (suc k) xs m g l h o e high = found_by (suc k) xs m g l h o e (λ j below q.
-        let w = level_in j (needs_of p.asked xs) q in
-        found k (with_all (needs_of p.asked xs) xs) w.number w.way j (each_all (Fits p os all) (needs_of p.asked xs) xs (fit_all xs h) h) (all_new (needs_of p.asked xs) xs w.number w.way w.one) w.level (omega (arith, below, high)))
+      -- what a declaration needs with a level of which Q holds has one that fails
+      pub reaches_from : (x : Needed) (j : ℕ) → IsOurs all x.it.file x.it.it.source → near levels (owner_of x.it) x.full ≡ Some j → Q j → j ≤ rounds p → list_any f (needed_by p x) ≡ true
+      reaches_from x j our e q high =
+          let w = level_in j (needs p.asked x) (one_some_level p os all ls x j ok e) in
+          found (rounds p) (start x) w.number w.way j (fit_start x our) (all_new (needs p.asked x) [] w.number w.way w.one) w.level q high
 
-    -- ---- what a declaration needs
+    -- ---- levels that are right
 
-    not_high : (b : Bool) (l : ℕ) (n : Option ℕ) → settled b (Some l) n r ≡ true → l ≤ r
-    not_high b l n e = grind (arith, e)
+    module _ (r : ℕ) (right : (m : ℕ) (g : Bool) (o : Owner) → slice_get os m ≡ Some o → settled (f m) (level_of ls m g) (near levels o g) r ≡ true) where
+      -- ---- none fails
 
-    picked_low : (m : ℕ) (g : Bool) (xs : List Needed) (j : ℕ) → Picked m g xs → level_of ls m g ≡ Some j → j ≤ r
-    picked_low m g xs j w e =
-        let same : level_of ls w.fit.number w.it.full ≡ Some j = ap (λ n. level_of ls n w.it.full) w.number ∙ (ap (level_of ls m) w.way ∙ e) in
-        not_high (f w.fit.number) j (near levels (owner_of w.it.it) w.it.full) (sym (ap (λ v. settled (f w.fit.number) v (near levels (owner_of w.it.it) w.it.full) r) same) ∙ right w.fit.number w.it.full (owner_of w.it.it) w.fit.owner)
+      not_failing : (b : Bool) (l n : Option ℕ) → settled b l n r ≡ true → l ≡ None → b ≡ false
+      not_failing b None n e h = grind (arith, e)
+      not_failing b (Some l) n e h = absurd (grind (arith, h))
 
-    abbrev start : Needed → List Needed
-    start x = with_all (needs p.asked x) []
+      next_none : (b : Bool) (l n : Option ℕ) → settled b l n r ≡ true → l ≡ None → n ≡ None
+      next_none b None None e h = refl
+      next_none b None (Some j) e h = absurd (grind (arith, e))
+      next_none b (Some l) n e h = absurd (grind (arith, h))
 
-    fit_start : (x : Needed) → IsOurs all x.it.file x.it.it.source → Each (Fits p os all) (start x)
-    fit_start x our = each_all (Fits p os all) (needs p.asked x) [] (all_fit p os all p.asked x our ok) tt
+      none_more : (xs : List Needed) → Each (Has p os all ls None) xs → Each (Has p os all ls None) (needs_of p.asked xs)
+      none_more [] h = tt
+      none_more (x ∷ xs) h =
+          let t = h.0.fit in
+          let next = next_none (f t.number) (level_of ls t.number x.full) (near levels (owner_of x.it) x.full) (right t.number x.full (owner_of x.it) t.owner) h.0.level in
+          each_append (Has p os all ls None) (needs p.asked x) (needs_of p.asked xs) (all_none p os all ls x (ours x t) ok next) (none_more xs h.1)
 
-    reaches_by : (x : Needed) → IsOurs all x.it.file x.it.it.source → r ≤ rounds p → (o : Option ℕ) → near levels (owner_of x.it) x.full ≡ o → is_some o ≡ list_any f (needed_by p x)
-    reaches_by x our high None e = sym (none_fails (all_needed p.asked (rounds p) (start x)) (none_through (rounds p) (start x) (each_all (Has p os all ls None) (needs p.asked x) [] (all_none p os all ls x our ok e) tt)))
-    reaches_by x our high (Some j) e =
-        let w = level_in j (needs p.asked x) (one_some_level p os all ls x j ok e) in
-        let there = all_new (needs p.asked x) [] w.number w.way w.one in
-        let low = picked_low w.number w.way (start x) j (pick (start x) w.number w.way (fit_start x our) there) w.level in
-        sym (found (rounds p) (start x) w.number w.way j (fit_start x our) there w.level (omega (arith, low, high)))
+      none_through : (k : ℕ) (xs : List Needed) → Each (Has p os all ls None) xs → Each (Has p os all ls None) (all_needed p.asked k xs)
+      none_through zero xs h = h
+      none_through (suc k) xs h = none_through k (with_all (needs_of p.asked xs) xs) (each_all (Has p os all ls None) (needs_of p.asked xs) xs (none_more xs h) h)
 
-    pub reaches : (x : Needed) → IsOurs all x.it.file x.it.it.source → r ≤ rounds p → is_some (near levels (owner_of x.it) x.full) ≡ list_any f (needed_by p x)
-    reaches x our high = reaches_by x our high (near levels (owner_of x.it) x.full) refl
+      none_fails : (xs : List Needed) → Each (Has p os all ls None) xs → list_any f (needed_numbers p xs) ≡ false
+      none_fails [] h = refl
+      none_fails (x ∷ xs) h =
+          let t = h.0.fit in
+          let clear : f t.number ≡ false = not_failing (f t.number) (level_of ls t.number x.full) (near levels (owner_of x.it) x.full) (right t.number x.full (owner_of x.it) t.owner) h.0.level in
+          ap (λ o. list_any f (number_before o (needed_numbers p xs))) t.named ∙ (ap (λ b. b || list_any f (needed_numbers p xs)) clear ∙ none_fails xs h.1)
+
+      not_high : (b : Bool) (l : ℕ) (n : Option ℕ) → settled b (Some l) n r ≡ true → l ≤ r
+      not_high b l n e = grind (arith, e)
+
+      abbrev Any : ℕ → Type 0
+      Any l = Unit {0}
+
+      fails_or : (b : Bool) (l : ℕ) (n : Option ℕ) → settled b (Some l) n r ≡ true → (b ≡ true) ⊎ Lower Any l n
+      fails_or true l n e = inl refl
+      fails_or false l None e = absurd (grind (arith, e))
+      fails_or false l (Some j) e = inr (record { next = j; is = refl; below = grind (arith, e); good = tt })
+
+      down : (m : ℕ) (g : Bool) (o : Owner) (l : ℕ) → slice_get os m ≡ Some o → level_of ls m g ≡ Some l → Any l → (f m ≡ true) ⊎ Lower Any l (near levels o g)
+      down m g o l h e q = fails_or (f m) l (near levels o g) (sym (ap (λ v. settled (f m) v (near levels o g) r) e) ∙ right m g o h)
+
+      picked_low : (m : ℕ) (g : Bool) (xs : List Needed) (j : ℕ) → Picked m g xs → level_of ls m g ≡ Some j → j ≤ r
+      picked_low m g xs j w e =
+          let same : level_of ls w.fit.number w.it.full ≡ Some j = ap (λ n. level_of ls n w.it.full) w.number ∙ (ap (level_of ls m) w.way ∙ e) in
+          not_high (f w.fit.number) j (near levels (owner_of w.it.it) w.it.full) (sym (ap (λ v. settled (f w.fit.number) v (near levels (owner_of w.it.it) w.it.full) r) same) ∙ right w.fit.number w.it.full (owner_of w.it.it) w.fit.owner)
+
+      near_low : (x : Needed) (j : ℕ) → IsOurs all x.it.file x.it.it.source → near levels (owner_of x.it) x.full ≡ Some j → j ≤ r
+      near_low x j our e =
+          let w = level_in j (needs p.asked x) (one_some_level p os all ls x j ok e) in
+          picked_low w.number w.way (start x) j (pick (start x) w.number w.way (fit_start x our) (all_new (needs p.asked x) [] w.number w.way w.one)) w.level
+
+      reaches_by : (x : Needed) → IsOurs all x.it.file x.it.it.source → r ≤ rounds p → (o : Option ℕ) → near levels (owner_of x.it) x.full ≡ o → is_some o ≡ list_any f (needed_by p x)
+      reaches_by x our high None e = sym (none_fails (all_needed p.asked (rounds p) (start x)) (none_through (rounds p) (start x) (each_all (Has p os all ls None) (needs p.asked x) [] (all_none p os all ls x our ok e) tt)))
+      reaches_by x our high (Some j) e = let low = near_low x j our e in sym (reaches_from Any down x j our e tt (omega (arith, low, high)))
+
+      pub reaches : (x : Needed) → IsOurs all x.it.file x.it.it.source → r ≤ rounds p → is_some (near levels (owner_of x.it) x.full) ≡ list_any f (needed_by p x)
+      reaches x our high = reaches_by x our high (near levels (owner_of x.it) x.full) refl

@@ -52,7 +52,7 @@ reached_so m p os all cs ls bs f r known are low a tell x our =
     let same : (k : Place) → hash.get same_place m k ≡ levels k = λ k. known k ∙ ap (λ l. nearest ls l k) a.calls in
     let many : rounds p ≡ length p.uses.package_level + length p.uses.package_level = refl in
     ap is_some (near_same (hash.get same_place m) levels x.it.file x.it.it.source x.it.it.column x.full same)
-    ∙ reaches p os all ls f r a.others a.fit a.among
+    ∙ reaches p os all ls f a.others a.fit a.among r
     (λ n b o e.
     let set = settled_so (hash.get same_place m) ls bs r n b o (settled_there (hash.get same_place m) ls bs r 0 n n os o (omega arith) e are) in
     sym (ap (λ v. settled v (level_of ls n b) (near levels o b) r) (tell n (less os n o e)))

@@ -8,5 +8,6 @@ pub mod Objects
 pub mod Owners
 pub mod Parts
 pub mod Passing
+pub mod Ranks
 pub mod Reached
 pub mod Tells

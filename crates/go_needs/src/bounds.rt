@@ -40,7 +40,7 @@ pub fn levels_under(alloc: Global, top: usize, bounds: &[Bound]) -> Result<Vec<L
 }
 
 /// Whether all that is needed at once is so far below the top, where `next` is the least distance.
-fn is_low(distance: usize, next: Option<usize>) -> bool
+pub fn is_low(distance: usize, next: Option<usize>) -> bool
     ensures { result ≡ is_low distance next }
 {
     match next {

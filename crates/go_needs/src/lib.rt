@@ -9,6 +9,7 @@
 mod blocked;
 mod bounds;
 mod calls;
+mod components;
 mod declaring;
 mod groups;
 mod levels;
@@ -17,6 +18,8 @@ pub mod needs;
 mod objects;
 mod owners;
 mod parts;
+mod ranked;
+mod ranks;
 mod reached;
 mod search;
 

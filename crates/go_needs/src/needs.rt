@@ -1,6 +1,6 @@
 //! What the objects of a package need.
 
-ghost use Rattle.std.specs.Prelude.{◌≡◌, ◌≤◌, Bool, List, Some, true, IfOk, IfSome, length, map, nat_lt, slice_get, is_some};
+ghost use Rattle.std.specs.Prelude.{◌≡◌, ◌≤◌, ℕ, Bool, List, Some, true, IfOk, IfSome, length, map, nat_lt, slice_get, is_some};
 ghost use Rattle.go_lookup.specs.Views.{found_view, asked_view};
 ghost use Rattle.go_declarations.specs.Views.{seen_all};
 ghost use Rattle.go_package.specs.Declarations as declarations;
@@ -9,6 +9,7 @@ ghost use Rattle.go_package.specs.Sources.{Package, package_of, source_of};
 ghost use Rattle.go_package.specs.Verdicts.{is_blocked};
 ghost use Rattle.go_needs.specs.Bounds.{AreBounds};
 ghost use Rattle.go_needs.specs.Passing.{ArePassing, is_faulty, is_misassigned};
+ghost use Rattle.go_needs.specs.Ranks.{AreRanks, rank_by};
 ghost use Rattle.go_needs.specs.Tells.{TellsNeeds};
 
 use crate::blocked::{any_column, blocking, failing, flags, passings};
@@ -19,7 +20,10 @@ use crate::groups::{Group, all_of, group_at, groups_of};
 use crate::nearest::nearest;
 use crate::objects::{owned_of, owners_of};
 use crate::owners::Owner;
+use crate::ranked::{Tried, are_lower, are_ranked, object_ranks, own_bounds, shown};
+use crate::ranks::{ranks, seeds};
 use crate::reached::reached;
+use crate::search::graded_levels;
 use go_base::Memory;
 use go_declarations::Specification;
 use go_lookup::asked::Asked;
@@ -172,5 +176,81 @@ impl Needs {
         )?;
         let nearest = reached(alloc, &self.owners, &self.calls, &failing)?;
         Ok(any_column(&nearest, group))
+    }
+
+    /// Whether no specification needs an object of a higher rank than its own, by these ranks of specifications and of objects, none of
+    /// which is above `top`.
+    fn are_ranks(
+        &self,
+        alloc: Global,
+        top: usize,
+        ranks: &[usize],
+        own: &[usize],
+    ) -> Result<bool, Memory>
+        ensures { IfOk result (λ b. b ≡ true → (p : Package) (ds : List declarations.Specification) → TellsNeeds self.now p ds → AreRanks ranks.now own.now p ds) }
+    {
+        let bounds = own_bounds(alloc, own)?;
+        let levels = levels_under(alloc, top, &bounds)?;
+        let nearest = nearest(alloc, &self.calls, &levels)?;
+        if !are_bounded(&nearest, top, own, &bounds, &self.owners) {
+            return Ok(false);
+        }
+        Ok(are_ranked(&nearest, top, ranks, &self.groups))
+    }
+
+    /// Of each specification whether a search from the objects with a fault, those of the lowest rank first, comes to it from one under
+    /// its own rank; of none where that can't be told.
+    fn shown(
+        &self,
+        alloc: Global,
+        top: usize,
+        ranks: &[usize],
+        own: &[usize],
+        faulty: &[bool],
+        assigning: &[bool],
+    ) -> Result<Vec<bool>, Memory>
+        ensures { IfOk result (λ v. (p : Package) (ds : List declarations.Specification) (ss : List State) (n : ℕ) (d : declarations.Specification) → TellsNeeds self.now p ds → AreRanks ranks.now own.now p ds → own.now ≡ map (rank_by ranks.now) self.now.declaring.items →
+            length ss ≡ length p.uses.package_level → slice_get ds n ≡ Some d → faulty.now ≡ map is_faulty ss → assigning.now ≡ map is_misassigned ss → slice_get v.items n ≡ Some true → is_blocked p (outlines p ds) ss d ≡ true) }
+    {
+        let seeds = seeds(alloc, top, own, faulty, assigning)?;
+        let found = graded_levels(alloc, &self.owners, &self.calls, &seeds)?;
+        let nearest = nearest(alloc, &self.calls, &found.levels)?;
+        let tried = Tried {
+            nearest: &nearest,
+            levels: &found.levels,
+            grades: &found.grades,
+            ranks: own,
+        };
+        if !are_lower(&tried, faulty, assigning, &self.owners) {
+            return Ok(Vec::new(alloc));
+        }
+        let bound = self.owners.len().saturating_add(self.owners.len());
+        Ok(shown(alloc, &tried, bound, ranks, &self.groups)?)
+    }
+
+    /// Of each specification whether it is seen at once, by an order of all of them, that it needs a declaration with a fault, so that its
+    /// own rule isn't judged; `faulty` and `assigning` are those of `is_blocked`, which tells of one specification whether it does. All
+    /// that do are seen but for those which need one another in a circle, as `const a, b = 1, c` and `const c, d = a, 2` do.
+    ///
+    /// # Errors
+    ///
+    /// Want of memory.
+    pub fn blocked_in_order(
+        &self,
+        alloc: Global,
+        faulty: &[bool],
+        assigning: &[bool],
+    ) -> Result<Vec<bool>, Memory>
+        ensures { IfOk result (λ v. (p : Package) (ds : List declarations.Specification) (ss : List State) (n : ℕ) (d : declarations.Specification) → TellsNeeds self.now p ds →
+            length ss ≡ length p.uses.package_level → slice_get ds n ≡ Some d → faulty.now ≡ map is_faulty ss → assigning.now ≡ map is_misassigned ss → slice_get v.items n ≡ Some true → is_blocked p (outlines p ds) ss d ≡ true) }
+    {
+        let top = self.owners.len().saturating_add(self.groups.len());
+        let ranks = ranks(alloc, &self.owners, &self.groups, &self.calls)?;
+        let own = object_ranks(alloc, &ranks, &self.declaring)?;
+        if self.are_ranks(alloc, top, &ranks, &own)? {
+            self.shown(alloc, top, &ranks, &own, faulty, assigning)
+        } else {
+            Ok(Vec::new(alloc))
+        }
     }
 }

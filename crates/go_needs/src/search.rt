@@ -1,4 +1,4 @@
-//! How far each object is from one that fails, by a search in breadth against the direction of needs.
+//! Which objects need one that fails, by a search in breadth against the direction of needs.
 //!
 //! Nothing rests on the levels being right: they are tried against the names before they count.
 
@@ -22,6 +22,21 @@ struct Step {
     full: bool,
 }
 
+/// An object that fails, and its rank.
+#[derive(Clone, Copy, Debug)]
+pub struct Seed {
+    pub rank: usize,
+    pub number: usize,
+}
+
+/// The levels of objects: their places in the order in which a search comes to them; and the rank of the failing one that each of these
+/// places was found from.
+#[derive(Drop)]
+pub struct Graded {
+    pub levels: Vec<Levels>,
+    pub grades: Vec<usize>,
+}
+
 /// The objects whose names stand in each part, and the parts in which each object is called for.
 #[derive(Drop)]
 struct Search {
@@ -33,6 +48,10 @@ struct Search {
     full: Vec<Vec<Place>>,
     /// The objects with a level, in the order of the levels.
     queue: Vec<Step>,
+    /// The ranks of those that they were found from.
+    grades: Vec<usize>,
+    /// How many objects of the queue are behind the search.
+    done: usize,
 }
 
 /// So many empty rows.
@@ -66,6 +85,8 @@ impl Search {
             partial: rows(alloc, count)?,
             full: rows(alloc, count)?,
             queue: Vec::new(alloc),
+            grades: Vec::new(alloc),
+            done: 0,
         })
     }
 
@@ -94,26 +115,28 @@ impl Search {
         Ok(())
     }
 
-    /// Gives an object a level, if it has none.
-    fn put(&mut self, step: Step, level: usize) -> Result<(), AllocError> {
+    /// Gives an object the next level, if it has none.
+    fn put(&mut self, step: Step, grade: usize) -> Result<(), AllocError> {
         if step.number < self.levels.len()
             && level_of(&self.levels, step.number, step.full).is_none()
         {
+            let level = Some(self.queue.len());
             if step.full {
-                self.levels[step.number].fully = Some(level);
+                self.levels[step.number].fully = level;
             } else {
-                self.levels[step.number].partly = Some(level);
+                self.levels[step.number].partly = level;
             }
             self.queue.push(step)?;
+            self.grades.push(grade)?;
         }
         Ok(())
     }
 
-    /// Gives a level to all that need what stands in the part.
-    fn spread(&mut self, place: Place, level: usize) -> Result<(), AllocError> {
+    /// Gives levels to all that need what stands in the part.
+    fn spread(&mut self, place: Place, grade: usize) -> Result<(), AllocError> {
         if let Some(users) = self.users.remove(&place) {
             for step in users {
-                self.put(step, level)?;
+                self.put(step, grade)?;
             }
         }
         Ok(())
@@ -133,39 +156,39 @@ impl Search {
         }
     }
 
-    /// Gives the next level to all that need the object.
-    fn expand(&mut self, alloc: Global, step: Step) -> Result<(), AllocError> {
-        let level = level_of(&self.levels, step.number, step.full).unwrap_or(0);
+    /// Gives levels to all that need the object at once.
+    fn expand(&mut self, alloc: Global, step: Step, grade: usize) -> Result<(), AllocError> {
         for place in self.take_places(alloc, step) {
-            self.spread(place, level.saturating_add(1))?;
+            self.spread(place, grade)?;
         }
         Ok(())
     }
 
     /// Gives levels to all that need an object with one.
-    fn run(&mut self, alloc: Global) -> Result<(), AllocError> {
-        let count = self.levels.len().saturating_mul(2);
-        for place in 0..count {
+    fn run(&mut self, alloc: Global, grade: usize) -> Result<(), AllocError> {
+        let last = self.levels.len().saturating_mul(2);
+        for place in self.done..last {
             let Some(step) = self.queue.get(place).copied() else {
                 return Ok(());
             };
-            self.expand(alloc, step)?;
+            self.expand(alloc, step, grade)?;
+            self.done = place.saturating_add(1);
         }
         Ok(())
     }
+
+    /// Gives levels to an object that fails and to all that need it.
+    fn start(&mut self, alloc: Global, seed: Seed) -> Result<(), AllocError> {
+        for full in [false, true] {
+            let number = seed.number;
+            self.put(Step { number, full }, seed.rank)?;
+        }
+        self.run(alloc, seed.rank)
+    }
 }
 
-/// The levels of the objects with these specifications, by what their names call for and which of them fail. Where none fails, none
-/// has a level, and nothing is searched.
-pub fn levels(
-    alloc: Global,
-    owners: &[Owner],
-    calls: &[Call],
-    fails: &[bool],
-) -> Result<Vec<Levels>, AllocError> {
-    if !fails.contains(&true) {
-        return Ok(vec![in alloc; NO_LEVELS; owners.len()]?);
-    }
+/// A search among the objects with these specifications, by what their names call for.
+fn search_of(alloc: Global, owners: &[Owner], calls: &[Call]) -> Result<Search, AllocError> {
     let mut search = Search::new(alloc, owners.len())?;
     for (number, owner) in owners.iter().enumerate() {
         search.add_owner(alloc, number, owner)?;
@@ -174,18 +197,45 @@ pub fn levels(
         push_place(&mut search.full, call.number, call.full)?;
         push_place(&mut search.partial, call.number, call.partial)?;
     }
+    Ok(search)
+}
+
+/// The levels of the objects with these specifications, by what their names call for and which of them fail: those of the first of these,
+/// and of all that need it, are the lowest. Where none fails, none has a level, and nothing is searched.
+pub fn graded_levels(
+    alloc: Global,
+    owners: &[Owner],
+    calls: &[Call],
+    seeds: &[Seed],
+) -> Result<Graded, AllocError> {
+    if seeds.is_empty() {
+        return Ok(Graded {
+            levels: vec![in alloc; NO_LEVELS; owners.len()]?,
+            grades: Vec::new(alloc),
+        });
+    }
+    let mut search = search_of(alloc, owners, calls)?;
+    for seed in seeds {
+        search.start(alloc, *seed)?;
+    }
+    Ok(Graded {
+        levels: search.levels,
+        grades: search.grades,
+    })
+}
+
+/// The same by a flag of each object whether it fails.
+pub fn levels(
+    alloc: Global,
+    owners: &[Owner],
+    calls: &[Call],
+    fails: &[bool],
+) -> Result<Vec<Levels>, AllocError> {
+    let mut seeds = Vec::new(alloc);
     for (number, failing) in fails.iter().enumerate() {
         if *failing {
-            search.put(
-                Step {
-                    number,
-                    full: false,
-                },
-                0,
-            )?;
-            search.put(Step { number, full: true }, 0)?;
+            seeds.push(Seed { rank: 0, number })?;
         }
     }
-    search.run(alloc)?;
-    Ok(search.levels)
+    Ok(graded_levels(alloc, owners, calls, &seeds)?.levels)
 }

@@ -38,6 +38,7 @@ tells_more old new ok g w k ss known h = record {
   rights = g.rights ∙ h.rights;
   faulty = h.faulty;
   assigning = h.assigning;
+  blocked = h.blocked;
   as_many = h.as_many;
 }
 

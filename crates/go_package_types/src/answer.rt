@@ -10,8 +10,11 @@ ghost use Rattle.go_typed.specs.Packages.{referents, is_there};
 ghost use Rattle.go_contexts.specs.Expressions.{failure_named};
 ghost use Rattle.go_package.specs.Answer.{answer_on, all_failures, environment_of};
 ghost use Rattle.go_package.specs.Knowledge.{State, is_type};
+ghost use Rattle.go_needs.specs.Passing.{is_faulty, is_misassigned};
+ghost use Rattle.go_needs.specs.Tells.{TellsNeeds};
 ghost use Rattle.go_judging.specs.Held.{AllHeld};
 ghost use Rattle.go_judging.specs.World.{package_in, outlines_in, specifications_in, Fits, Shows};
+ghost use Rattle.go_package_types.specs.Known.{AreBlocked};
 ghost use Rattle.go_package_types.specs.Answers.{environment_seen, KnownObjects, HasRight, HaveRights};
 
 use crate::declare::referents;
@@ -61,6 +64,23 @@ fn all_misassigned(alloc: Global, all: &[Held]) -> Result<Vec<bool>, Memory>
     Ok(flags)
 }
 
+/// Which specifications are seen at once to need a declaration with a fault. Where no rule fails none is looked at.
+fn seen_blocked(
+    alloc: Global,
+    world: &World<'_>,
+    faulty: &[bool],
+    assigning: &[bool],
+) -> Result<Vec<bool>, Memory>
+    ensures { let p = package_in world.now in let ds = specifications_in world.now in IfOk result (λ v. (ss : List State) → TellsNeeds world.now.needs.now p ds → length ss ≡ length p.uses.package_level
+        → faulty.now ≡ map is_faulty ss → assigning.now ≡ map is_misassigned ss → AreBlocked p ds (outlines_in world.now) ss v.items) }
+{
+    if faulty.contains(&true) || assigning.contains(&true) {
+        world.needs.blocked_in_order(alloc, faulty, assigning)
+    } else {
+        Ok(Vec::new(alloc))
+    }
+}
+
 /// The least fault of the declarations of a package.
 fn least_fault(
     alloc: Global,
@@ -77,10 +97,12 @@ fn least_fault(
     let standings = standings_from(alloc, types, world, all)?;
     let faulty = all_faulty(alloc, all)?;
     let assigning = all_misassigned(alloc, all)?;
+    let blocked = seen_blocked(alloc, world, &faulty, &assigning)?;
     let known = Known {
         sound: &standings.sound,
         faulty: &faulty,
         assigning: &assigning,
+        blocked: &blocked,
     };
     let found = specifications_fault(alloc, types, world, &known)?;
     let sound = all_sound(alloc, all)?;

@@ -1,8 +1,9 @@
 //! The fault of the declarations of a package that is reported.
-ghost use Rattle.std.specs.Prelude.{◌≡◌, ◌<◌, ℕ, false, List, Option, Some, None, IfOk, length, map, slice_get};
+ghost use Rattle.std.specs.Prelude.{◌≡◌, ◌<◌, ℕ, false, List, Option, Some, None, IfOk, length, map, slice_get, unwrap_or};
 ghost use Rattle.std.specs.Option.{option_map};
 ghost use Rattle.go_tree.specs.Failures.{least, least_from};
-ghost use Rattle.go_types.specs.Tables.{rights_of};
+ghost use Rattle.go_needs.specs.Tells.{TellsNeeds};
+ghost use Rattle.go_types.specs.Tables.{Table, rights_of};
 ghost use Rattle.type_tests.specs.Extends.{Grows};
 ghost use Rattle.go_rules.specs.Faults as faults;
 ghost use Rattle.go_rules.specs.declared.fault.TypeFault.{TypeFault as Failing};
@@ -12,7 +13,7 @@ ghost use Rattle.go_package.specs.Declarations as declarations;
 ghost use Rattle.go_package.specs.Knowledge as knowledge;
 ghost use Rattle.go_package.specs.Knowledge.{State, free_scope};
 ghost use Rattle.go_package.specs.Sources.{text_at};
-ghost use Rattle.go_package.specs.Verdicts.{specification_faults};
+ghost use Rattle.go_package.specs.Verdicts.{is_blocked, specification_faults};
 ghost use Rattle.go_declarations.specs.Reads.{SpecificationRead};
 ghost use Rattle.go_declarations.specs.Views.{specification_view};
 ghost use Rattle.go_specifications.specs.Whole.{failing_as_whole};
@@ -35,12 +36,13 @@ use go_types::Types;
 use std::alloc::Global;
 
 /// What is known of the objects: what they stand for where they are free of faults, in which of them a rule fails in their types and
-/// expressions, and at which at their own assignments.
+/// expressions, and at which at their own assignments; and which specifications are seen at once to be blocked by that.
 #[derive(Clone, Copy)]
 pub struct Known<'a> {
     pub sound: &'a [Standing],
     pub faulty: &'a [bool],
     pub assigning: &'a [bool],
+    pub blocked: &'a [bool],
 }
 
 /// The least of the rules that fail at a specification, where it is blocked or isn't.
@@ -97,6 +99,33 @@ fn fault_in(tokens: &Tokens, fault: TypeFault) -> Fault
     }
 }
 
+/// Whether the specification of this number is seen at once to be blocked.
+fn is_seen(blocked: &[bool], number: usize) -> bool
+    ensures { result ≡ unwrap_or (slice_get blocked.now number) false }
+{
+    blocked.get(number).copied().unwrap_or(false)
+}
+
+/// Whether another one's fault blocks the specification of this number. Where that isn't seen at once all that it needs is searched. So
+/// it is of a specification whose own rule is told, and then no later one has the first fault; and of those that need one another in a
+/// circle. Only ones with several names do that here, since an object that needs itself is a fault of an earlier phase.
+fn is_blocked(
+    alloc: Global,
+    world: &World<'_>,
+    known: &Known<'_>,
+    number: usize,
+) -> Result<bool, Memory>
+    ensures { let p = package_in world.now in let ds = specifications_in world.now in (t : Table) (ss : List State) (d : declarations.Specification) → TellsNeeds world.now.needs.now p ds → Tells t world.now known.now ss → slice_get ds number ≡ Some d
+        → IfOk result (λ b. b ≡ is_blocked p (outlines_in world.now) ss d) }
+{
+    if is_seen(known.blocked, number) {
+        return Ok(true);
+    }
+    world
+        .needs
+        .is_blocked(alloc, number, known.faulty, known.assigning)
+}
+
 /// What is to be told of the specification of this number beside a fault that may be there: the least of the rules that fail at it,
 /// or nothing, if that changes nothing. Whether another one's fault blocks it is asked where its own rule alone fails, and where that
 /// would be the first fault.
@@ -130,10 +159,7 @@ fn fault_of(
     if !is_first(found, tokens, fault) {
         return Ok(None);
     }
-    if world
-        .needs
-        .is_blocked(alloc, number, known.faulty, known.assigning)?
-    {
+    if is_blocked(alloc, world, known, number)? {
         Ok(None)
     } else {
         Ok(Some(fault))

@@ -4,7 +4,7 @@ use Rattle.go_rules.specs.Faults.{least}
 use Rattle.go_package.specs.Knowledge.{free_scope}
 use Rattle.go_specifications.specs.Whole.{failing_as_whole}
 use Rattle.go_declarations.specs.Views.{specification_view}
-use Rattle.go_judging.specs.World.{package_in, outlines_in, specifications_in}
+use Rattle.go_judging.specs.World.{package_in, outlines_in}
 use Rattle.go_package_types.proofs.Faulty.{tells_more, fits_grown, known_grown, some_there, no_inner, own_there, blocked_there, told, changes_nothing}
 use Rattle.go_package_types.proofs.faults.fault_of.Goals as goal
 
@@ -40,7 +40,7 @@ returns-then-branch-clause-fault c = λ ss h.
     let d = specification_view c.args.specification.now in
     let more = tells_more c.args.types.now c.fault_as.new.types c.count.ensures.table c.fault_as.ensures.grows w c.args.known.now ss c.requires.known h in
     let none = no_inner p os ss d c.in_ok-inner.inner (sym c.is_some.ensures ∙ c.if-is_some.false) (c.in_ok-inner.ensures.fault ss more) in
-    ap (told c.args.found c.args.tokens.now) (blocked_there p os ss d none (sym c.if-branch.true ∙ c.in_ok-is_blocked.ensures p (specifications_in w) ss d c.requires.fits.needs h.as_many c.requires.number h.faulty h.assigning))
+    ap (told c.args.found c.args.tokens.now) (blocked_there p os ss d none (sym c.if-branch.true ∙ c.in_ok-is_blocked.ensures c.args.types.now ss d c.requires.fits.needs h c.requires.number))
 
 pub returns-else-branch-clause-grows : goal.returns-else-branch-clause-grows
 returns-else-branch-clause-grows c = grows_both c.args.types.now c.fault_as.new.types c.fault_as-2.new.types c.fault_as.ensures.grows c.fault_as-2.ensures.grows
@@ -54,7 +54,7 @@ returns-else-branch-clause-fault c = λ ss h.
     let more = tells_more c.args.types.now c.fault_as.new.types c.count.ensures.table c.fault_as.ensures.grows w c.args.known.now ss c.requires.known h in
     let none = no_inner p os ss d c.in_ok-inner.inner (sym c.is_some.ensures ∙ c.if-is_some.false) (c.in_ok-inner.ensures.fault ss more) in
     let first : Some c.in-Some.fault ≡ least (failing_as_whole false (free_scope p os ss d) d) = sym c.in-Some.is ∙ c.in_ok-fault.ensures.fault ss h in
-    ap (told c.args.found c.args.tokens.now) (own_there p os ss d (Some c.in-Some.fault) none first (sym c.if-branch.false ∙ c.in_ok-is_blocked.ensures p (specifications_in w) ss d c.requires.fits.needs h.as_many c.requires.number h.faulty h.assigning))
+    ap (told c.args.found c.args.tokens.now) (own_there p os ss d (Some c.in-Some.fault) none first (sym c.if-branch.false ∙ c.in_ok-is_blocked.ensures c.args.types.now ss d c.requires.fits.needs h c.requires.number))
 
 pub returns-then-not-is_first-clause-grows : goal.returns-then-not-is_first-clause-grows
 returns-then-not-is_first-clause-grows c = grows_both c.args.types.now c.fault_as.new.types c.fault_as-2.new.types c.fault_as.ensures.grows c.fault_as-2.ensures.grows

@@ -1,0 +1,8 @@
+use Rattle.std.proofs.Common.{◌≡◌}
+use Rattle.std.specs.HashMap as hash
+use Rattle.go_needs.specs.Parts.{same_place}
+use Rattle.go_needs.specs.Ranks.{low_below}
+use Rattle.go_needs.proofs.ranked.low_below.Given as goal
+
+abbrev pub invariant-loop-column : goal.invariant-loop-column
+invariant-loop-column l = low_below (hash.get same_place l.nearest) l.root l.distance l.columns ≡ low_below (hash.get same_place l.nearest) l.root l.distance l.column
