@@ -1,0 +1,3 @@
+mod Told
+pub mod Parts
+mod Numbers
