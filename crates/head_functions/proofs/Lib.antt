@@ -1,3 +1,3 @@
-mod Told
+pub mod Told
 pub mod Parts
 mod Numbers

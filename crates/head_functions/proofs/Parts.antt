@@ -4,7 +4,7 @@ use Rattle.std.specs.Prelude.{if◌then◌else◌, slice_get}
 use Rattle.std.specs.List.{AllByRecursion}
 use Rattle.std.proofs.lemmas.List.{length-map}
 use Rattle.go_tokens.specs.declared.token.TokenKind.{TokenKind}
-use Rattle.go_tokens.specs.Tokens.{kinds}
+use Rattle.go_tokens.specs.Tokens.{kinds, kind_of as token_kind}
 use Rattle.go_grammar.specs.declared.kind.Kind.{Kind}
 use Rattle.go_grammar.specs.declared.kind.Kind.TheVariants as kind
 use Rattle.go_grammar.specs.declared.kind.Category.TheVariants as category
@@ -85,7 +85,7 @@ there : (f : File) → IsRead f → (t : Tree) → is_function (kind_of t) ≡ t
 there f h t e s = record {
   read = h;
   made = made (kinds f.tokens.tokens) (in_bodies (parts f.tree)) t e s;
-  within = omega (arith, (lies_within (kinds f.tokens.tokens) category.Declaration t s.derives).1, length-map f.tokens.tokens _);
+  within = omega (arith, (lies_within (kinds f.tokens.tokens) category.Declaration t s.derives).1, length-map f.tokens.tokens token_kind);
 }
 
 row_there : (f : File) → IsRead f → (gs : List Function) → AllByRecursion IsThere gs → (us : List Tree) → AllStand (kinds f.tokens.tokens) (in_bodies (parts f.tree)) (last f.tree) (file_events f) us

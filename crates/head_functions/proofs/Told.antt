@@ -224,7 +224,7 @@ as_many (d ∷ ds) = by (begins_function d) (as_many ds)
     by true e = ap suc e
     by false e = e
 
-locals_as_many : (n : ℕ) (fs : List File) → length (all_locals n fs) ≡ length (all_functions fs)
+pub locals_as_many : (n : ℕ) (fs : List File) → length (all_locals n fs) ≡ length (all_functions fs)
 locals_as_many n [] = refl
 locals_as_many n (f ∷ fs) =
     let us : List Tree = functions (parts f.tree) in
