@@ -2,7 +2,7 @@
 use Rattle.std.proofs.Common.{◌≡◌, ◌∙◌, ℕ, suc, ◌+◌, ◌-◌, Bool, true, false, List, length, Some, refl, sym, ap, arith}
 use Rattle.std.specs.Prelude.{slice_get, option_map, if◌then◌else◌}
 use Rattle.std.proofs.lemmas.Option.{slice_get-map}
-use Rattle.go_grammar.specs.Trees.{Tree, node, Trees, none, more, skip, kind_of, first, last}
+use Rattle.go_grammar.specs.Trees.{Tree, node, none, more, skip, first, last}
 use Rattle.go_tree.specs.Lists.{is_function}
 use Rattle.go_tree.specs.Units.{word}
 use Rattle.go_types.proofs.Places.{get_within, get_there}

@@ -10,7 +10,7 @@ use Rattle.go_tokens.specs.declared.token.TokenKind.{TokenKind}
 use Rattle.go_tokens.specs.Spellings.{same_text}
 use Rattle.go_tokens.specs.Tokens.{TokenList, kinds}
 use Rattle.go_grammar.specs.Grammar.{IsFile}
-use Rattle.go_grammar.specs.Trees.{Tree, node, Trees, none, more, skip, kind_of, first, last, parts}
+use Rattle.go_grammar.specs.Trees.{Tree, node, none, more, skip, last, parts}
 use Rattle.go_types.proofs.Places.{get_left, get_last, all_at}
 use Rattle.go_tree.specs.declared.context.Block.{Block}
 use Rattle.go_tree.specs.declared.context.Block.TheVariants as block
@@ -18,27 +18,24 @@ use Rattle.go_tree.specs.declared.context.Entity.{Entity}
 use Rattle.go_tree.specs.declared.context.Entity.TheVariants as entity
 use Rattle.go_tree.specs.declared.event.Event.{Event}
 use Rattle.go_tree.specs.declared.event.Event.TheVariants as event
-use Rattle.go_tree.specs.declared.object.Declared.{Declared}
 use Rattle.go_tree.specs.Clauses.{is_outside, outside_declarations, missing_bodies, package_names, imports}
 use Rattle.go_tree.specs.Contexts.{is_package, file_context}
 use Rattle.go_tree.specs.Declarations.{Found, found_in, found_from, found, is_function, same_block, are_one_block, is_new, new_among, declarations}
 use Rattle.go_tree.specs.Events.{events}
-use Rattle.go_tree.specs.Failures.{Failure, failing, place_if, is_earlier, least_from, least, or_else}
+use Rattle.go_tree.specs.Failures.{Failure, of_files, failing, place_if, is_earlier, least_from, least, or_else}
 use Rattle.go_tree.specs.Faults.{clause_faults, name_faults, reported, lookup_faults, unused_faults, placed_faults, cycle_faults}
 use Rattle.go_tree.specs.Lists.{functions}
-use Rattle.go_tree.specs.Lookups.{Asked, asked_from}
+use Rattle.go_tree.specs.Lookups.{asked_from}
 use Rattle.go_tree.specs.Meanings.{meanings}
 use Rattle.go_tree.specs.Redeclared.{are_parameters, clashes, has_clash, second_declarations, has_import, hidden_imports, second_imports, none_new, redeclared}
-use Rattle.go_tree.specs.Failures.{of_files}
 use Rattle.go_tree.specs.Units as names
 use Rattle.go_tree.specs.Units.{Place, word, is_blank}
 use Rattle.go_tree.specs.Uses.{begins_function, own_locals, function_locals, uses}
 use Rattle.go_tree.specs.Views.{behind_first}
 use Rattle.go_names.specs.Functions.{functions_told, function_names, name_of}
-use Rattle.go_heads.specs.Functions.{Function, AreRead, functions_in, all_functions, alone}
-use Rattle.go_heads.specs.Heads.{File, IsRead, in_bodies}
-use Rattle.go_heads.proofs.Functions.{some_none}
-use Rattle.go_heads.proofs.Outlines.{OthersSit, file_sat}
+use Rattle.go_heads.specs.Functions.{Function, AreRead, functions_in, all_functions}
+use Rattle.go_heads.specs.Heads.{File}
+use Rattle.go_heads.proofs.Outlines.{file_sat}
 use Rattle.head_objects.specs.Objects.{units_of}
 use Rattle.head_objects.specs.Told.{file_events}
 use Rattle.head_locals.specs.Locals.{AreNamed, HaveNames, all_locals, locals_of_file}

@@ -1,8 +1,7 @@
 -- Packages with equal heads are named alike.
-use Rattle.std.proofs.Common.{◌≡◌, ◌∙◌, ℕ, zero, suc, ◌≤◌, Bool, true, false, List, [], ◌∷◌, length, Option, Some, None, codes, refl, sym, ap, arith}
+use Rattle.std.proofs.Common.{◌≡◌, ◌∙◌, ℕ, suc, true, List, [], ◌∷◌, length, Option, Some, None, codes, refl, sym, ap, arith}
 use Rattle.std.specs.Prelude.{◌&&◌, if◌then◌else◌, nat_eq, slice_get}
 use Rattle.std.proofs.lemmas.Bool.{and_parts, eqb-true}
-use Rattle.go_grammar.specs.Trees.{Tree, last}
 use Rattle.go_tree.specs.declared.object.Declared.{Declared}
 use Rattle.go_tree.specs.Predeclared.{known_names}
 use Rattle.type_tests.specs.Identity.{same_name, same_names}
@@ -23,7 +22,7 @@ use Rattle.clone_window.specs.Sameness.{same_outline}
 use Rattle.clone_classes.specs.Heads.{Home, in_package, in_function, homes_match, home_of, corresponds}
 use Rattle.alpha_hash.specs.Packages.{predeclared_text, declared_text, object_text}
 use Rattle.alpha_hash.proofs.Texts.{name-is}
-use Rattle.head_windows.specs.Packages.{sources_of, package_read, package_files}
+use Rattle.head_windows.specs.Packages.{package_read, package_files}
 use Rattle.head_windows.proofs.Bodies.{LiesIn, same_bodies}
 use Rattle.head_windows.proofs.Homes.{IsLocalName, IsNameAt, DeclareByThemselves, LocalsFollow, named_by_home}
 use Rattle.head_windows.proofs.Texts.{text_there}

@@ -1,9 +1,9 @@
 -- The name of a declared type, by where it stands.
-use Rattle.std.proofs.Common.{◌≡◌, ◌∙◌, ℕ, zero, suc, ◌+◌, ◌-◌, List, [], ◌∷◌, map, length, Option, Some, None, refl, sym, ap, subst, arith}
+use Rattle.std.proofs.Common.{◌≡◌, ◌∙◌, ℕ, zero, suc, ◌+◌, ◌-◌, List, [], ◌∷◌, length, Option, Some, None, refl, sym, ap, subst, arith}
 use Rattle.std.specs.Prelude.{slice_get, option_map, unwrap_or}
 use Rattle.std.proofs.lemmas.Option.{slice_get-map}
 use Rattle.go_base.specs.Optional.{◌>>=◌}
-use Rattle.go_grammar.specs.Trees.{Tree, first, last, parts}
+use Rattle.go_grammar.specs.Trees.{Tree, first, parts}
 use Rattle.go_types.proofs.Places.{all_at}
 use Rattle.go_tree.specs.declared.object.Declared.{Declared}
 use Rattle.go_tree.specs.File.{FileTree}
@@ -26,8 +26,8 @@ use Rattle.head_functions.proofs.Parts.{IsThere, is_there}
 use Rattle.head_functions.proofs.Told.{locals_as_many}
 use Rattle.head_packages.specs.Packages.{IsResolved}
 use Rattle.head_packages.proofs.Packages.{by_units}
-use Rattle.clone_classes.specs.Heads.{Home, in_package, in_function, FunctionAt, functions_in, texts_of, home_in, home_at, home_of}
-use Rattle.head_windows.specs.Packages.{sources_of, package_read, package_files}
+use Rattle.clone_classes.specs.Heads.{Home, in_package, in_function, FunctionAt, texts_of, home_in, home_at, home_of}
+use Rattle.head_windows.specs.Packages.{package_read, package_files}
 use Rattle.head_windows.proofs.Locals.{IsPlaced, placed, own_spelled}
 use Rattle.head_windows.proofs.Texts.{token_there, text_named, function_at, functions_same}
 

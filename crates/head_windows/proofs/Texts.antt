@@ -11,7 +11,7 @@ use Rattle.go_tree.specs.Lists.{functions}
 use Rattle.go_tree.specs.Spans.{token_text}
 use Rattle.go_tree.specs.Units as names
 use Rattle.go_tree.specs.Units.{word}
-use Rattle.go_tree.specs.Views.{view, behind_first}
+use Rattle.go_tree.specs.Views.{view}
 use Rattle.go_print.specs.Names.{text_in}
 use Rattle.go_package.specs.Sources.{Source, source_of, tokens_there}
 use Rattle.go_portions.specs.Portions.{files_of, AreNamed}

@@ -12,6 +12,7 @@ ghost use Rattle.head_packages.specs.Packages.{IsResolved};
 ghost use Rattle.head_hashes.specs.Names.{AreNamedAlike};
 ghost use Rattle.head_windows.specs.Packages.{package_read, package_files, package_head};
 
+use alpha_hash::window_hash::WindowHash;
 use go_heads::laws::functions_keep_their_numbers;
 use head_bodies::laws::functions_declare_by_themselves;
 use head_functions::laws::{functions_have_names, names_tell_the_numbers_of_functions};
@@ -52,4 +53,13 @@ pub fn windows_under_equal_heads_have_one_number()
 {
     checked_packages_are_named_alike();
     windows_between_packages_have_one_number();
+}
+
+/// Under every hash of windows the windows of two packages that type-check and have equal heads have equal numbers where they are the
+/// same.
+pub fn hashes_under_equal_heads_are_equal<H: WindowHash>(hash: &H)
+    ensures { (p q : Package) → IsCheckedPackage p → IsCheckedPackage q → package_head p ≡ package_head q
+        → (w v : Run) → same_between p q w v ≡ true → H.number hash.now p w ≡ H.number hash.now q v }
+{
+    windows_under_equal_heads_have_one_number();
 }

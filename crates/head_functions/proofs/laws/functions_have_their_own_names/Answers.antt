@@ -1,4 +1,4 @@
-use Rattle.std.proofs.Common.{◌≡◌, ◌∙◌, Some, sym, ap}
+use Rattle.std.proofs.Common.{◌∙◌, Some, ap}
 use Rattle.head_functions.specs.Names.{function_name}
 use Rattle.head_functions.proofs.Told.{own_names}
 use Rattle.head_functions.proofs.Numbers.{name_at}
