@@ -46,7 +46,7 @@ by-number kind.Uint = refl
 one-kind : (k l : Kind) → nat_eq (kind_number k) (kind_number l) ≡ true → kind_text k ≡ kind_text l
 one-kind k l h = by-number k ∙ ap numbered (eqb-true (kind_number k) (kind_number l) h) ∙ sym (by-number l)
 
-names-are : (ns ms : List (List ℕ)) → same_names ns ms ≡ true → ns ≡ ms
+pub names-are : (ns ms : List (List ℕ)) → same_names ns ms ≡ true → ns ≡ ms
 names-are [] [] h = refl
 names-are [] (m ∷ ms) h = cc
 names-are (n ∷ ns) [] h = cc

@@ -1,0 +1,6 @@
+mod Checked
+mod Texts
+mod Bodies
+mod Locals
+mod Homes
+mod Alike
