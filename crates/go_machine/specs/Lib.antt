@@ -3,3 +3,4 @@ pub mod Tasks
 pub mod Engines
 pub mod Giving
 pub mod Written
+pub mod Computing

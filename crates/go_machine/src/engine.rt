@@ -76,6 +76,8 @@ impl<'a> Engine<'a> {
         ensures values { views self.new.values.items ≡ take base (views self.old.values.items) }
         ensures kept { IsKept self.old self.new }
     {
-        self.values.truncate(base);
+        if base < self.values.len() {
+            self.values.truncate(base);
+        }
     }
 }

@@ -7,7 +7,9 @@ ghost use Rattle.go_values.specs.Worlds.{world_view};
 ghost use Rattle.go_operations.specs.Performing.{IsPerformed};
 ghost use Rattle.go_machine.specs.Tasks.{KnownDeed, deed_view};
 
+use crate::computing::computed_deed;
 use crate::engine::Engine;
+use crate::operands::above;
 use crate::ready::first_sought;
 use crate::start::count;
 use crate::task::{Deed, What};
@@ -209,6 +211,32 @@ impl<'a> Engine<'a> {
 
     /// The deed on the operands.
     pub fn perform(
+        &mut self,
+        alloc: Global,
+        checked: &Checked,
+        node: &'a TypedNode,
+        base: usize,
+        deed: Deed,
+    ) -> Result<(), Exit>
+        requires { KnownDeed (length checked.now.types.shapes) deed }
+        ensures { Goes checked.now (works checked.now node.now base (what.Perform deed)) self.old result self.new }
+    {
+        match computed_deed(deed, above(&self.values, base)) {
+            Ok(Some(value)) => {
+                self.cut(base);
+                self.give(value)?;
+                Ok(())
+            }
+            Ok(None) => self.perform_taken(alloc, checked, node, base, deed),
+            Err(panic) => {
+                self.cut(base);
+                Err(Exit::Panic(panic))
+            }
+        }
+    }
+
+    /// The same, with the operands as a list.
+    fn perform_taken(
         &mut self,
         alloc: Global,
         checked: &Checked,

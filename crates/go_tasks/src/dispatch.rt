@@ -76,7 +76,7 @@ pub fn dispatch<'a>(
         What::Items {
             targets,
             items: kind,
-        } => items(engine, node, base, targets, kind),
+        } => items(engine, alloc, node, base, targets, kind),
         What::Item(iteration) => item(engine, node, base, iteration),
         What::ItemTo(iteration) => item_to(engine, alloc, checked, node, base, iteration),
         What::ItemRound(iteration) => item(engine, node, base, iteration),

@@ -43,7 +43,7 @@ fn out_of_items<'a>(
     engine: &mut Engine<'a>,
     node: &'a TypedNode,
     base: usize,
-    iteration: Iteration,
+    iteration: Box<Iteration>,
     exit: Exit,
 ) -> Result<(), Exit>
     ensures { (p : PackageView) → IsFit (length p.types.shapes) node.now (what.ItemRound iteration) → Goes p (outs p node.now base (what.ItemRound iteration) exit) engine.old result engine.new }

@@ -25,8 +25,8 @@ returns c = λ p h.
     let m = c.args.engine.now in
     let vs = views m.values.items in
     let m2 = record c.cut.new.self { machine = c.spend.new.self } in
-    goes_spent p (works p x b (what.Item g)) (lays_finds p x (what.ItemTo g) g.targets) m c.cut.new.self m2 c.lay_finds.result c.lay_finds.new.self (take b vs) c.cut.ensures.kept c.cut.ensures.values refl refl refl c.in_ok-spend.ensures
-    (c.lay_finds.ensures p (h.0, (h.1, omega (arith, c.if-iteration.false)))) (λ n s. item_next p n x b s vs g h.1.count (omega (arith, c.if-iteration.false)) g.targets refl)
+    goes_spent p (works p x b (what.Item g)) (lays_finds p x (what.ItemTo g) g.value.targets) m c.cut.new.self m2 c.lay_finds.result c.lay_finds.new.self (take b vs) c.cut.ensures.kept c.cut.ensures.values refl refl refl c.in_ok-spend.ensures
+    (c.lay_finds.ensures p (h.0, (h.1, omega (arith, c.if-iteration.false)))) (λ n s. item_next p n x b s vs g h.1.count (omega (arith, c.if-iteration.false)) g.value.targets refl)
 
 pub returns-in_err-spend : goal.returns-in_err-spend
 returns-in_err-spend c = λ p h.

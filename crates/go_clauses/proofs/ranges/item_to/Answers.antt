@@ -1,4 +1,6 @@
 use Rattle.std.proofs.Common.{◌≡◌, ℕ, ◌+◌, suc, List, [], ◌∷◌, Option, take, drop, length, refl, sym, ap, ◌∙◌, subst, add-one, Ok, Err}
+use Rattle.std.specs.Prelude.{Box}
+use Rattle.std.specs.declared.alloc.Global.{Global}
 use Rattle.std.proofs.lemmas.Result.{err_from_is_err_and}
 use Rattle.go_typed.specs.declared.node.TypedNode.{TypedNode}
 use Rattle.go_meaning.specs.Values.{Value}
@@ -30,19 +32,19 @@ returns c =
     let m = c.args.engine.now in
     let vs = views m.values.items in
     let M = c.store_all-answer.new.machine in
-    let I = items_view g.items in
-    let v = view g.operand in
+    let I = items_view g.value.items in
+    let v = view g.value.operand in
     let ws = views c.in_ok-values.values.items in
-    let given : ws ≡ item I g.next v (world_view m.machine.world) = c.in_ok-values.ensures ∙ c.in_ok-item.ensures.values in
+    let given : ws ≡ item I g.value.next v (world_view m.machine.world) = c.in_ok-values.ensures ∙ c.in_ok-item.ensures.values in
     let us : views c.above.result.now ≡ drop b vs = c.above.ensures ∙ ap (λ (zs : List code.Value). drop b (views zs)) c.deref-2.ensures.value in
-    let C : ℕ → Comp = λ n. then_do (operate (Item I g.next) (v ∷ [])) (λ zs. stores (take g.targets (parts_of p n x)) (drop b vs) zs) in
-    let L : ℕ → Comp = λ n. looped (at (parts_of p n x) (suc g.targets)).value (items_from (parts_of p n x) g.targets I (suc g.next) v) in
-    let g1 : Iteration = record { targets = g.targets; items = g.items; operand = g.operand; count = g.count; next = g.next + 1; place = c.in_ok-item.item.next } in
-    goes_behind p (works p x b (what.ItemTo g)) (lays_value p x (what.ItemRound g1) (g.targets + 1)) C L m m c.cut.new.self M (take b vs) c.lay_value.result c.lay_value.new.self (kept_itself m) c.cut.ensures.kept c.cut.ensures.values c.in_ok-answer.ensures.turns
-    (λ n. item_given I g.next v (λ zs. stores (take g.targets (parts_of p n x)) (drop b vs) zs) ws m.depth m.machine given
-    ∙ subst (λ (zs : List Value). outcome (stores (take g.targets (parts_of p n x)) zs ws) m.depth m.machine ≡ ends (meaning.Next []) M) us
-    (subst (λ (ys : List (Option TypedNode)). outcome (stores (take g.targets (doings p n ys)) (views c.above.result.now) ws) m.depth m.machine ≡ ends (meaning.Next []) M) c.deref.ensures.value (c.in_ok-answer.ensures.is n m.depth)))
-    (λ n s. item_assigned p n x b s vs g) (λ n s. item_round p n x b s vs g g1 refl refl refl (add-one g.next) (g.targets + 1) (add-one g.targets) (take b vs))
+    let C : ℕ → Comp = λ n. then_do (operate (Item I g.value.next) (v ∷ [])) (λ zs. stores (take g.value.targets (parts_of p n x)) (drop b vs) zs) in
+    let L : ℕ → Comp = λ n. looped (at (parts_of p n x) (suc g.value.targets)).value (items_from (parts_of p n x) g.value.targets I (suc g.value.next) v) in
+    let g1 : Box Iteration Global = record g { value = record g.value { next = g.value.next + 1; place = c.in_ok-item.item.next } } in
+    goes_behind p (works p x b (what.ItemTo g)) (lays_value p x (what.ItemRound g1) (g.value.targets + 1)) C L m m c.cut.new.self M (take b vs) c.lay_value.result c.lay_value.new.self (kept_itself m) c.cut.ensures.kept c.cut.ensures.values c.in_ok-answer.ensures.turns
+    (λ n. item_given I g.value.next v (λ zs. stores (take g.value.targets (parts_of p n x)) (drop b vs) zs) ws m.depth m.machine given
+    ∙ subst (λ (zs : List Value). outcome (stores (take g.value.targets (parts_of p n x)) zs ws) m.depth m.machine ≡ ends (meaning.Next []) M) us
+    (subst (λ (ys : List (Option TypedNode)). outcome (stores (take g.value.targets (doings p n ys)) (views c.above.result.now) ws) m.depth m.machine ≡ ends (meaning.Next []) M) c.deref.ensures.value (c.in_ok-answer.ensures.is n m.depth)))
+    (λ n s. item_assigned p n x b s vs g) (λ n s. item_round p n x b s vs g g1 refl refl refl (add-one g.value.next) (g.value.targets + 1) (add-one g.value.targets) (take b vs))
     (c.lay_value.ensures p (c.requires.node, record { count = c.requires.iteration.count; place = c.in_ok-item.ensures.next }))
 
 pub returns-in_err-answer : goal.returns-in_err-answer
@@ -54,17 +56,17 @@ returns-in_err-answer c =
     let m = c.args.engine.now in
     let vs = views m.values.items in
     let M = c.store_all-answer.new.machine in
-    let I = items_view g.items in
-    let v = view g.operand in
+    let I = items_view g.value.items in
+    let v = view g.value.operand in
     let ws = views c.in_ok-values.values.items in
     let q = err_from_is_err_and c.from_residual-in_err-answer.result c.from_residual-in_err-answer.ensures.1 in
     let e = c.in_err-answer.field-0.0 in
-    let given : ws ≡ item I g.next v (world_view m.machine.world) = c.in_ok-values.ensures ∙ c.in_ok-item.ensures.values in
+    let given : ws ≡ item I g.value.next v (world_view m.machine.world) = c.in_ok-values.ensures ∙ c.in_ok-item.ensures.values in
     let us : views c.above.result.now ≡ drop b vs = c.above.ensures ∙ ap (λ (zs : List code.Value). drop b (views zs)) c.deref-2.ensures.value in
-    let C : ℕ → Comp = λ n. then_do (operate (Item I g.next) (v ∷ [])) (λ zs. stores (take g.targets (parts_of p n x)) (drop b vs) zs) in
-    let L : ℕ → Comp = λ n. looped (at (parts_of p n x) (suc g.targets)).value (items_from (parts_of p n x) g.targets I (suc g.next) v) in
+    let C : ℕ → Comp = λ n. then_do (operate (Item I g.value.next) (v ∷ [])) (λ zs. stores (take g.value.targets (parts_of p n x)) (drop b vs) zs) in
+    let L : ℕ → Comp = λ n. looped (at (parts_of p n x) (suc g.value.targets)).value (items_from (parts_of p n x) g.value.targets I (suc g.value.next) v) in
     rw (q.1, q.2) (goes_stored p (works p x b (what.ItemTo g)) (λ n. then_do (C n) (λ no. L n)) m m c.cut.new.self M (take b vs) (Err e) (kept_itself m) c.cut.ensures.kept c.cut.ensures.values c.in_err-answer.ensures.turns
-    (λ n. then_left (C n) (λ no. L n) m.depth m.machine M e (subst (IsLeft e M) (sym (item_given I g.next v (λ zs. stores (take g.targets (parts_of p n x)) (drop b vs) zs) ws m.depth m.machine given))
-    (subst (λ (zs : List Value). IsLeft e M (outcome (stores (take g.targets (parts_of p n x)) zs ws) m.depth m.machine)) us
-    (subst (λ (ys : List (Option TypedNode)). IsLeft e M (outcome (stores (take g.targets (doings p n ys)) (views c.above.result.now) ws) m.depth m.machine)) c.deref.ensures.value (c.in_err-answer.ensures.is n m.depth)))))
+    (λ n. then_left (C n) (λ no. L n) m.depth m.machine M e (subst (IsLeft e M) (sym (item_given I g.value.next v (λ zs. stores (take g.value.targets (parts_of p n x)) (drop b vs) zs) ws m.depth m.machine given))
+    (subst (λ (zs : List Value). IsLeft e M (outcome (stores (take g.value.targets (parts_of p n x)) zs ws) m.depth m.machine)) us
+    (subst (λ (ys : List (Option TypedNode)). IsLeft e M (outcome (stores (take g.value.targets (doings p n ys)) (views c.above.result.now) ws) m.depth m.machine)) c.deref.ensures.value (c.in_err-answer.ensures.is n m.depth)))))
     (λ n s. item_assigned p n x b s vs g))

@@ -17,4 +17,4 @@ returns c = λ p h.
     let g : Iteration = record { targets = c.args.targets; items = c.args.items; operand = c.take_first-operand.result; count = c.item_count-count.result; next = 0; place = 0 } in
     goes_kept p (works p x b (what.Items c.args.targets c.args.items)) (works p x b (what.Item g)) m c.take_first-operand.new.engine c.item.result c.item.new.engine (take b vs) c.take_first-operand.ensures.kept c.take_first-operand.ensures.values
     (c.item.ensures p (h, record { count = c.item_count-count.ensures; place = first_place (items_view c.args.items) (view c.take_first-operand.result) }))
-    (λ n s. items_begin p n x b s vs g refl c.take_first-operand.ensures.first)
+    (λ n s. items_begin p n x b s vs B (ap (λ (i : Iteration). i.next) same) (ap (λ (i : Iteration). view i.operand) same ∙ c.take_first-operand.ensures.first))
