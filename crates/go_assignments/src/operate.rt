@@ -155,12 +155,11 @@ fn operated(
     ensures { IsPerformed result (perform (operation_view (rights_of checked.now.types) (type_of checked.now.types.shapes) (all_seen checked.now.types parts.now) operation) (view first ∷ view second ∷ []) (world_view world.old)) (world_view world.old) (world_view world.new) }
 {
     match computed(operation, &first, &second) {
-        Ok(Some(value)) => Ok(Some(value)),
-        Ok(None) => {
+        Some(answer) => Ok(Some(answer?)),
+        None => {
             let operands = two(alloc, first, second)?;
             perform(alloc, checked.types(), parts, operation, operands, world)
         }
-        Err(panic) => Err(Stop::Panic(panic)),
     }
 }
 

@@ -116,5 +116,6 @@ pub fn item_to<'a>(
     answer?;
     iteration.next += 1;
     iteration.place = place;
-    engine.lay_value(node, What::ItemRound(iteration), targets + 1)
+    let block = targets + 1;
+    engine.lay_block(alloc, checked, node, What::ItemRound(iteration), block)
 }

@@ -3,4 +3,3 @@ pub mod Tasks
 pub mod Engines
 pub mod Giving
 pub mod Written
-pub mod Computing

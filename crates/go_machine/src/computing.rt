@@ -1,6 +1,6 @@
 //! Operations on two values, which need neither a list of operands nor the world.
 
-ghost use Rattle.std.specs.Prelude.{◌≡◌, ℕ, List};
+ghost use Rattle.std.specs.Prelude.{◌≡◌, ℕ, List, IfSome};
 ghost use Rattle.go_types.specs.Trees.{TypeTree};
 ghost use Rattle.go_types.specs.Relations.{Rights};
 ghost use Rattle.go_typed.specs.Trees.{Typeds};
@@ -8,10 +8,11 @@ ghost use Rattle.go_typed.specs.declared.node.TypedNode.{TypedNode};
 ghost use Rattle.go_typed.specs.Packages.{PackageView};
 ghost use Rattle.go_meaning.specs.Values as meant;
 ghost use Rattle.go_meaning.specs.Values.{nth};
+ghost use Rattle.go_meaning.specs.Computations.{World};
 ghost use Rattle.go_meaning.specs.Operations.{perform};
 ghost use Rattle.go_eval.specs.Views.{operation_view};
+ghost use Rattle.go_values.specs.Deeds as deeds;
 ghost use Rattle.go_values.specs.Views.{view, views};
-ghost use Rattle.go_machine.specs.Computing.{IsComputed};
 ghost use Rattle.go_machine.specs.Tasks.{deed_view};
 
 use crate::task::Deed;
@@ -19,31 +20,20 @@ use go_eval::plan::Operation;
 use go_runs::places::operand;
 use go_values::{Panic, Value, compare, compute};
 
-/// What an operator on integers or a comparison gives of two values; nothing where the operation is another one.
-///
-/// # Errors
-///
-/// The panic of the operator.
-pub fn computed(operation: Operation, left: &Value, right: &Value) -> Result<Option<Value>, Panic>
-    ensures { (rights : Rights) (f : ℕ → TypeTree) (ps : Typeds TypeTree) (us : List meant.Value) → nth us 0 ≡ view left.now → nth us 1 ≡ view right.now → IsComputed result (perform (operation_view rights f ps operation) us) }
+/// What an operator on integers or a comparison gives of two values, or its panic; nothing where the operation is another one.
+pub fn computed(operation: Operation, left: &Value, right: &Value) -> Option<Result<Value, Panic>>
+    ensures { (rights : Rights) (f : ℕ → TypeTree) (ps : Typeds TypeTree) (us : List meant.Value) → nth us 0 ≡ view left.now → nth us 1 ≡ view right.now → IfSome result (λ r. (w : World) → perform (operation_view rights f ps operation) us w ≡ deeds.deed w r) }
 {
     match operation {
-        Operation::Compute(kind, op) => match compute(kind, op, left, right) {
-            Ok(value) => Ok(Some(value)),
-            Err(panic) => Err(panic),
-        },
-        Operation::Compare(comparison) => Ok(Some(Value::Truth(compare(comparison, left, right)))),
-        _ => Ok(None),
+        Operation::Compute(kind, op) => Some(compute(kind, op, left, right)),
+        Operation::Compare(comparison) => Some(Ok(Value::Truth(compare(comparison, left, right)))),
+        _ => None,
     }
 }
 
 /// What a deed gives of these operands, where it is such an operation; nothing where it is another one.
-///
-/// # Errors
-///
-/// The panic of the operator.
-pub fn computed_deed(deed: Deed, operands: &[Value]) -> Result<Option<Value>, Panic>
-    ensures { (p : PackageView) (x : TypedNode) → IsComputed result (perform (deed_view p x deed) (views operands.now)) }
+pub fn computed_deed(deed: Deed, operands: &[Value]) -> Option<Result<Value, Panic>>
+    ensures { (p : PackageView) (x : TypedNode) → IfSome result (λ r. (w : World) → perform (deed_view p x deed) (views operands.now) w ≡ deeds.deed w r) }
 {
     let nil = Value::NilFunction;
     match deed {
@@ -52,6 +42,6 @@ pub fn computed_deed(deed: Deed, operands: &[Value]) -> Result<Option<Value>, Pa
             operand(operands, 0, &nil),
             operand(operands, 1, &nil),
         ),
-        _ => Ok(None),
+        _ => None,
     }
 }

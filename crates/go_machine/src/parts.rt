@@ -222,16 +222,12 @@ impl<'a> Engine<'a> {
         ensures { Goes checked.now (works checked.now node.now base (what.Perform deed)) self.old result self.new }
     {
         match computed_deed(deed, above(&self.values, base)) {
-            Ok(Some(value)) => {
+            Some(answer) => {
                 self.cut(base);
-                self.give(value)?;
+                self.give(answer?)?;
                 Ok(())
             }
-            Ok(None) => self.perform_taken(alloc, checked, node, base, deed),
-            Err(panic) => {
-                self.cut(base);
-                Err(Exit::Panic(panic))
-            }
+            None => self.perform_taken(alloc, checked, node, base, deed),
         }
     }
 

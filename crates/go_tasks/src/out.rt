@@ -26,7 +26,10 @@ fn out_of_block<'a>(
     ensures { (p : PackageView) → Known (length p.types.shapes) node.now → Goes p (outs p node.now base what.Round exit) engine.old result engine.new }
 {
     match exit {
-        Exit::Continue => engine.round(node, base),
+        Exit::Continue => {
+            engine.push(node, base, What::Round)?;
+            Ok(())
+        }
         Exit::Break => {
             engine.cut(base);
             Ok(())

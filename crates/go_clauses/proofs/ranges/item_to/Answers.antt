@@ -40,12 +40,15 @@ returns c =
     let C : ℕ → Comp = λ n. then_do (operate (Item I g.value.next) (v ∷ [])) (λ zs. stores (take g.value.targets (parts_of p n x)) (drop b vs) zs) in
     let L : ℕ → Comp = λ n. looped (at (parts_of p n x) (suc g.value.targets)).value (items_from (parts_of p n x) g.value.targets I (suc g.value.next) v) in
     let g1 : Box Iteration Global = record g { value = record g.value { next = g.value.next + 1; place = c.in_ok-item.item.next } } in
-    goes_behind p (works p x b (what.ItemTo g)) (lays_value p x (what.ItemRound g1) (g.value.targets + 1)) C L m m c.cut.new.self M (take b vs) c.lay_value.result c.lay_value.new.self (kept_itself m) c.cut.ensures.kept c.cut.ensures.values c.in_ok-answer.ensures.turns
+    goes_behind p (works p x b (what.ItemTo g)) (lays_value p x (what.ItemRound g1) (g.value.targets + 1)) C L m m c.cut.new.self M (take b vs) c.lay_block.result c.lay_block.new.self (kept_itself m) c.cut.ensures.kept c.cut.ensures.values c.in_ok-answer.ensures.turns
     (λ n. item_given I g.value.next v (λ zs. stores (take g.value.targets (parts_of p n x)) (drop b vs) zs) ws m.depth m.machine given
     ∙ subst (λ (zs : List Value). outcome (stores (take g.value.targets (parts_of p n x)) zs ws) m.depth m.machine ≡ ends (meaning.Next []) M) us
     (subst (λ (ys : List (Option TypedNode)). outcome (stores (take g.value.targets (doings p n ys)) (views c.above.result.now) ws) m.depth m.machine ≡ ends (meaning.Next []) M) c.deref.ensures.value (c.in_ok-answer.ensures.is n m.depth)))
     (λ n s. item_assigned p n x b s vs g) (λ n s. item_round p n x b s vs g g1 refl refl refl (add-one g.value.next) (g.value.targets + 1) (add-one g.value.targets) (take b vs))
-    (c.lay_value.ensures p (c.requires.node, record { count = c.requires.iteration.count; place = c.in_ok-item.ensures.next }))
+    c.lay_block.ensures
+
+pub lay_block-requires : goal.lay_block-requires
+lay_block-requires c = (c.requires.node, record { count = c.requires.iteration.count; place = c.in_ok-item.ensures.next })
 
 pub returns-in_err-answer : goal.returns-in_err-answer
 returns-in_err-answer c =
