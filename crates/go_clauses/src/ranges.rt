@@ -36,7 +36,7 @@ pub fn items<'a>(
 {
     let operand = take_first(engine, base);
     let count = item_count(items, &operand);
-    let iteration = Iteration {
+    let first = Iteration {
         targets,
         items,
         operand,
@@ -44,7 +44,8 @@ pub fn items<'a>(
         next: 0,
         place: 0,
     };
-    item(engine, node, base, Box::new(alloc, iteration)?)
+    let iteration = Box::new(alloc, first)?;
+    item(engine, node, base, iteration)
 }
 
 /// The items from one on: a turn is spent for the next one, and the operands of its targets are found.

@@ -40,14 +40,15 @@ returns c =
     let same : m1 ≡ m = c.in_ok-read.ensures.0 in
     let front : views m1.values.items ≡ vs = ap (λ (q : Engine). views q.values.items) same in
     let us : views c.above.result.now ≡ drop b vs = c.above.ensures ∙ (ap (λ (ws : List code.Value). drop b (views ws)) c.deref-2.ensures.value ∙ ap (drop b) front) in
-    let two : views c.in_ok-given.given.items ≡ v ∷ u ∷ [] = c.in_ok-given.ensures ∙ ap (λ (w : Value). v ∷ w ∷ []) (view_whole (pos 1)) in
+    let given : List Value = v ∷ view (code.Whole (pos 1)) ∷ [] in
+    let two : given ≡ v ∷ u ∷ [] = ap (λ (w : Value). v ∷ w ∷ []) (view_whole (pos 1)) in
     goes_stored p (works p x b (what.Step o)) (λ n. loaded_at (planned p x o) (at (parts_of p n x) 0) (give (u ∷ [])) (drop b vs)) m m1 c.cut.new.self M (take b vs) r
     (subst (IsKept m) (sym same) (kept_itself m)) c.cut.ensures.kept (c.cut.ensures.values ∙ ap (take b) front) c.store_result-answer.ensures.turns
     (λ n. subst (λ (oc : Outcome). IsWritten oc r M)
     (sym (given_read (planned p x o) (at (parts_of p n x) 0) (drop b vs) u v m.depth m1.machine (subst (λ (q : Engine). Reads ((at (parts_of p n x) 0).load (drop b vs)) m.depth q.machine v) (sym same) (c.in_ok-read.ensures.1 n))))
     (subst (λ (zs : List Value). IsWritten (outcome (one (meant.operate (planned p x o) zs) ((at (parts_of p n x) 0).store (drop b vs))) m.depth m1.machine) r M) two
-    (subst (λ (zs : List Value). IsWritten (outcome (one (meant.operate (planned p x o) (views c.in_ok-given.given.items)) ((at (parts_of p n x) 0).store zs)) m.depth m1.machine) r M) us
-    (subst (λ (ys : List (Option TypedNode)). IsWritten (outcome (one (meant.operate (operation_view (rights_of p.types) (type_of p.types.shapes) (all_seen p.types ys) o) (views c.in_ok-given.given.items)) ((at (doings p n ys) 0).store (views c.above.result.now))) m.depth m1.machine) r M) c.deref.ensures.value (c.store_result-answer.ensures.is n m.depth)))))
+    (subst (λ (zs : List Value). IsWritten (outcome (one (meant.operate (planned p x o) given) ((at (parts_of p n x) 0).store zs)) m.depth m1.machine) r M) us
+    (subst (λ (ys : List (Option TypedNode)). IsWritten (outcome (one (meant.operate (operation_view (rights_of p.types) (type_of p.types.shapes) (all_seen p.types ys) o) given) ((at (doings p n ys) 0).store (views c.above.result.now))) m.depth m1.machine) r M) c.deref.ensures.value (c.store_result-answer.ensures.is n m.depth)))))
     (λ n s. step_reads p x b o m n s)
 
 pub store_result-answer-requires-clause-parts : goal.store_result-answer-requires-clause-parts
