@@ -6,7 +6,10 @@ ghost use Rattle.go_types.specs.Tables.{type_of, rights_of};
 ghost use Rattle.go_typed.specs.Views.{AllKnown, Known, all_seen};
 ghost use Rattle.go_meaning.specs.Computations.{one};
 ghost use Rattle.go_meaning.specs.Doings.{at};
+ghost use Rattle.go_meaning.specs.Computations as meaning;
+ghost use Rattle.go_meaning.specs.Operations as operations;
 ghost use Rattle.go_meaning.specs.Operations.{operate, perform};
+ghost use Rattle.go_values.specs.Deeds.{deed};
 ghost use Rattle.go_eval.specs.Known.{KnownOperation};
 ghost use Rattle.go_eval.specs.Views.{operation_view};
 ghost use Rattle.go_meaning.specs.Values.{nth};
@@ -33,7 +36,7 @@ use go_runs::machine::Machine;
 use go_runs::places::load;
 use go_typed::checked::Checked;
 use go_typed::node::TypedNode;
-use go_values::{Stop, Value, World};
+use go_values::{Panic, Stop, Value, World};
 use std::alloc::Global;
 
 /// Reads the value at the place that the first part of a node is, whose operands stand behind the base. Where it isn't read they
@@ -155,11 +158,25 @@ fn operated(
     ensures { IsPerformed result (perform (operation_view (rights_of checked.now.types) (type_of checked.now.types.shapes) (all_seen checked.now.types parts.now) operation) (view first ∷ view second ∷ []) (world_view world.old)) (world_view world.old) (world_view world.new) }
 {
     match computed(operation, &first, &second) {
-        Some(answer) => Ok(Some(answer?)),
+        Some(answer) => done(answer),
         None => {
             let operands = two(alloc, first, second)?;
             perform(alloc, checked.types(), parts, operation, operands, world)
         }
+    }
+}
+
+/// What an operation that leaves the world as it is gives.
+///
+/// # Errors
+///
+/// The panic of the operation.
+fn done(answer: Result<Value, Panic>) -> Result<Option<Value>, Stop>
+    ensures { (d : operations.Deed) (w : meaning.World) → d ≡ deed w answer → IsPerformed result d w w }
+{
+    match answer {
+        Ok(value) => Ok(Some(value)),
+        Err(panic) => Err(Stop::Panic(panic)),
     }
 }
 

@@ -4,7 +4,7 @@ ghost use Rattle.std.specs.Prelude.{◌≡◌, ℕ, List, IfSome};
 ghost use Rattle.go_types.specs.Trees.{TypeTree};
 ghost use Rattle.go_types.specs.Relations.{Rights};
 ghost use Rattle.go_typed.specs.Trees.{Typeds};
-ghost use Rattle.go_typed.specs.declared.node.TypedNode.{TypedNode};
+ghost use Rattle.go_typed.specs.declared.node.TypedNode as typed;
 ghost use Rattle.go_typed.specs.Packages.{PackageView};
 ghost use Rattle.go_meaning.specs.Values as meant;
 ghost use Rattle.go_meaning.specs.Values.{nth};
@@ -33,15 +33,15 @@ pub fn computed(operation: Operation, left: &Value, right: &Value) -> Option<Res
 
 /// What a deed gives of these operands, where it is such an operation; nothing where it is another one.
 pub fn computed_deed(deed: Deed, operands: &[Value]) -> Option<Result<Value, Panic>>
-    ensures { (p : PackageView) (x : TypedNode) → IfSome result (λ r. (w : World) → perform (deed_view p x deed) (views operands.now) w ≡ deeds.deed w r) }
+    ensures { (p : PackageView) (x : typed.TypedNode) → IfSome result (λ r. (w : World) → perform (deed_view p x deed) (views operands.now) w ≡ deeds.deed w r) }
 {
     let nil = Value::NilFunction;
     match deed {
-        Deed::Planned(operation) => computed(
-            operation,
-            operand(operands, 0, &nil),
-            operand(operands, 1, &nil),
-        ),
+        Deed::Planned(operation) => {
+            let left = operand(operands, 0, &nil);
+            let right = operand(operands, 1, &nil);
+            computed(operation, left, right)
+        }
         _ => None,
     }
 }

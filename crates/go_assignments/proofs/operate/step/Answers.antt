@@ -62,6 +62,6 @@ returns-in_err-read c =
     let o = c.args.operation in
     let m = c.args.engine.now in
     let y : ℕ → Comp = λ n. give (Whole (pos 1) ∷ []) in
-    let q = err_from_is_err_and c.from_residual-in_err-read.result c.from_residual-in_err-read.ensures.1 in
+    let q = err_from_is_err_and c.from_residual.result c.from_residual.ensures.1 in
     let e = c.in_err-read.field-0.0 in
     rw (q.1, q.2) (not_read p (works p x b (what.Step o)) x o b y m c.loaded.new.engine (step_reads p x b o m) e c.in_err-read.ensures.0 c.in_err-read.ensures.1.0 c.in_err-read.ensures.1.1)

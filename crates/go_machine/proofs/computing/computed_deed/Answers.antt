@@ -7,4 +7,4 @@ use Rattle.go_machine.proofs.computing.computed_deed.Goals as goal
 
 pub returns-in-Planned : goal.returns-in-Planned
 returns-in-Planned c = λ p x.
-    rw c.in-Planned.is (c.computed.ensures (rights_of p.types) (type_of p.types.shapes) (all_seen p.types (out-TypedNode x).parts.items) (views c.args.operands.now) (sym c.operand.ensures) (sym c.operand-2.ensures))
+    rw c.in-Planned.is (c.computed.ensures (rights_of p.types) (type_of p.types.shapes) (all_seen p.types (out-TypedNode x).parts.items) (views c.args.operands.now) (sym c.operand-left.ensures) (sym c.operand-right.ensures))

@@ -8,9 +8,9 @@ use Rattle.go_calls.specs.Outs.{outs}
 use Rattle.go_tasks.proofs.Leaving.{goes_out, block_continues, block_breaks, block_lets, lets_block_by}
 use Rattle.go_tasks.proofs.out.out_of_block.Goals as goal
 
-pub returns-in_ok-push : goal.returns-in_ok-push
-returns-in_ok-push c = λ p h. let x = c.args.node.now in let b = c.args.base in let m = c.args.engine.now in
-    rw c.in-Continue.is (goes_laid p (outs p x b what.Round exit.Continue) x b what.Round m c.push.new.self (tt {0}) (h, tt) c.in_ok-push.ensures (λ n s. block_continues p n x b s (views m.values.items)))
+pub returns-in_ok-push-in-Continue : goal.returns-in_ok-push-in-Continue
+returns-in_ok-push-in-Continue c = λ p h. let x = c.args.node.now in let b = c.args.base in let m = c.args.engine.now in
+    rw c.in-Continue.is (goes_laid p (outs p x b what.Round exit.Continue) x b what.Round m c.push.new.self (tt {0}) (h, tt) c.in_ok-push-in-Continue.ensures (λ n s. block_continues p n x b s (views m.values.items)))
 
 pub returns-in-Break : goal.returns-in-Break
 returns-in-Break c = λ p h. let x = c.args.node.now in let b = c.args.base in let m = c.args.engine.now in
