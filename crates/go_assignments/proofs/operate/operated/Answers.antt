@@ -18,12 +18,12 @@ returns-in-Some c =
     let w = world_view c.args.world.now in
     c.done.ensures (perform (operation_view (rights_of p.types) f ps c.args.operation) us w) w (c.in-Some.ensures (rights_of p.types) f ps us refl refl w)
 
-pub returns-in_ok-operands : goal.returns-in_ok-operands
-returns-in_ok-operands c =
+pub returns-in_ok-operands-in-None : goal.returns-in_ok-operands-in-None
+returns-in_ok-operands-in-None c =
     let p = c.args.checked.now in
     let w = world_view c.args.world.now in
     let w1 = world_view c.perform.new.world in
     let r = c.perform.result in
     let xs = c.args.parts.now in
-    subst (λ (us : List meant.Value). IsPerformed r (perform (operation_view (rights_of p.types) (type_of p.types.shapes) (all_seen p.types xs) c.args.operation) us w) w w1) c.in_ok-operands.ensures
-    (subst (λ (t : Table). IsPerformed r (perform (operation_view (rights_of t) (type_of t.shapes) (all_seen t xs) c.args.operation) (views c.in_ok-operands.operands.items) w) w w1) c.types.ensures.types c.perform.ensures)
+    subst (λ (us : List meant.Value). IsPerformed r (perform (operation_view (rights_of p.types) (type_of p.types.shapes) (all_seen p.types xs) c.args.operation) us w) w w1) c.in_ok-operands-in-None.ensures
+    (subst (λ (t : Table). IsPerformed r (perform (operation_view (rights_of t) (type_of t.shapes) (all_seen t xs) c.args.operation) (views c.in_ok-operands-in-None.operands.items) w) w w1) c.types.ensures.types c.perform.ensures)
