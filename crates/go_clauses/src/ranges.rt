@@ -1,6 +1,6 @@
 //! Range clauses (Go specification, "For statements with range clause").
 
-ghost use Rattle.std.specs.Prelude.{◌≡◌, ◌<◌, IfOk, length};
+ghost use Rattle.std.specs.Prelude.{◌≡◌, ◌<◌, ◌+◌, IfOk, length};
 ghost use Rattle.std.specs.Option.{option_map};
 ghost use Rattle.go_typed.specs.Packages.{PackageView};
 ghost use Rattle.go_typed.specs.Views.{Known};
@@ -78,6 +78,13 @@ fn values_of(alloc: Global, first: Value, second: Option<Value>) -> Result<Vec<V
     Ok(values)
 }
 
+/// The number behind one of so many.
+fn following(number: usize, count: usize) -> usize
+    ensures { number < count → result ≡ number + 1 }
+{
+    if number < count { number + 1 } else { count }
+}
+
 /// The next item is assigned to its targets, whose operands stand behind the base, and the block runs.
 pub fn item_to<'a>(
     engine: &mut Engine<'a>,
@@ -115,7 +122,7 @@ pub fn item_to<'a>(
     );
     engine.cut(base);
     answer?;
-    iteration.next += 1;
+    iteration.next = following(iteration.next, iteration.count);
     iteration.place = place;
     let block = targets + 1;
     engine.lay_block(alloc, checked, node, What::ItemRound(iteration), block)
