@@ -66,9 +66,9 @@ lay_block-requires c =
     let number : c.following.result ≡ g.value.next + 1 = c.following.ensures within ∙ ap (λ (i : Iteration). i.next + 1) c.deref-8.ensures in
     let made : c.deref_mut-2.result.now ≡ record g.value { next = g.value.next + 1 } = c.deref_mut-2.ensures.value ∙ (ap (λ (i : Iteration). record i { next = c.following.result }) c.deref_mut.ensures.value ∙ ap (λ (j : ℕ). record g.value { next = j }) number) in
     let place : IsPlace I (view g.value.operand) (g.value.next + 1) after =
-        subst (λ (i : Iteration). IsPlace I (view i.operand) (g.value.next + 1) after) c.deref-4.ensures
-        (subst (λ (i : Iteration). IsPlace I (view c.deref-4.result.now.operand) (i.next + 1) after) c.deref-2.ensures
-        (subst (λ (i : Iteration). IsPlace (items_view i.items) (view c.deref-4.result.now.operand) (c.deref-2.result.now.next + 1) after) c.deref.ensures c.in_ok-item.ensures.next)) in
+    subst (λ (i : Iteration). IsPlace I (view i.operand) (g.value.next + 1) after) c.deref-4.ensures
+    (subst (λ (i : Iteration). IsPlace I (view c.deref-4.result.now.operand) (i.next + 1) after) c.deref-2.ensures
+    (subst (λ (i : Iteration). IsPlace (items_view i.items) (view c.deref-4.result.now.operand) (c.deref-2.result.now.next + 1) after) c.deref.ensures c.in_ok-item.ensures.next)) in
     (c.requires.node, subst (λ (i : Iteration). IsIteration (record i { place = after })) (sym made) (record { count = c.requires.iteration.count; place = place }))
 
 pub returns-in_err-answer : goal.returns-in_err-answer
