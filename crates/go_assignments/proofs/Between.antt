@@ -1,5 +1,5 @@
 -- Computations whose operands stand between two places among the values.
-use Rattle.std.proofs.Common.{◌≡◌, ℕ, zero, suc, List, [], ◌∷◌, ◌++◌, refl, sym, ap, ◌∙◌, take, drop, length, ◌-◌, ◌≤◌, arith, length-drop}
+use Rattle.std.proofs.Common.{◌≡◌, ℕ, zero, suc, List, [], ◌∷◌, ◌++◌, refl, sym, ap, ◌∙◌, take, drop, length}
 use Rattle.go_meaning.specs.Values.{Value}
 use Rattle.go_meaning.specs.Computations.{Comp, then_do}
 use Rattle.go_machine.specs.Rests.{Rest, behind, then_rest, replacing_both}
@@ -28,13 +28,3 @@ pub take_twice : (b : ℕ) (vs : List Value) → take b (take b vs) ≡ take b v
 take_twice zero vs = refl
 take_twice (suc b) [] = refl
 take_twice (suc b) (v ∷ vs) = ap (λ us. v ∷ us) (take_twice b vs)
-
--- all that is behind a place
-take_over : {A : Type 0} (xs : List A) (n : ℕ) → length xs ≤ n → take n xs ≡ xs
-take_over [] zero h = refl
-take_over [] (suc n) h = refl
-take_over (x ∷ xs) zero h = absurd (omega arith)
-take_over (x ∷ xs) (suc n) h = ap (λ ys. x ∷ ys) (take_over xs n (omega arith))
-
-pub take_rest : {A : Type 0} (xs : List A) (k : ℕ) → take (length xs - k) (drop k xs) ≡ drop k xs
-take_rest xs k = take_over (drop k xs) (length xs - k) (omega (arith, length-drop k xs))

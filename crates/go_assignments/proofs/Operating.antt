@@ -7,7 +7,7 @@ use Rattle.go_meaning.specs.Values as meant
 use Rattle.go_meaning.specs.Values.{Whole, nth}
 use Rattle.go_meaning.specs.Computations as meaning
 use Rattle.go_meaning.specs.Computations.{World, Outcome, Ends, Comp, end_by, give, then_do, one}
-use Rattle.go_meaning.specs.Doings.{at}
+use Rattle.go_meaning.specs.Doings.{Doing, at}
 use Rattle.go_meaning.specs.Operations.{Operation, Deed, Gives, perform, done, operate}
 use Rattle.go_values.specs.declared.value.Value.{Value}
 use Rattle.go_values.specs.declared.panic.Stop.{Stop}
@@ -114,9 +114,13 @@ module _ (p : PackageView) (c : Work) (x : TypedNode) (o : PlanOperation) (b : �
 
 -- ---- the tasks
 
-pub operand_given : (r : Rest) (vs : List meant.Value) (v : meant.Value) → Same (then_rest (give (v ∷ [])) r vs) (r.go (vs ++ v ∷ []))
-unfolding before end_by
-operand_given r vs v d f w t = refl
+reads_given : (v : meant.Value) (d : ℕ) (m : Machine) → Reads (give (v ∷ [])) d m v
+unfolding end_by
+reads_given v d m = record { all = v ∷ []; is = refl; first = refl }
+
+-- the place was read, and the other operand is given
+pub given_read : (o : Operation) (x : Doing) (us : List meant.Value) (u v : meant.Value) (d : ℕ) (m : Machine) → Reads (x.load us) d m v → outcome (loaded_at o x (give (u ∷ [])) us) d m ≡ outcome (one (operate o (v ∷ u ∷ [])) (x.store us)) d m
+given_read o x us u v d m h = one_is (x.load us) (λ v1. one (give (u ∷ [])) (λ u1. operated_at o x us v1 u1)) d m v h ∙ one_is (give (u ∷ [])) (λ u1. operated_at o x us v u1) d m u (reads_given u d m)
 
 module _ (p : PackageView) (x : TypedNode) (b : ℕ) (o : PlanOperation) (m : Engine) where
   pub step_reads : (n : ℕ) (s : Rest) → Same (works p x b (what.Step o) n s (views m.values.items)) (then_rest (loaded_at (planned p x o) (at (parts_of p n x) 0) (give (Whole (pos 1) ∷ [])) (drop b (views m.values.items))) s (take b (views m.values.items)))

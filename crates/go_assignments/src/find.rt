@@ -10,9 +10,9 @@ ghost use Rattle.go_machine.specs.declared.task.What.TheVariants as what;
 ghost use Rattle.go_machine.specs.Engines.{Goes, seeks, works};
 ghost use Rattle.go_assignments.specs.Tests.{IsTest, tests};
 
-use crate::operands::above;
 use go_eval::parts::part;
 use go_machine::engine::Engine;
+use go_machine::operands::above;
 use go_machine::task::What;
 use go_runs::calls::take_at;
 use go_runs::exit::Exit;

@@ -1,16 +1,21 @@
 //! `x++` and `x op= y`: the place is found once, and read before the other operand is evaluated (Go specification, "Assignment
 //! statements", "IncDec statements").
 
-ghost use Rattle.std.specs.Prelude.{◌≡◌, ℕ, length};
+ghost use Rattle.std.specs.Prelude.{◌≡◌, ℕ, [], ◌∷◌, length};
 ghost use Rattle.go_types.specs.Tables.{type_of, rights_of};
 ghost use Rattle.go_typed.specs.Views.{AllKnown, Known, all_seen};
 ghost use Rattle.go_meaning.specs.Computations.{one};
 ghost use Rattle.go_meaning.specs.Doings.{at};
-ghost use Rattle.go_meaning.specs.Operations.{operate};
+ghost use Rattle.go_meaning.specs.Computations as meaning;
+ghost use Rattle.go_meaning.specs.Operations as operations;
+ghost use Rattle.go_meaning.specs.Operations.{operate, perform};
+ghost use Rattle.go_values.specs.Deeds.{deed};
 ghost use Rattle.go_eval.specs.Known.{KnownOperation};
 ghost use Rattle.go_eval.specs.Views.{operation_view};
 ghost use Rattle.go_meaning.specs.Values.{nth};
 ghost use Rattle.go_values.specs.Views.{view, views};
+ghost use Rattle.go_values.specs.Worlds.{world_view};
+ghost use Rattle.go_operations.specs.Performing.{IsPerformed};
 ghost use Rattle.go_runs.specs.Machines.{outcome};
 ghost use Rattle.go_runs.specs.Programs.{doings};
 ghost use Rattle.go_machine.specs.declared.task.What.TheVariants as what;
@@ -18,9 +23,11 @@ ghost use Rattle.go_machine.specs.Engines.{Goes, works};
 ghost use Rattle.go_machine.specs.Written.{IsWritten};
 ghost use Rattle.go_assignments.specs.Loaded.{IsLoaded, given_values};
 
-use crate::operands::{above, first_two};
+use crate::operands::{first_two, two};
 use go_eval::plan::Operation;
+use go_machine::computing::computed;
 use go_machine::engine::Engine;
+use go_machine::operands::above;
 use go_machine::stores::store;
 use go_machine::task::What;
 use go_operations::perform;
@@ -29,7 +36,7 @@ use go_runs::machine::Machine;
 use go_runs::places::load;
 use go_typed::checked::Checked;
 use go_typed::node::TypedNode;
-use go_values::Value;
+use go_values::{Panic, Stop, Value, World};
 use std::alloc::Global;
 
 /// Reads the value at the place that the first part of a node is, whose operands stand behind the base. Where it isn't read they
@@ -72,12 +79,18 @@ pub fn step<'a>(
     ensures { Goes checked.now (works checked.now node.now base (what.Step operation)) engine.old result engine.new }
 {
     let read = loaded(engine, alloc, checked, node, base)?;
-    let low = engine.lower(base);
-    let value = engine.top();
-    engine.push(node, low, What::Operate { operation, value })?;
-    engine.give(read)?;
-    engine.give(Value::Whole(1))?;
-    Ok(())
+    let answer = store_result(
+        alloc,
+        checked,
+        &node.parts,
+        operation,
+        above(&engine.values, base),
+        read,
+        Value::Whole(1),
+        &mut engine.machine,
+    );
+    engine.cut(base);
+    answer
 }
 
 /// `x op= y`, behind the operands of x.
@@ -112,24 +125,59 @@ fn store_result(
     parts: &[Option<TypedNode>],
     operation: Operation,
     operands: &[Value],
-    given: Vec<Value>,
+    first: Value,
+    second: Value,
     machine: &mut Machine,
 ) -> Result<(), Exit>
     requires parts { AllKnown (length checked.now.types.shapes) parts.now }
     requires operation { KnownOperation (length checked.now.types.shapes) operation }
-    ensures is { (n d : ℕ) → IsWritten (outcome (one (operate (operation_view (rights_of checked.now.types) (type_of checked.now.types.shapes) (all_seen checked.now.types parts.now) operation) (views given.items)) ((at (doings checked.now n parts.now) 0).store (views operands.now))) d machine.old) result machine.new }
+    ensures is { (n d : ℕ) → IsWritten (outcome (one (operate (operation_view (rights_of checked.now.types) (type_of checked.now.types.shapes) (all_seen checked.now.types parts.now) operation) (view first ∷ view second ∷ [])) ((at (doings checked.now n parts.now) 0).store (views operands.now))) d machine.old) result machine.new }
     ensures turns { machine.new.turns ≡ machine.old.turns }
 {
-    let computed = perform(
-        alloc,
-        checked.types(),
-        parts,
-        operation,
-        given,
-        &mut machine.world,
-    )?;
-    let value = or_nil(computed);
+    let world = &mut machine.world;
+    let given = operated(alloc, checked, parts, operation, first, second, world)?;
+    let value = or_nil(given);
     store(alloc, checked, parts, 0, operands, value, machine)
+}
+
+/// What an operation gives of two operands.
+///
+/// # Errors
+///
+/// The panic of the operation; want of memory.
+fn operated(
+    alloc: Global,
+    checked: &Checked,
+    parts: &[Option<TypedNode>],
+    operation: Operation,
+    first: Value,
+    second: Value,
+    world: &mut World,
+) -> Result<Option<Value>, Stop>
+    requires { KnownOperation (length checked.now.types.shapes) operation }
+    ensures { IsPerformed result (perform (operation_view (rights_of checked.now.types) (type_of checked.now.types.shapes) (all_seen checked.now.types parts.now) operation) (view first ∷ view second ∷ []) (world_view world.old)) (world_view world.old) (world_view world.new) }
+{
+    match computed(operation, &first, &second) {
+        Some(answer) => done(answer),
+        None => {
+            let operands = two(alloc, first, second)?;
+            perform(alloc, checked.types(), parts, operation, operands, world)
+        }
+    }
+}
+
+/// What an operation that leaves the world as it is gives.
+///
+/// # Errors
+///
+/// The panic of the operation.
+fn done(answer: Result<Value, Panic>) -> Result<Option<Value>, Stop>
+    ensures { (d : operations.Deed) (w : meaning.World) → d ≡ deed w answer → IsPerformed result d w w }
+{
+    match answer {
+        Ok(value) => Ok(Some(value)),
+        Err(panic) => Err(Stop::Panic(panic)),
+    }
 }
 
 /// What was given; a nil function where nothing was.
@@ -156,14 +204,15 @@ pub fn operate<'a>(
     requires operation { KnownOperation (length checked.now.types.shapes) operation }
     ensures { Goes checked.now (works checked.now node.now base (what.Operate operation value)) engine.old result engine.new }
 {
-    let given = first_two(engine.take(alloc, value)?)?;
+    let (first, second) = first_two(engine.take(alloc, value)?);
     let answer = store_result(
         alloc,
         checked,
         &node.parts,
         operation,
         above(&engine.values, base),
-        given,
+        first,
+        second,
         &mut engine.machine,
     );
     engine.cut(base);

@@ -14,9 +14,10 @@ ghost use Rattle.go_machine.specs.declared.task.What.TheVariants as what;
 ghost use Rattle.go_machine.specs.Engines.{Goes, works};
 ghost use Rattle.go_machine.specs.Written.{IsWritten};
 
-use crate::operands::{above, below};
+use crate::operands::below;
 use go_base::Memory;
 use go_machine::engine::Engine;
+use go_machine::operands::above;
 use go_machine::stores::{store, width};
 use go_operations::zero_value;
 use go_runs::calls::take_at;

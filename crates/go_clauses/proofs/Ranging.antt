@@ -1,6 +1,7 @@
 -- What range clauses come to.
 use Rattle.std.proofs.Common.{◌≡◌, ◌<◌, ◌≤◌, ℕ, zero, suc, List, [], ◌∷◌, ◌++◌, take, drop, length, refl, sym, ap, ◌∙◌, subst, arith, Option}
-use Rattle.std.specs.Prelude.{◌-◌}
+use Rattle.std.specs.Prelude.{◌-◌, Box}
+use Rattle.std.specs.declared.alloc.Global.{Global}
 use Rattle.go_typed.specs.declared.node.TypedNode.{TypedNode}
 use Rattle.go_typed.specs.Packages.{PackageView}
 use Rattle.go_meaning.specs.Values.{Value, nth}
@@ -57,63 +58,63 @@ each_then (c ∷ cs) k g l = λ d f w t. then_then c (λ us. each cs (λ vs. k (
 
 -- ---- items
 
-module _ (p : PackageView) (n : ℕ) (x : TypedNode) (b : ℕ) (r : Rest) (vs : List Value) (g : Iteration) where
+module _ (p : PackageView) (n : ℕ) (x : TypedNode) (b : ℕ) (r : Rest) (vs : List Value) (g : Box Iteration Global) where
   abbrev targets : List Doing
-  targets = take g.targets (parts_of p n x)
+  targets = take g.value.targets (parts_of p n x)
 
   abbrev block : Comp
-  block = (at (parts_of p n x) (suc g.targets)).value
+  block = (at (parts_of p n x) (suc g.value.targets)).value
 
   abbrev is_item : ℕ → Comp
-  is_item i = assigned targets (operate (Item (items_view g.items) i) (view g.operand ∷ []))
+  is_item i = assigned targets (operate (Item (items_view g.value.items) i) (view g.value.operand ∷ []))
 
   -- the items are counted
-  pub items_begin : g.next ≡ 0 → view g.operand ≡ first_above b vs → Same (works p x b (what.Items g.targets g.items) n r vs) (works p x b (what.Item g) n r (take b vs))
+  pub items_begin : g.value.next ≡ 0 → view g.value.operand ≡ first_above b vs → Same (works p x b (what.Items g.value.targets g.value.items) n r vs) (works p x b (what.Item g) n r (take b vs))
   unfolding task_rest
   items_begin z e d f w t =
-      let none : item_count (items_view g.items) (view g.operand) ≡ item_count (items_view g.items) (view g.operand) - 0 = omega arith in
-      ap (λ (v : Value). then_rest (iterated (items_view g.items) targets block v) r (take b vs) d f w t) (sym e)
+      let none : item_count (items_view g.value.items) (view g.value.operand) ≡ item_count (items_view g.value.items) (view g.value.operand) - 0 = omega arith in
+      ap (λ (v : Value). then_rest (iterated (items_view g.value.items) targets block v) r (take b vs) d f w t) (sym e)
       ∙ (ap (λ (i : ℕ). then_rest (over is_item block 0 i) r (take b vs) d f w t) none
-      ∙ (ap (λ (i : ℕ). then_rest (over is_item block i (item_count (items_view g.items) (view g.operand) - i)) r (take b vs) d f w t) (sym z)
-      ∙ ap (λ (us : List Value). then_rest (items_from (parts_of p n x) g.targets (items_view g.items) g.next (view g.operand)) r us d f w t) (sym (take_twice b vs))))
+      ∙ (ap (λ (i : ℕ). then_rest (over is_item block i (item_count (items_view g.value.items) (view g.value.operand) - i)) r (take b vs) d f w t) (sym z)
+      ∙ ap (λ (us : List Value). then_rest (items_from (parts_of p n x) g.value.targets (items_view g.value.items) g.value.next (view g.value.operand)) r us d f w t) (sym (take_twice b vs))))
 
-  module _ (ec : g.count ≡ item_count (items_view g.items) (view g.operand)) where
-    pub items_done : g.count ≤ g.next → Same (works p x b (what.Item g) n r vs) (r.go (take b vs))
+  module _ (ec : g.value.count ≡ item_count (items_view g.value.items) (view g.value.operand)) where
+    pub items_done : g.value.count ≤ g.value.next → Same (works p x b (what.Item g) n r vs) (r.go (take b vs))
     unfolding task_rest over
     items_done h d f w t =
-        let none : item_count (items_view g.items) (view g.operand) - g.next ≡ 0 = omega (arith, ec, h) in
-        ap (λ (i : ℕ). then_rest (over is_item block g.next i) r (take b vs) d f w t) none ∙ gives_nothing r (take b vs) d f w t
+        let none : item_count (items_view g.value.items) (view g.value.operand) - g.value.next ≡ 0 = omega (arith, ec, h) in
+        ap (λ (i : ℕ). then_rest (over is_item block g.value.next i) r (take b vs) d f w t) none ∙ gives_nothing r (take b vs) d f w t
 
     -- how many are left behind the next one
     abbrev left : ℕ
-    left = item_count (items_view g.items) (view g.operand) - suc g.next
+    left = item_count (items_view g.value.items) (view g.value.operand) - suc g.value.next
 
-    module _ (h : g.next < g.count) where
-      some_left : item_count (items_view g.items) (view g.operand) - g.next ≡ suc left
+    module _ (h : g.value.next < g.value.count) where
+      some_left : item_count (items_view g.value.items) (view g.value.operand) - g.value.next ≡ suc left
       some_left = omega (arith, ec, h)
 
       pub item_spent : (d : ℕ) (f : List Value) (w : World) → works p x b (what.Item g) n r vs d f w 0 ≡ Undecided w.output
       unfolding task_rest over before spend
-      item_spent d f w = ap (λ (i : ℕ). then_rest (over is_item block g.next i) r (take b vs) d f w 0) some_left
+      item_spent d f w = ap (λ (i : ℕ). then_rest (over is_item block g.value.next i) r (take b vs) d f w 0) some_left
 
-      pub item_next : (end : ℕ) → end ≡ g.targets → (d : ℕ) (f : List Value) (w : World) (t : ℕ) → works p x b (what.Item g) n r vs d f w (suc t) ≡ lays_finds p x (what.ItemTo g) end n r (take b vs) d f w t
+      pub item_next : (end : ℕ) → end ≡ g.value.targets → (d : ℕ) (f : List Value) (w : World) (t : ℕ) → works p x b (what.Item g) n r vs d f w (suc t) ≡ lays_finds p x (what.ItemTo g) end n r (take b vs) d f w t
       unfolding task_rest over before spend
-      item_next end ee d f w t = rw ee (ap (λ (i : ℕ). then_rest (over is_item block g.next i) r (take b vs) d f w (suc t)) some_left
-          ∙ (each_then (finds_of targets) (λ us. then_do (operate (Item (items_view g.items) g.next) (view g.operand ∷ [])) (λ ws. stores targets us ws)) (λ no. looped block (over is_item block (suc g.next) left)) (behind r (take b vs) (take b vs)) d f w t
-          ∙ begins_each_drop r (take b vs) (item_to (parts_of p n x) g.targets (items_view g.items) g.next (view g.operand)) (item_to (parts_of p n x) g.targets (items_view g.items) g.next (view g.operand)) (λ us. same_refl (item_to (parts_of p n x) g.targets (items_view g.items) g.next (view g.operand) us)) (finds_of targets) d f w t))
+      item_next end ee d f w t = rw ee (ap (λ (i : ℕ). then_rest (over is_item block g.value.next i) r (take b vs) d f w (suc t)) some_left
+          ∙ (each_then (finds_of targets) (λ us. then_do (operate (Item (items_view g.value.items) g.value.next) (view g.value.operand ∷ [])) (λ ws. stores targets us ws)) (λ no. looped block (over is_item block (suc g.value.next) left)) (behind r (take b vs) (take b vs)) d f w t
+          ∙ begins_each_drop r (take b vs) (item_to (parts_of p n x) g.value.targets (items_view g.value.items) g.value.next (view g.value.operand)) (item_to (parts_of p n x) g.value.targets (items_view g.value.items) g.value.next (view g.value.operand)) (λ us. same_refl (item_to (parts_of p n x) g.value.targets (items_view g.value.items) g.value.next (view g.value.operand) us)) (finds_of targets) d f w t))
 
   -- the next item is assigned, and then the block runs
   pub item_assigned : Same (works p x b (what.ItemTo g) n r vs)
-      (then_rest (then_do (then_do (operate (Item (items_view g.items) g.next) (view g.operand ∷ [])) (λ ws. stores targets (drop b vs) ws)) (λ no. looped block (items_from (parts_of p n x) g.targets (items_view g.items) (suc g.next) (view g.operand)))) r (take b vs))
+      (then_rest (then_do (then_do (operate (Item (items_view g.value.items) g.value.next) (view g.value.operand ∷ [])) (λ ws. stores targets (drop b vs) ws)) (λ no. looped block (items_from (parts_of p n x) g.value.targets (items_view g.value.items) (suc g.value.next) (view g.value.operand)))) r (take b vs))
   unfolding task_rest
   item_assigned d f w t = refl
 
   -- behind the assignment of an item the block, and then the others
-  module _ (g1 : Iteration) (et : g1.targets ≡ g.targets) (ei : g1.items ≡ g.items) (eo : g1.operand ≡ g.operand) (en : g1.next ≡ suc g.next) where
+  module _ (g1 : Box Iteration Global) (et : g1.value.targets ≡ g.value.targets) (ei : g1.value.items ≡ g.value.items) (eo : g1.value.operand ≡ g.value.operand) (en : g1.value.next ≡ suc g.value.next) where
     abbrev others : Comp
-    others = items_from (parts_of p n x) g.targets (items_view g.items) (suc g.next) (view g.operand)
+    others = items_from (parts_of p n x) g.value.targets (items_view g.value.items) (suc g.value.next) (view g.value.operand)
 
-    pub item_round : (k : ℕ) → k ≡ suc g.targets → (us : List Value) → Same (lays_value p x (what.ItemRound g1) k n r us) (then_rest (looped block others) r us)
+    pub item_round : (k : ℕ) → k ≡ suc g.value.targets → (us : List Value) → Same (lays_value p x (what.ItemRound g1) k n r us) (then_rest (looped block others) r us)
     unfolding task_rest
     item_round k ek us d f w t = rw (ek, et, ei, eo, en) (sym (begins_round r us (length us) block others refl d f w t))
 

@@ -1,6 +1,6 @@
 //! Range clauses (Go specification, "For statements with range clause").
 
-ghost use Rattle.std.specs.Prelude.{◌≡◌, ◌<◌, IfOk, length};
+ghost use Rattle.std.specs.Prelude.{◌≡◌, ◌<◌, ◌+◌, IfOk, length};
 ghost use Rattle.std.specs.Option.{option_map};
 ghost use Rattle.go_typed.specs.Packages.{PackageView};
 ghost use Rattle.go_typed.specs.Views.{Known};
@@ -11,10 +11,10 @@ ghost use Rattle.go_machine.specs.Tasks.{IsFit, IsIteration};
 ghost use Rattle.go_machine.specs.Engines.{Goes, works};
 
 use crate::switches::take_first;
-use go_assignments::operands::above;
 use go_assignments::store::store_all;
 use go_eval::plan::Items;
 use go_machine::engine::Engine;
+use go_machine::operands::above;
 use go_machine::task::{Iteration, What};
 use go_operations::{item_at, item_count};
 use go_runs::exit::Exit;
@@ -26,6 +26,7 @@ use std::alloc::{AllocError, Global};
 /// The items of a range clause, behind its operand: they are counted once.
 pub fn items<'a>(
     engine: &mut Engine<'a>,
+    alloc: Global,
     node: &'a TypedNode,
     base: usize,
     targets: u32,
@@ -35,7 +36,7 @@ pub fn items<'a>(
 {
     let operand = take_first(engine, base);
     let count = item_count(items, &operand);
-    let iteration = Iteration {
+    let first = Iteration {
         targets,
         items,
         operand,
@@ -43,6 +44,7 @@ pub fn items<'a>(
         next: 0,
         place: 0,
     };
+    let iteration = Box::new(alloc, first)?;
     item(engine, node, base, iteration)
 }
 
@@ -51,7 +53,7 @@ pub fn item<'a>(
     engine: &mut Engine<'a>,
     node: &'a TypedNode,
     base: usize,
-    iteration: Iteration,
+    iteration: Box<Iteration>,
 ) -> Result<(), Exit>
     ensures { (p : PackageView) → IsFit (length p.types.shapes) node.now (what.Item iteration) → Goes p (works p node.now base (what.Item iteration)) engine.old result engine.new }
 {
@@ -76,6 +78,13 @@ fn values_of(alloc: Global, first: Value, second: Option<Value>) -> Result<Vec<V
     Ok(values)
 }
 
+/// The number behind one of so many.
+fn following(number: usize, count: usize) -> usize
+    ensures { number < count → result ≡ number + 1 }
+{
+    if number < count { number + 1 } else { count }
+}
+
 /// The next item is assigned to its targets, whose operands stand behind the base, and the block runs.
 pub fn item_to<'a>(
     engine: &mut Engine<'a>,
@@ -83,42 +92,38 @@ pub fn item_to<'a>(
     checked: &Checked,
     node: &'a TypedNode,
     base: usize,
-    iteration: Iteration,
+    iteration: Box<Iteration>,
 ) -> Result<(), Exit>
     requires node { Known (length checked.now.types.shapes) node.now }
-    requires iteration { IsIteration iteration }
-    requires next { iteration.next < iteration.count }
+    requires iteration { IsIteration iteration.value }
+    requires next { iteration.value.next < iteration.value.count }
     ensures { Goes checked.now (works checked.now node.now base (what.ItemTo iteration)) engine.old result engine.new }
 {
-    let Iteration {
-        targets,
-        items,
-        operand,
-        count,
-        next,
-        place,
-    } = iteration;
-    let item = item_at(alloc, items, next, place, &operand, &engine.machine.world)?;
+    let mut iteration = iteration;
+    let item = item_at(
+        alloc,
+        iteration.items,
+        iteration.next,
+        iteration.place,
+        &iteration.operand,
+        &engine.machine.world,
+    )?;
     let place = item.next;
+    let targets = iteration.targets as usize;
     let values = values_of(alloc, item.first, item.second)?;
     let answer = store_all(
         alloc,
         checked,
         &node.parts,
-        targets as usize,
+        targets,
         above(&engine.values, base),
         values,
         &mut engine.machine,
     );
     engine.cut(base);
     answer?;
-    let following = Iteration {
-        targets,
-        items,
-        operand,
-        count,
-        next: next + 1,
-        place,
-    };
-    engine.lay_value(node, What::ItemRound(following), targets as usize + 1)
+    iteration.next = following(iteration.next, iteration.count);
+    iteration.place = place;
+    let block = targets + 1;
+    engine.lay_block(alloc, checked, node, What::ItemRound(iteration), block)
 }

@@ -13,7 +13,7 @@ use Rattle.go_runs.proofs.Nodes.{known_parts, known_entry}
 use Rattle.go_machine.specs.declared.task.What.TheVariants as what
 use Rattle.go_machine.specs.Rests.{Rest, before, then_rest}
 use Rattle.go_machine.specs.Tasks.{parts_of, task_rest}
-use Rattle.go_machine.specs.Engines.{asks_part, seeks_part}
+use Rattle.go_machine.specs.Engines.{asks, asks_part, seeks_part}
 use Rattle.go_machine.proofs.Rests.{Same, gives_nothing}
 
 module _ (x : TypedNode) (k : ℕ) (xs : List (Option TypedNode)) (e : xs ≡ (out-TypedNode x).parts.items) where
@@ -24,6 +24,9 @@ module _ (x : TypedNode) (k : ℕ) (xs : List (Option TypedNode)) (e : xs ≡ (o
     pub asks_some : (y : TypedNode) → entry xs k ≡ Some y → Same (asks_part p x k n s vs) ((task_rest p n y 0 what.Value s).go vs)
     unfolding task_rest
     asks_some y h d f w t = ap (λ (z : Doing). then_rest z.value s vs d f w t) (at_some p n (out-TypedNode x).parts.items k y (ap (λ (ys : List (Option TypedNode)). entry ys k) (sym e) ∙ h))
+
+    pub begins_some : (y : TypedNode) → entry xs k ≡ Some y → Same (asks_part p x k n s vs) (asks p y n s vs)
+    begins_some y h d f w t = ap (λ (z : Doing). then_rest z.value s vs d f w t) (at_some p n (out-TypedNode x).parts.items k y (ap (λ (ys : List (Option TypedNode)). entry ys k) (sym e) ∙ h))
 
     pub asks_none : entry xs k ≡ None → Same (asks_part p x k n s vs) (s.go vs)
     asks_none h d f w t = ap (λ (z : Doing). then_rest z.value s vs d f w t) (at_none p n (out-TypedNode x).parts.items k (ap (λ (ys : List (Option TypedNode)). entry ys k) (sym e) ∙ h)) ∙ gives_nothing s vs d f w t

@@ -23,6 +23,7 @@ use Rattle.go_machine.specs.Rests.{Rest}
 use Rattle.go_machine.specs.Tasks.{deed_view, task_rest}
 use Rattle.go_machine.specs.Engines.{Goes, works, IsKept}
 use Rattle.go_machine.proofs.Going.{goes_worlded, goes_panicked}
+use Rattle.go_machine.proofs.Rests.{Same}
 use Rattle.go_machine.proofs.Performing.{operation_gives, operation_does, operation_traps}
 
 module _ (p : PackageView) (x : TypedNode) (b : ℕ) (o : Deed) (old m1 m : Engine) where
@@ -40,6 +41,15 @@ module _ (p : PackageView) (x : TypedNode) (b : ℕ) (o : Deed) (old m1 m : Engi
   unfolding task_rest
   deed_does h us e done n s d f t = operation_does s (take b (views old.values.items)) d f (world_view old.machine.world) t (deed_view p x o) (drop b (views old.values.items)) (world_view m.machine.world)
       (subst (λ (w : World). perform (deed_view p x o) (drop b (views old.values.items)) w ≡ Gives [] (world_view m.machine.world)) (same_world h) (subst (λ (ws : List meant.Value). perform (deed_view p x o) ws (world_view m1.machine.world) ≡ Gives [] (world_view m.machine.world)) e done))
+
+  -- an operation on two values, which leaves the world as it is
+  pub computed_gives : (v : meant.Value) → ((w : World) → perform (deed_view p x o) (drop b (views old.values.items)) w ≡ Gives (v ∷ []) w) → (n : ℕ) (s : Rest) → Same (works p x b (what.Perform o) n s (views old.values.items)) (s.go (take b (views old.values.items) ++ v ∷ []))
+  unfolding task_rest
+  computed_gives v done n s d f w t = operation_gives s (take b (views old.values.items)) d f w t (deed_view p x o) (drop b (views old.values.items)) v w (done w)
+
+  pub computed_traps : (k : Panic) → ((w : World) → perform (deed_view p x o) (drop b (views old.values.items)) w ≡ Traps (panic_view k)) → (n : ℕ) (s : Rest) → Same (works p x b (what.Perform o) n s (views old.values.items)) (s.out (take b (views old.values.items)) (Panics (panic_view k)))
+  unfolding task_rest
+  computed_traps k done n s d f w t = operation_traps s (take b (views old.values.items)) d f w t (deed_view p x o) (drop b (views old.values.items)) (panic_view k) (done w)
 
   traps : (k : Panic) → IsKept old m1 → (us : List meant.Value) → us ≡ drop b (views old.values.items) → perform (deed_view p x o) us (world_view m1.machine.world) ≡ Traps (panic_view k) → world_view m.machine.world ≡ world_view m1.machine.world →
       (n : ℕ) (s : Rest) (d : ℕ) (f : List meant.Value) (t : ℕ) → works p x b (what.Perform o) n s (views old.values.items) d f (world_view old.machine.world) t ≡ s.out (take b (views old.values.items)) (Panics (panic_view k)) d f (world_view m.machine.world) t

@@ -127,9 +127,9 @@ task_rest p n x b what.Index r = replacing b (λ vs. then_do ((at (parts_of p n 
 task_rest p n x b (what.Tested k) r = replacing_both b k (λ vs. indexed (at (parts_of p n x) 1) (between b k vs)) r
 task_rest p n x b (what.Behind k) r = replacing_both b k (λ vs. give (nth (drop k vs) 0 ∷ between b k vs)) r
 task_rest p n x b (what.Items m items) r = replacing b (λ vs. iterated (items_view items) (take m (parts_of p n x)) (at (parts_of p n x) (suc m)).value (first_above b vs)) r
-task_rest p n x b (what.Item g) r = replacing b (λ vs. items_from (parts_of p n x) g.targets (items_view g.items) g.next (view g.operand)) r
-task_rest p n x b (what.ItemTo g) r = replacing b (λ vs. item_to (parts_of p n x) g.targets (items_view g.items) g.next (view g.operand) (drop b vs)) r
-task_rest p n x b (what.ItemRound g) r = round b (items_from (parts_of p n x) g.targets (items_view g.items) g.next (view g.operand)) r
+task_rest p n x b (what.Item g) r = replacing b (λ vs. items_from (parts_of p n x) g.value.targets (items_view g.value.items) g.value.next (view g.value.operand)) r
+task_rest p n x b (what.ItemTo g) r = replacing b (λ vs. item_to (parts_of p n x) g.value.targets (items_view g.value.items) g.value.next (view g.value.operand) (drop b vs)) r
+task_rest p n x b (what.ItemRound g) r = round b (items_from (parts_of p n x) g.value.targets (items_view g.value.items) g.value.next (view g.value.operand)) r
 task_rest p n x b (what.Leave frame) r = leaving b (views frame.items) r
 
 -- the tasks lie on one another, the last one on top
@@ -157,9 +157,9 @@ KnownWhat k (what.Step o) = KnownOperation k o
 KnownWhat k (what.Load o) = KnownOperation k o
 KnownWhat k (what.Operate o i) = KnownOperation k o
 KnownWhat k (what.Zero m t) = IfSome t (λ a. a < k)
-KnownWhat k (what.Item g) = IsIteration g
-KnownWhat k (what.ItemTo g) = IsIteration g × (g.next < g.count)
-KnownWhat k (what.ItemRound g) = IsIteration g
+KnownWhat k (what.Item g) = IsIteration g.value
+KnownWhat k (what.ItemTo g) = IsIteration g.value × (g.value.next < g.value.count)
+KnownWhat k (what.ItemRound g) = IsIteration g.value
 KnownWhat k w = Unit {0}
 
 abbrev pub IsFit : ℕ → TypedNode → What → Type 0

@@ -6,8 +6,10 @@ use crate::task::What;
 use go_base::Memory;
 use go_eval::parts::part;
 use go_runs::exit::Exit;
+use go_typed::checked::Checked;
 use go_typed::node::TypedNode;
 use go_values::Value;
+use std::alloc::Global;
 
 impl<'a> Engine<'a> {
     ghost use Rattle.std.specs.Prelude.{ℕ, length, IfOk};
@@ -64,13 +66,37 @@ impl<'a> Engine<'a> {
         }
     }
 
-    /// The same as `ask`, but the statements of a block begin at once.
-    pub fn ask_block(&mut self, node: &'a TypedNode, number: usize) -> Result<(), Exit>
-        ensures { (p : PackageView) → Known (length p.types.shapes) node.now → Goes p (asks_part p node.now number) self.old result self.new }
+    /// The same as `ask`, but the part begins at once, and not by a task.
+    pub fn begin_part(
+        &mut self,
+        alloc: Global,
+        checked: &Checked,
+        node: &'a TypedNode,
+        number: usize,
+    ) -> Result<(), Exit>
+        requires { Known (length checked.now.types.shapes) node.now }
+        ensures { Goes checked.now (asks_part checked.now node.now number) self.old result self.new }
+    {
+        match part(&node.parts, number) {
+            Some(asked) => self.start(alloc, checked, asked),
+            None => Ok(()),
+        }
+    }
+
+    /// The same as `begin_part`, but of a block the statements begin at once.
+    pub fn ask_block(
+        &mut self,
+        alloc: Global,
+        checked: &Checked,
+        node: &'a TypedNode,
+        number: usize,
+    ) -> Result<(), Exit>
+        requires { Known (length checked.now.types.shapes) node.now }
+        ensures { Goes checked.now (asks_part checked.now node.now number) self.old result self.new }
     {
         match block_at(node, number) {
-            Some(block) => self.begin_sequence(block, 0),
-            None => self.ask(node, number),
+            Some(block) => self.begin_sequence(alloc, checked, block, 0),
+            None => self.begin_part(alloc, checked, node, number),
         }
     }
 
@@ -116,13 +142,38 @@ impl<'a> Engine<'a> {
         self.ask(node, number)
     }
 
-    /// The same, behind a part that may be a block.
-    pub fn lay_block(&mut self, node: &'a TypedNode, what: What, number: usize) -> Result<(), Exit>
-        ensures { (p : PackageView) → IsFit (length p.types.shapes) node.now what → Goes p (lays_value p node.now what number) self.old result self.new }
+    /// The same, behind the value of a part that begins at once.
+    pub fn lay_begun(
+        &mut self,
+        alloc: Global,
+        checked: &Checked,
+        node: &'a TypedNode,
+        what: What,
+        number: usize,
+    ) -> Result<(), Exit>
+        requires { IsFit (length checked.now.types.shapes) node.now what }
+        ensures { Goes checked.now (lays_value checked.now node.now what number) self.old result self.new }
     {
         let base = self.top();
         self.push(node, base, what)?;
-        self.ask_block(node, number)
+        self.begin_part(alloc, checked, node, number)
+    }
+
+    /// The same, behind a part that may be a block.
+    pub fn lay_block(
+        &mut self,
+        alloc: Global,
+        checked: &Checked,
+        node: &'a TypedNode,
+        what: What,
+        number: usize,
+    ) -> Result<(), Exit>
+        requires { IsFit (length checked.now.types.shapes) node.now what }
+        ensures { Goes checked.now (lays_value checked.now node.now what number) self.old result self.new }
+    {
+        let base = self.top();
+        self.push(node, base, what)?;
+        self.ask_block(alloc, checked, node, number)
     }
 
     /// The same, behind the operands of a part.

@@ -76,6 +76,10 @@ impl<'a> Engine<'a> {
         ensures values { views self.new.values.items ≡ take base (views self.old.values.items) }
         ensures kept { IsKept self.old self.new }
     {
+        let top = self.top();
+        if base >= top {
+            return;
+        }
         self.values.truncate(base);
     }
 }

@@ -7,8 +7,10 @@
 #![tactic(auto)]
 
 pub mod asks;
+pub mod computing;
 pub mod engine;
 pub mod loops;
+pub mod operands;
 pub mod parts;
 pub mod ready;
 pub mod start;

@@ -8,8 +8,10 @@ use crate::engine::Engine;
 use crate::task::What;
 use go_eval::parts::is_there;
 use go_runs::exit::Exit;
+use go_typed::checked::Checked;
 use go_typed::form::Form;
 use go_typed::node::TypedNode;
+use std::alloc::Global;
 
 /// Whether a node is a loop without a range clause.
 pub fn is_loop(node: &TypedNode) -> bool
@@ -26,13 +28,20 @@ impl<'a> Engine<'a> {
     ghost use Rattle.go_machine.specs.Engines.{Goes, works};
 
     /// The next turn of a loop, which has no first statement (Go specification, "For statements with for clause").
-    pub fn again(&mut self, node: &'a TypedNode, base: usize) -> Result<(), Exit>
-        ensures { (p : PackageView) → Known (length p.types.shapes) node.now → Goes p (works p node.now base what.Again) self.old result self.new }
+    pub fn again(
+        &mut self,
+        alloc: Global,
+        checked: &Checked,
+        node: &'a TypedNode,
+        base: usize,
+    ) -> Result<(), Exit>
+        requires { Known (length checked.now.types.shapes) node.now }
+        ensures { Goes checked.now (works checked.now node.now base what.Again) self.old result self.new }
     {
         self.cut(base);
         if is_loop(node) {
             let condition = is_there(&node.parts, 1);
-            self.begin_turn(node, condition)
+            self.begin_turn(alloc, checked, node, condition)
         } else {
             self.push(node, 0, What::Value)?;
             Ok(())

@@ -7,7 +7,9 @@ ghost use Rattle.go_values.specs.Worlds.{world_view};
 ghost use Rattle.go_operations.specs.Performing.{IsPerformed};
 ghost use Rattle.go_machine.specs.Tasks.{KnownDeed, deed_view};
 
+use crate::computing::computed_deed;
 use crate::engine::Engine;
+use crate::operands::above;
 use crate::ready::first_sought;
 use crate::start::count;
 use crate::task::{Deed, What};
@@ -17,7 +19,7 @@ use go_runs::exit::Exit;
 use go_runs::places::operand;
 use go_typed::checked::Checked;
 use go_typed::node::TypedNode;
-use go_values::{Stop, Value, World, element, field};
+use go_values::{Panic, Stop, Value, World, element, field};
 use std::alloc::Global;
 
 /// What a deed at a node gives of its operands, and what it does to the world.
@@ -60,12 +62,17 @@ fn perform_deed(
 }
 
 impl<'a> Engine<'a> {
-    ghost use Rattle.std.specs.Prelude.{◌≡◌, length, take, IfOk};
+    ghost use Rattle.std.specs.Prelude.{◌≡◌, length, take, drop, IfOk};
+    ghost use Rattle.go_typed.specs.declared.node.TypedNode as typed;
+    ghost use Rattle.go_meaning.specs.Computations as meaning;
+    ghost use Rattle.go_meaning.specs.Operations as operations;
+    ghost use Rattle.go_values.specs.Deeds as deeds;
+    ghost use Rattle.go_machine.specs.declared.task.Deed as code;
     ghost use Rattle.go_typed.specs.Packages.{PackageView};
     ghost use Rattle.go_typed.specs.Views.{Known};
     ghost use Rattle.go_values.specs.Views.{views};
     ghost use Rattle.go_machine.specs.declared.task.What.TheVariants as what;
-    ghost use Rattle.go_machine.specs.Tasks.{KnownDeed};
+    ghost use Rattle.go_machine.specs.Tasks.{KnownDeed, deed_view};
     ghost use Rattle.go_machine.specs.Engines.{Goes, works, lays_values};
     ghost use Rattle.go_machine.specs.Giving.{GaveParts};
 
@@ -209,6 +216,38 @@ impl<'a> Engine<'a> {
 
     /// The deed on the operands.
     pub fn perform(
+        &mut self,
+        alloc: Global,
+        checked: &Checked,
+        node: &'a TypedNode,
+        base: usize,
+        deed: Deed,
+    ) -> Result<(), Exit>
+        requires { KnownDeed (length checked.now.types.shapes) deed }
+        ensures { Goes checked.now (works checked.now node.now base (what.Perform deed)) self.old result self.new }
+    {
+        match computed_deed(deed, above(&self.values, base)) {
+            Some(answer) => self.replace(base, answer),
+            None => self.perform_taken(alloc, checked, node, base, deed),
+        }
+    }
+
+    /// Puts what an operation gave in the place of its operands.
+    fn replace(&mut self, base: usize, answer: Result<Value, Panic>) -> Result<(), Exit>
+        ensures { (p : PackageView) (x : typed.TypedNode) (o : code.Deed) → ((w : meaning.World) → operations.perform (deed_view p x o) (drop base (views self.old.values.items)) w ≡ deeds.deed w answer) → Goes p (works p x base (what.Perform o)) self.old result self.new }
+    {
+        self.cut(base);
+        match answer {
+            Ok(value) => {
+                self.give(value)?;
+                Ok(())
+            }
+            Err(panic) => Err(Exit::Panic(panic)),
+        }
+    }
+
+    /// The same, with the operands as a list.
+    fn perform_taken(
         &mut self,
         alloc: Global,
         checked: &Checked,

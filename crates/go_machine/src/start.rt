@@ -146,11 +146,14 @@ impl<'a> Engine<'a> {
             Plan::Breaks => Err(Exit::Break),
             Plan::Continues => Err(Exit::Continue),
             Plan::Falls => Err(Exit::Fallthrough),
-            Plan::Sequence => self.begin_sequence(node, 0),
+            Plan::Sequence => self.lay(node, What::Sequence { next: 0 }),
             Plan::Branch => self.lay_value(node, What::Condition, 0),
             Plan::Select { tag, default } => self.lay_value(node, What::Tag { tag, default }, 0),
-            Plan::CaseOf(values) => self.begin_sequence(node, values as usize),
-            Plan::Otherwise => self.begin_sequence(node, 0),
+            Plan::CaseOf(values) => {
+                let next = values as usize;
+                self.lay(node, What::Sequence { next })
+            }
+            Plan::Otherwise => self.lay(node, What::Sequence { next: 0 }),
             Plan::Iterate(targets, items) => self.items(node, targets, items),
             Plan::Loop(condition) => self.lay_value(node, What::Turn(condition), 0),
         }

@@ -5,6 +5,7 @@ use crate::start::count;
 use crate::task::What;
 use go_runs::exit::{Exit, Values};
 use go_runs::places::operand;
+use go_typed::checked::Checked;
 use go_typed::node::TypedNode;
 use go_values::Value;
 use std::alloc::Global;
@@ -56,42 +57,77 @@ impl<'a> Engine<'a> {
     }
 
     /// The condition of an `if` (Go specification, "If statements").
-    pub fn condition(&mut self, node: &'a TypedNode, base: usize) -> Result<(), Exit>
-        ensures { (p : PackageView) → Known (length p.types.shapes) node.now → Goes p (works p node.now base what.Condition) self.old result self.new }
+    pub fn condition(
+        &mut self,
+        alloc: Global,
+        checked: &Checked,
+        node: &'a TypedNode,
+        base: usize,
+    ) -> Result<(), Exit>
+        requires { Known (length checked.now.types.shapes) node.now }
+        ensures { Goes checked.now (works checked.now node.now base what.Condition) self.old result self.new }
     {
         self.cut(base);
-        self.lay_value(node, What::Branch, 1)
+        self.lay_begun(alloc, checked, node, What::Branch, 1)
     }
 
     /// The branch of an `if` (Go specification, "If statements").
-    pub fn branch(&mut self, node: &'a TypedNode, base: usize) -> Result<(), Exit>
-        ensures { (p : PackageView) → Known (length p.types.shapes) node.now → Goes p (works p node.now base what.Branch) self.old result self.new }
+    pub fn branch(
+        &mut self,
+        alloc: Global,
+        checked: &Checked,
+        node: &'a TypedNode,
+        base: usize,
+    ) -> Result<(), Exit>
+        requires { Known (length checked.now.types.shapes) node.now }
+        ensures { Goes checked.now (works checked.now node.now base what.Branch) self.old result self.new }
     {
         if self.test(base) {
-            self.ask_block(node, 2)
+            self.ask_block(alloc, checked, node, 2)
         } else {
-            self.ask_block(node, 3)
+            self.ask_block(alloc, checked, node, 3)
         }
     }
 
     /// The statements from one on (Go specification, "Blocks").
-    pub fn sequence(&mut self, node: &'a TypedNode, base: usize, next: usize) -> Result<(), Exit>
-        ensures { (p : PackageView) → Known (length p.types.shapes) node.now → Goes p (works p node.now base (what.Sequence next)) self.old result self.new }
+    pub fn sequence(
+        &mut self,
+        alloc: Global,
+        checked: &Checked,
+        node: &'a TypedNode,
+        base: usize,
+        next: usize,
+    ) -> Result<(), Exit>
+        requires { Known (length checked.now.types.shapes) node.now }
+        ensures { Goes checked.now (works checked.now node.now base (what.Sequence next)) self.old result self.new }
     {
         self.cut(base);
         if next < count(node) {
-            self.lay_value(node, What::Sequence { next: next + 1 }, next)
+            self.lay_begun(
+                alloc,
+                checked,
+                node,
+                What::Sequence { next: next + 1 },
+                next,
+            )
         } else {
             Ok(())
         }
     }
 
     /// Begins with the statements from one on, behind all values (Go specification, "Blocks").
-    pub fn begin_sequence(&mut self, node: &'a TypedNode, next: usize) -> Result<(), Exit>
-        ensures { (p : PackageView) → Known (length p.types.shapes) node.now → Goes p (lays p node.now (what.Sequence next)) self.old result self.new }
+    pub fn begin_sequence(
+        &mut self,
+        alloc: Global,
+        checked: &Checked,
+        node: &'a TypedNode,
+        next: usize,
+    ) -> Result<(), Exit>
+        requires { Known (length checked.now.types.shapes) node.now }
+        ensures { Goes checked.now (lays checked.now node.now (what.Sequence next)) self.old result self.new }
     {
         let base = self.top();
-        self.sequence(node, base, next)
+        self.sequence(alloc, checked, node, base, next)
     }
 
     /// The clauses from one on, as far as each falls through (Go specification, "Fallthrough statements").
@@ -115,42 +151,71 @@ impl<'a> Engine<'a> {
     }
 
     /// The condition of a turn of a loop (Go specification, "For statements with for clause").
-    pub fn turn(&mut self, node: &'a TypedNode, base: usize, condition: bool) -> Result<(), Exit>
-        ensures { (p : PackageView) → Known (length p.types.shapes) node.now → Goes p (works p node.now base (what.Turn condition)) self.old result self.new }
+    pub fn turn(
+        &mut self,
+        alloc: Global,
+        checked: &Checked,
+        node: &'a TypedNode,
+        base: usize,
+        condition: bool,
+    ) -> Result<(), Exit>
+        requires { Known (length checked.now.types.shapes) node.now }
+        ensures { Goes checked.now (works checked.now node.now base (what.Turn condition)) self.old result self.new }
     {
         self.cut(base);
         if condition {
-            self.lay_value(node, What::Block, 1)
+            self.lay_begun(alloc, checked, node, What::Block, 1)
         } else {
             self.lay_given(node, What::Block, Value::Truth(true))
         }
     }
 
     /// Begins with a turn of a loop, behind all values (Go specification, "For statements with for clause").
-    pub fn begin_turn(&mut self, node: &'a TypedNode, condition: bool) -> Result<(), Exit>
-        ensures { (p : PackageView) → Known (length p.types.shapes) node.now → Goes p (lays p node.now (what.Turn condition)) self.old result self.new }
+    pub fn begin_turn(
+        &mut self,
+        alloc: Global,
+        checked: &Checked,
+        node: &'a TypedNode,
+        condition: bool,
+    ) -> Result<(), Exit>
+        requires { Known (length checked.now.types.shapes) node.now }
+        ensures { Goes checked.now (lays checked.now node.now (what.Turn condition)) self.old result self.new }
     {
         let base = self.top();
-        self.turn(node, base, condition)
+        self.turn(alloc, checked, node, base, condition)
     }
 
     /// The block of a turn, for which a turn is spent (Go specification, "For statements with for clause").
-    pub fn block(&mut self, node: &'a TypedNode, base: usize) -> Result<(), Exit>
-        ensures { (p : PackageView) → Known (length p.types.shapes) node.now → Goes p (works p node.now base what.Block) self.old result self.new }
+    pub fn block(
+        &mut self,
+        alloc: Global,
+        checked: &Checked,
+        node: &'a TypedNode,
+        base: usize,
+    ) -> Result<(), Exit>
+        requires { Known (length checked.now.types.shapes) node.now }
+        ensures { Goes checked.now (works checked.now node.now base what.Block) self.old result self.new }
     {
         if self.test(base) {
             self.machine.spend()?;
-            self.lay_block(node, What::Round, 3)
+            self.lay_block(alloc, checked, node, What::Round, 3)
         } else {
             Ok(())
         }
     }
 
     /// What stands behind the block of a turn (Go specification, "For statements with for clause").
-    pub fn round(&mut self, node: &'a TypedNode, base: usize) -> Result<(), Exit>
-        ensures { (p : PackageView) → Known (length p.types.shapes) node.now → Goes p (works p node.now base what.Round) self.old result self.new }
+    pub fn round(
+        &mut self,
+        alloc: Global,
+        checked: &Checked,
+        node: &'a TypedNode,
+        base: usize,
+    ) -> Result<(), Exit>
+        requires { Known (length checked.now.types.shapes) node.now }
+        ensures { Goes checked.now (works checked.now node.now base what.Round) self.old result self.new }
     {
         self.cut(base);
-        self.lay_value(node, What::Again, 2)
+        self.lay_begun(alloc, checked, node, What::Again, 2)
     }
 }

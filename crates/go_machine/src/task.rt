@@ -142,11 +142,11 @@ pub enum What {
         items: Items,
     },
     /// The items from one on.
-    Item(Iteration),
+    Item(Box<Iteration>),
     /// The assignment of that item and the block, behind the operands of the targets.
-    ItemTo(Iteration),
+    ItemTo(Box<Iteration>),
     /// Behind the block of a loop over items: the items from that one on.
-    ItemRound(Iteration),
+    ItemRound(Box<Iteration>),
     /// Behind a body: the frame of the caller.
     Leave(Vec<Value>),
 }

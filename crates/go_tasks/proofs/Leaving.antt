@@ -1,6 +1,6 @@
 -- What ways out through tasks come to.
 use Rattle.std.proofs.Common.{◌≡◌, ℕ, List, [], ◌∷◌, take, length, refl, sym, ap, ◌∙◌, subst, arith, ◌≢◌, Result, Ok, Err}
-use Rattle.std.specs.Prelude.{Bool, true, false, Vec}
+use Rattle.std.specs.Prelude.{Bool, true, false, Box, Vec}
 use Rattle.std.specs.declared.alloc.Global.{Global}
 use Rattle.go_typed.specs.declared.node.TypedNode.{TypedNode}
 use Rattle.go_typed.specs.Packages.{PackageView}
@@ -64,7 +64,7 @@ module _ (p : PackageView) (n : ℕ) (x : TypedNode) (b : ℕ) (r : Rest) (vs : 
   unfolding task_rest
   clause_left next d f w t = refl
 
-  pub items_round : (g : Iteration) → Same (works p x b (what.ItemRound g) n r vs) (works p x b (what.Item g) n r vs)
+  pub items_round : (g : Box Iteration Global) → Same (works p x b (what.ItemRound g) n r vs) (works p x b (what.Item g) n r vs)
   unfolding task_rest
   items_round g d f w t = refl
 
@@ -77,11 +77,11 @@ module _ (p : PackageView) (n : ℕ) (x : TypedNode) (b : ℕ) (r : Rest) (vs : 
   unfolding task_rest
   block_breaks d f w t = refl
 
-  pub items_continue : (g : Iteration) → Same (outs p x b (what.ItemRound g) exit.Continue n r vs) (works p x b (what.Item g) n r vs)
+  pub items_continue : (g : Box Iteration Global) → Same (outs p x b (what.ItemRound g) exit.Continue n r vs) (works p x b (what.Item g) n r vs)
   unfolding task_rest
   items_continue g d f w t = refl
 
-  pub items_break : (g : Iteration) → Same (outs p x b (what.ItemRound g) exit.Break n r vs) (r.go (take b vs))
+  pub items_break : (g : Box Iteration Global) → Same (outs p x b (what.ItemRound g) exit.Break n r vs) (r.go (take b vs))
   unfolding task_rest
   items_break g d f w t = refl
 
@@ -115,7 +115,7 @@ module _ (p : PackageView) (n : ℕ) (x : TypedNode) (b : ℕ) (r : Rest) (vs : 
   block_lets exit.Undecided q d f w t = refl
   block_lets exit.Memory q d f w t = refl
 
-  pub items_let : (g : Iteration) (e : Exit) → lets_block e ≡ true → Same (outs p x b (what.ItemRound g) e n r vs) (out_by e r (take b vs))
+  pub items_let : (g : Box Iteration Global) (e : Exit) → lets_block e ≡ true → Same (outs p x b (what.ItemRound g) e n r vs) (out_by e r (take b vs))
   unfolding task_rest
   items_let g (exit.Return us) q d f w t = refl
   items_let g exit.Break q d f w t = absurd cc
@@ -207,7 +207,7 @@ lets_clause_by (exit.Panic k) h g = refl
 lets_clause_by exit.Undecided h g = refl
 lets_clause_by exit.Memory h g = refl
 
-pub drops_by : (w : What) → w ≢ what.Value → w ≢ what.Find → ((k : ℕ) → w ≢ what.Fall k) → w ≢ what.Round → ((g : Iteration) → w ≢ what.ItemRound g) → ((frame : Vec Value Global) → w ≢ what.Leave frame) → drops w ≡ true
+pub drops_by : (w : What) → w ≢ what.Value → w ≢ what.Find → ((k : ℕ) → w ≢ what.Fall k) → w ≢ what.Round → ((g : Box Iteration Global) → w ≢ what.ItemRound g) → ((frame : Vec Value Global) → w ≢ what.Leave frame) → drops w ≡ true
 drops_by what.Value h1 h2 h3 h4 h5 h6 = absurd (h1 refl)
 drops_by what.Find h1 h2 h3 h4 h5 h6 = absurd (h2 refl)
 drops_by (what.Fall k) h1 h2 h3 h4 h5 h6 = absurd (h3 k refl)

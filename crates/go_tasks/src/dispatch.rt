@@ -50,9 +50,9 @@ pub fn dispatch<'a>(
         What::Store { targets, values } => {
             store_values(engine, alloc, checked, node, base, targets, values)
         }
-        What::Sequence { next } => engine.sequence(node, base, next),
-        What::Condition => engine.condition(node, base),
-        What::Branch => engine.branch(node, base),
+        What::Sequence { next } => engine.sequence(alloc, checked, node, base, next),
+        What::Condition => engine.condition(alloc, checked, node, base),
+        What::Branch => engine.branch(alloc, checked, node, base),
         What::Tag { tag, default } => engine.tag(node, base, tag, default),
         What::Clauses { next, default } => clauses(engine, checked, node, base, next, default),
         What::Clause {
@@ -66,17 +66,17 @@ pub fn dispatch<'a>(
             engine.cut(base);
             Ok(())
         }
-        What::Turn(condition) => engine.turn(node, base, condition),
-        What::Block => engine.block(node, base),
-        What::Round => engine.round(node, base),
-        What::Again => engine.again(node, base),
+        What::Turn(condition) => engine.turn(alloc, checked, node, base, condition),
+        What::Block => engine.block(alloc, checked, node, base),
+        What::Round => engine.round(alloc, checked, node, base),
+        What::Again => engine.again(alloc, checked, node, base),
         What::Index => index(engine, checked, node, base),
         What::Tested { end } => tested(engine, node, base, end),
         What::Behind { index } => found(engine, alloc, node, base, index),
         What::Items {
             targets,
             items: kind,
-        } => items(engine, node, base, targets, kind),
+        } => items(engine, alloc, node, base, targets, kind),
         What::Item(iteration) => item(engine, node, base, iteration),
         What::ItemTo(iteration) => item_to(engine, alloc, checked, node, base, iteration),
         What::ItemRound(iteration) => item(engine, node, base, iteration),

@@ -26,7 +26,10 @@ fn out_of_block<'a>(
     ensures { (p : PackageView) → Known (length p.types.shapes) node.now → Goes p (outs p node.now base what.Round exit) engine.old result engine.new }
 {
     match exit {
-        Exit::Continue => engine.round(node, base),
+        Exit::Continue => {
+            engine.push(node, base, What::Round)?;
+            Ok(())
+        }
         Exit::Break => {
             engine.cut(base);
             Ok(())
@@ -43,7 +46,7 @@ fn out_of_items<'a>(
     engine: &mut Engine<'a>,
     node: &'a TypedNode,
     base: usize,
-    iteration: Iteration,
+    iteration: Box<Iteration>,
     exit: Exit,
 ) -> Result<(), Exit>
     ensures { (p : PackageView) → IsFit (length p.types.shapes) node.now (what.ItemRound iteration) → Goes p (outs p node.now base (what.ItemRound iteration) exit) engine.old result engine.new }

@@ -1,16 +1,14 @@
-use Rattle.std.proofs.Common.{refl, sym, subst, Ok, Err}
+use Rattle.std.proofs.Common.{List, [], ◌∷◌, refl, sym, subst}
 use Rattle.std.proofs.lemmas.Result.{err_from_is_err_and}
-use Rattle.go_types.specs.Tables.{Table, type_of, rights_of}
+use Rattle.go_types.specs.Tables.{type_of, rights_of}
 use Rattle.go_typed.specs.Views.{all_seen}
 use Rattle.go_meaning.specs.Values as meant
-use Rattle.go_meaning.specs.Values.{nth}
 use Rattle.go_meaning.specs.Computations.{Outcome}
 use Rattle.go_meaning.specs.Doings.{at}
 use Rattle.go_meaning.specs.Operations.{perform}
 use Rattle.go_eval.specs.Views.{operation_view}
-use Rattle.go_values.specs.Views.{views}
+use Rattle.go_values.specs.Views.{view, views}
 use Rattle.go_values.specs.Worlds.{world_view}
-use Rattle.go_operations.specs.Performing.{IsPerformed}
 use Rattle.go_runs.specs.Machines.{outcome}
 use Rattle.go_runs.specs.Programs.{doings}
 use Rattle.go_machine.specs.Written.{IsWritten}
@@ -23,26 +21,21 @@ returns-clause-is c = λ n d.
     let p = c.args.checked.now in
     let xs = c.args.parts.now in
     let o = operation_view (rights_of p.types) (type_of p.types.shapes) (all_seen p.types xs) c.args.operation in
-    let us = views c.args.given.items in
+    let us : List meant.Value = view c.args.first ∷ view c.args.second ∷ [] in
     let X = at (doings p n xs) 0 in
     let m = c.args.machine.now in
-    let m1 = record m { world = c.perform.new.world } in
-    let vs = given_values c.in_ok-computed.computed in
-    let done : IsPerformed (Ok c.in_ok-computed.computed) (perform o us (world_view m.world)) (world_view m.world) (world_view m1.world) =
-    subst (λ (t : Table). IsPerformed (Ok c.in_ok-computed.computed) (perform (operation_view (rights_of t) (type_of t.shapes) (all_seen t xs) c.args.operation) us (world_view m.world)) (world_view m.world) (world_view m1.world)) c.types.ensures.types c.in_ok-computed.ensures in
-    subst (λ (oc : Outcome). IsWritten oc c.store.result c.store.new.machine) (sym (operated o us (X.store (views c.args.operands.now)) d m m1 vs (performed c.in_ok-computed.computed (perform o us (world_view m.world)) (world_view m.world) (world_view m1.world) done) refl refl))
+    let m1 = record m { world = c.operated.new.world } in
+    let vs = given_values c.in_ok-given.given in
+    subst (λ (oc : Outcome). IsWritten oc c.store.result c.store.new.machine) (sym (operated o us (X.store (views c.args.operands.now)) d m m1 vs (performed c.in_ok-given.given (perform o us (world_view m.world)) (world_view m.world) (world_view m1.world) c.in_ok-given.ensures) refl refl))
     (subst (λ (v : meant.Value). IsWritten (outcome (X.store (views c.args.operands.now) v) d m1) c.store.result c.store.new.machine) c.or_nil-value.ensures (c.store.ensures.is n d))
 
-pub returns-in_err-computed-clause-is : goal.returns-in_err-computed-clause-is
-returns-in_err-computed-clause-is c = λ n d.
+pub returns-in_err-given-clause-is : goal.returns-in_err-given-clause-is
+returns-in_err-given-clause-is c = λ n d.
     let p = c.args.checked.now in
     let xs = c.args.parts.now in
     let o = operation_view (rights_of p.types) (type_of p.types.shapes) (all_seen p.types xs) c.args.operation in
     let m = c.args.machine.now in
-    let m1 = record m { world = c.perform.new.world } in
-    let us = views c.args.given.items in
-    let s = c.in_err-computed.field-0.0 in
-    let done : IsPerformed (Err s) (perform o us (world_view m.world)) (world_view m.world) (world_view m1.world) =
-    subst (λ (t : Table). IsPerformed (Err s) (perform (operation_view (rights_of t) (type_of t.shapes) (all_seen t xs) c.args.operation) us (world_view m.world)) (world_view m.world) (world_view m1.world)) c.types.ensures.types c.in_err-computed.ensures in
+    let m1 = record m { world = c.operated.new.world } in
+    let us : List meant.Value = view c.args.first ∷ view c.args.second ∷ [] in
     let q = err_from_is_err_and c.from_residual.result c.from_residual.ensures.1 in
-    rw q.1 (not_operated o us ((at (doings p n xs) 0).store (views c.args.operands.now)) d m m1 s q.0 done refl refl q.2)
+    rw q.1 (not_operated o us ((at (doings p n xs) 0).store (views c.args.operands.now)) d m m1 c.in_err-given.field-0.0 q.0 c.in_err-given.ensures refl refl q.2)

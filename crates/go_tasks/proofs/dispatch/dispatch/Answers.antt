@@ -76,15 +76,15 @@ returns-in-Store c =
 
 pub returns-in-Sequence : goal.returns-in-Sequence
 returns-in-Sequence c =
-    rw c.in-Sequence.is (c.sequence.ensures c.args.checked.now c.requires.0)
+    rw c.in-Sequence.is c.sequence.ensures
 
 pub returns-in-Condition : goal.returns-in-Condition
 returns-in-Condition c =
-    rw c.in-Condition.is (c.condition.ensures c.args.checked.now c.requires.0)
+    rw c.in-Condition.is c.condition.ensures
 
 pub returns-in-Branch : goal.returns-in-Branch
 returns-in-Branch c =
-    rw c.in-Branch.is (c.branch-engine.ensures c.args.checked.now c.requires.0)
+    rw c.in-Branch.is c.branch-engine.ensures
 
 pub returns-in-Tag : goal.returns-in-Tag
 returns-in-Tag c =
@@ -108,19 +108,19 @@ returns-in-Match c =
 
 pub returns-in-Turn : goal.returns-in-Turn
 returns-in-Turn c =
-    rw c.in-Turn.is (c.turn.ensures c.args.checked.now c.requires.0)
+    rw c.in-Turn.is c.turn.ensures
 
 pub returns-in-Block : goal.returns-in-Block
 returns-in-Block c =
-    rw c.in-Block.is (c.block.ensures c.args.checked.now c.requires.0)
+    rw c.in-Block.is c.block.ensures
 
 pub returns-in-Round : goal.returns-in-Round
 returns-in-Round c =
-    rw c.in-Round.is (c.round.ensures c.args.checked.now c.requires.0)
+    rw c.in-Round.is c.round.ensures
 
 pub returns-in-Again : goal.returns-in-Again
 returns-in-Again c =
-    rw c.in-Again.is (c.again.ensures c.args.checked.now c.requires.0)
+    rw c.in-Again.is c.again.ensures
 
 pub returns-in-Index : goal.returns-in-Index
 returns-in-Index c =

@@ -3,14 +3,14 @@ use Rattle.go_values.specs.Views.{views}
 use Rattle.go_runs.specs.declared.exit.Exit.TheVariants as exit
 use Rattle.go_machine.specs.declared.task.What.TheVariants as what
 use Rattle.go_machine.specs.Engines.{works}
-use Rattle.go_machine.proofs.Going.{goes_same, goes_given}
+use Rattle.go_machine.proofs.Going.{goes_laid, goes_given}
 use Rattle.go_calls.specs.Outs.{outs}
 use Rattle.go_tasks.proofs.Leaving.{goes_out, block_continues, block_breaks, block_lets, lets_block_by}
 use Rattle.go_tasks.proofs.out.out_of_block.Goals as goal
 
-pub returns-in-Continue : goal.returns-in-Continue
-returns-in-Continue c = λ p h. let x = c.args.node.now in let b = c.args.base in let m = c.args.engine.now in
-    rw c.in-Continue.is (goes_same p (outs p x b what.Round exit.Continue) (works p x b what.Round) m c.round.result c.round.new.self (c.round.ensures p h) (λ n s. block_continues p n x b s (views m.values.items)))
+pub returns-in_ok-push-in-Continue : goal.returns-in_ok-push-in-Continue
+returns-in_ok-push-in-Continue c = λ p h. let x = c.args.node.now in let b = c.args.base in let m = c.args.engine.now in
+    rw c.in-Continue.is (goes_laid p (outs p x b what.Round exit.Continue) x b what.Round m c.push.new.self (tt {0}) (h, tt) c.in_ok-push-in-Continue.ensures (λ n s. block_continues p n x b s (views m.values.items)))
 
 pub returns-in-Break : goal.returns-in-Break
 returns-in-Break c = λ p h. let x = c.args.node.now in let b = c.args.base in let m = c.args.engine.now in

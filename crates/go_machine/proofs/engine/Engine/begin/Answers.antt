@@ -214,8 +214,8 @@ returns-in-Sequence c =
     let x = c.args.node.now in
     let old = c.args.self.now in
     let vs = views old.values.items in
-    subst (λ (q : Plan). Goes p (begins p x q) old c.begin_sequence.result c.begin_sequence.new.self) (sym c.in-Sequence.is)
-    (goes_same p (begins p x plan.Sequence) (lays p x (what.Sequence 0)) old c.begin_sequence.result c.begin_sequence.new.self (c.begin_sequence.ensures p c.requires.node) (λ n s. begins_sequence p n x s vs))
+    subst (λ (q : Plan). Goes p (begins p x q) old c.lay.result c.lay.new.self) (sym c.in-Sequence.is)
+    (goes_same p (begins p x plan.Sequence) (lays p x (what.Sequence 0)) old c.lay.result c.lay.new.self (c.lay.ensures p (c.requires.node, tt)) (λ n s. begins_sequence p n x s vs))
 
 pub returns-in-Branch : goal.returns-in-Branch
 returns-in-Branch c =
@@ -241,8 +241,8 @@ returns-in-CaseOf c =
     let x = c.args.node.now in
     let old = c.args.self.now in
     let vs = views old.values.items in
-    subst (λ (q : Plan). Goes p (begins p x q) old c.begin_sequence-in-CaseOf.result c.begin_sequence-in-CaseOf.new.self) (sym c.in-CaseOf.is)
-    (goes_same p (begins p x (plan.CaseOf c.in-CaseOf.values)) (lays p x (what.Sequence c.in-CaseOf.values)) old c.begin_sequence-in-CaseOf.result c.begin_sequence-in-CaseOf.new.self (c.begin_sequence-in-CaseOf.ensures p c.requires.node) (λ n s. begins_case p n x s vs c.in-CaseOf.values))
+    subst (λ (q : Plan). Goes p (begins p x q) old c.lay-in-CaseOf.result c.lay-in-CaseOf.new.self) (sym c.in-CaseOf.is)
+    (goes_same p (begins p x (plan.CaseOf c.in-CaseOf.values)) (lays p x (what.Sequence c.in-CaseOf.values)) old c.lay-in-CaseOf.result c.lay-in-CaseOf.new.self (c.lay-in-CaseOf.ensures p (c.requires.node, tt)) (λ n s. begins_case p n x s vs c.in-CaseOf.values))
 
 pub returns-in-Otherwise : goal.returns-in-Otherwise
 returns-in-Otherwise c =
@@ -250,8 +250,8 @@ returns-in-Otherwise c =
     let x = c.args.node.now in
     let old = c.args.self.now in
     let vs = views old.values.items in
-    subst (λ (q : Plan). Goes p (begins p x q) old c.begin_sequence-in-Otherwise.result c.begin_sequence-in-Otherwise.new.self) (sym c.in-Otherwise.is)
-    (goes_same p (begins p x plan.Otherwise) (lays p x (what.Sequence 0)) old c.begin_sequence-in-Otherwise.result c.begin_sequence-in-Otherwise.new.self (c.begin_sequence-in-Otherwise.ensures p c.requires.node) (λ n s. begins_otherwise p n x s vs))
+    subst (λ (q : Plan). Goes p (begins p x q) old c.lay-in-Otherwise.result c.lay-in-Otherwise.new.self) (sym c.in-Otherwise.is)
+    (goes_same p (begins p x plan.Otherwise) (lays p x (what.Sequence 0)) old c.lay-in-Otherwise.result c.lay-in-Otherwise.new.self (c.lay-in-Otherwise.ensures p (c.requires.node, tt)) (λ n s. begins_otherwise p n x s vs))
 
 pub returns-in-Loop : goal.returns-in-Loop
 returns-in-Loop c =

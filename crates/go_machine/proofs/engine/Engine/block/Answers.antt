@@ -9,7 +9,8 @@ use Rattle.go_runs.specs.declared.exit.Exit.{Exit}
 use Rattle.go_machine.proofs.engine.Engine.block.Goals as goal
 
 pub returns-else-test : goal.returns-else-test
-returns-else-test c = λ p h.
+returns-else-test c =
+    let p = c.args.checked.now in
     let x = c.args.node.now in
     let b = c.args.base in
     let old = c.args.self.now in
@@ -17,17 +18,19 @@ returns-else-test c = λ p h.
     goes_given p (works p x b what.Block) old c.test.new.self (tt {0}) (take b vs) c.test.ensures.kept c.test.ensures.values (λ n s. block_false p n x b s vs (sym c.test.ensures.holds ∙ c.if-test.false))
 
 pub returns-in_ok-spend : goal.returns-in_ok-spend
-returns-in_ok-spend c = λ p h.
+returns-in_ok-spend c =
+    let p = c.args.checked.now in
     let x = c.args.node.now in
     let b = c.args.base in
     let old = c.args.self.now in
     let vs = views old.values.items in
     let m = record c.test.new.self { machine = c.spend.new.self } in
-    goes_spent p (works p x b what.Block) (lays_value p x what.Round 3) old c.test.new.self m c.lay_block.result c.lay_block.new.self (take b vs) c.test.ensures.kept c.test.ensures.values refl refl refl c.in_ok-spend.ensures (c.lay_block.ensures p (h, tt))
+    goes_spent p (works p x b what.Block) (lays_value p x what.Round 3) old c.test.new.self m c.lay_block.result c.lay_block.new.self (take b vs) c.test.ensures.kept c.test.ensures.values refl refl refl c.in_ok-spend.ensures c.lay_block.ensures
     (λ n s. block_true p n x b s vs (sym c.test.ensures.holds ∙ c.if-test.true))
 
 pub returns-in_err-spend : goal.returns-in_err-spend
-returns-in_err-spend c = λ p h.
+returns-in_err-spend c =
+    let p = c.args.checked.now in
     let x = c.args.node.now in
     let b = c.args.base in
     let old = c.args.self.now in

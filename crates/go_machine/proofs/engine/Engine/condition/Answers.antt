@@ -7,10 +7,11 @@ use Rattle.go_machine.proofs.Stepping.{condition_next}
 use Rattle.go_machine.proofs.engine.Engine.condition.Goals as goal
 
 pub returns : goal.returns
-returns c = λ p h.
+returns c =
+    let p = c.args.checked.now in
     let x = c.args.node.now in
     let b = c.args.base in
     let old = c.args.self.now in
     let vs = views old.values.items in
-    goes_kept p (works p x b what.Condition) (lays_value p x what.Branch 1) old c.cut.new.self c.lay_value.result c.lay_value.new.self (take b vs) c.cut.ensures.kept c.cut.ensures.values (c.lay_value.ensures p (h, tt))
+    goes_kept p (works p x b what.Condition) (lays_value p x what.Branch 1) old c.cut.new.self c.lay_begun.result c.lay_begun.new.self (take b vs) c.cut.ensures.kept c.cut.ensures.values c.lay_begun.ensures
     (λ n s. condition_next p n x b s vs)

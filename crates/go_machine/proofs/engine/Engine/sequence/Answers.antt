@@ -11,17 +11,19 @@ use Rattle.go_machine.proofs.Begins.{as_many}
 use Rattle.go_machine.proofs.engine.Engine.sequence.Goals as goal
 
 pub returns-then-next-count : goal.returns-then-next-count
-returns-then-next-count c = λ p h.
+returns-then-next-count c =
+    let p = c.args.checked.now in
     let x = c.args.node.now in
     let b = c.args.base in
     let old = c.args.self.now in
     let vs = views old.values.items in
     let k = c.args.next in
-    goes_kept p (works p x b (what.Sequence k)) (lays_value p x (what.Sequence (k + 1)) k) old c.cut.new.self c.lay_value.result c.lay_value.new.self (take b vs) c.cut.ensures.kept c.cut.ensures.values (c.lay_value.ensures p (h, tt))
+    goes_kept p (works p x b (what.Sequence k)) (lays_value p x (what.Sequence (k + 1)) k) old c.cut.new.self c.lay_begun.result c.lay_begun.new.self (take b vs) c.cut.ensures.kept c.cut.ensures.values c.lay_begun.ensures
     (λ n s. sequence_next p n x b s vs k (k + 1) (omega arith) (let e : length (parts_of p n x) ≡ length (out-TypedNode x).parts.items = as_many p n (out-TypedNode x).parts.items in omega (arith, e, c.count.ensures, c.if-next-count.true)))
 
 pub returns-else-next-count : goal.returns-else-next-count
-returns-else-next-count c = λ p h.
+returns-else-next-count c =
+    let p = c.args.checked.now in
     let x = c.args.node.now in
     let b = c.args.base in
     let old = c.args.self.now in
