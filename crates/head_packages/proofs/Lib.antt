@@ -1,1 +1,1 @@
-mod Packages
+pub mod Packages

@@ -18,7 +18,7 @@ use Rattle.head_meanings.specs.Lookups.{KeepsLookups}
 use Rattle.head_locals.specs.Locals.{SameLocals, local_in_file, own_locals}
 use Rattle.head_packages.specs.Packages.{IsResolved, SameDeclared, KeepsNames}
 
-units_same : (names : List (List ℕ)) (ss : List Source) → AreNamed names ss → units_of (files_of names ss) ≡ map unit_of ss
+pub units_same : (names : List (List ℕ)) (ss : List Source) → AreNamed names ss → units_of (files_of names ss) ≡ map unit_of ss
 units_same [] [] e = refl
 units_same [] (s ∷ ss) e = absurd (omega (arith, e))
 units_same (w ∷ ws) [] e = absurd (omega (arith, e))
@@ -36,7 +36,7 @@ types_moved n b [] = refl
 types_moved n b (d ∷ ds) = ap (λ bs. is_type d.entity ∷ bs) (types_moved n b ds)
 
 -- the names of a package are those of its files
-by_units : (p : Package) (names : List (List ℕ)) → IsResolved p names → p.uses ≡ uses (units_of (files_of names p.sources))
+pub by_units : (p : Package) (names : List (List ℕ)) → IsResolved p names → p.uses ≡ uses (units_of (files_of names p.sources))
 by_units p names h = h.uses ∙ ap uses (sym (units_same names p.sources h.named))
 
 text_by : (p : Package) (names : List (List ℕ)) → IsResolved p names → (n t : ℕ) → text_at p n t ≡ by_files.text_at (files_of names p.sources) n t

@@ -1,0 +1,9 @@
+mod Parts
+mod Settling
+mod Operators
+mod Indexes
+mod Calls
+mod Literals
+mod TypeNodes
+mod Nodes
+mod Typing
