@@ -36,7 +36,7 @@ use Rattle.go_names.proofs.Inside.{true_false}
 use Rattle.go_names.proofs.Layers.{derives_layered}
 use Rattle.go_names.proofs.Nesting.{each_map, file_nested, file_follows}
 use Rattle.go_names.proofs.Rising.{derives_laid}
-use Rattle.go_heads.specs.Heads.{File, IsRead, in_bodies}
+use Rattle.go_heads.specs.Heads.{File, IsRead, in_bodies, without_body}
 use Rattle.go_heads.proofs.Functions.{Framed, framed}
 use Rattle.go_heads.proofs.Outlines.{function_kind}
 use Rattle.head_objects.proofs.Declared.{each_both}
@@ -62,6 +62,10 @@ second_false : (b c : Bool) → (b ≡ true → c ≡ false) → (b && c) ≡ fa
 second_false true c h = h refl
 second_false false c h = refl
 
+third_false : (b c d : Bool) → (b ≡ true → (c && d) ≡ false) → (b && c && d) ≡ false
+third_false true c d h = h refl
+third_false false c d h = refl
+
 not_there : (a t z x : ℕ) → a ≤ t → t < z → (x < a) ⊎ (z ≤ x) → nat_eq x t ≡ false
 not_there a t z x lo hi (inl lt) = grind (arith, nat_tests)
 not_there a t z x lo hi (inr le) = grind (arith, nat_tests)
@@ -73,7 +77,7 @@ not_covered a t z from to lo hi (inr le) = ap (λ b. b && nat_lt t to) (let e : 
 module _ (n a z t : ℕ) (lo : a ≤ t) (hi : t < z) where
   away_by : (k : ℕ) (s : Scope) (b : Block) → (nat_eq k n ≡ true → is_package b ≡ false → (s.to ≤ a) ⊎ (z ≤ s.from)) → IsAway n t (extent_by k s b)
   away_by k s block.Package h e = absurd (true_false false e refl)
-  away_by k s (block.Local i) h e = second_false (nat_eq k n) (nat_le s.from t && nat_lt t s.to) (λ f. not_covered a t z s.from s.to lo hi (h f refl))
+  away_by k s (block.Local i) h e = third_false (nat_eq k n) (nat_le s.from t) (nat_lt t s.to) (λ f. not_covered a t z s.from s.to lo hi (h f refl))
 
   aside : (k : Numbers) (d : Found) → IsApart n a z d → IsAside n t (record { name = d.name; extent = extent_of d; object = own_number k d.it.block; source = Some d })
   aside k d h = record {
@@ -217,7 +221,7 @@ module _ (n : ℕ) (f : File) (read : IsRead f) (t : Tree) (stands : Stands (kin
   pub clear : p (first t) ≡ false
   clear =
       let frame : Framed p t = framed (kinds f.tokens.tokens) p t stands.function stands.sits in
-      let lt = tree_order _ frame.order in
+      let lt : first (without_body t) < last (without_body t) = tree_order (without_body t) frame.order in
       frame.clear (first t) (omega (arith, frame.begins)) (omega (arith, frame.begins, lt))
 
   pub declared_first : Begins t (events (file_context (last f.tree)) t)

@@ -98,19 +98,18 @@ module _ (old new : List File) where
     in_files [] [] x y p q e fs gs ns ms go = go
     in_files [] (u ∷ us) x y p q e fs gs ns ms go = absurd (some_not_none (bare_b u) (map bare_b us) e)
     in_files (t ∷ ts) [] x y p q e fs gs ns ms go = absurd (some_not_none (bare_a t) (map bare_a ts) (sym e))
-    in_files (t ∷ ts) (u ∷ us) x y p q e fs gs ns ms go = λ k f g s r. at k f g s r
+    in_files (t ∷ ts) (u ∷ us) x y p q e fs gs ns ms go =
+        at (in_files ts us x.1 y.1 p.1 q.1 (others_same (bare_b u) (bare_a t) (map bare_b us) (map bare_a ts) e) fs gs ns ms go)
       where
-        rest : Paired (map in_a ts ++ fs) (map in_b us ++ gs) (map (λ (t : Tree). n) ts ++ ns) (map (λ (t : Tree). n) us ++ ms)
-        rest = in_files ts us x.1 y.1 p.1 q.1 (others_same (bare_b u) (bare_a t) (map bare_b us) (map bare_a ts) e) fs gs ns ms go
-
         here : Pair zero (in_a t) (in_b u) (n ∷ (map (λ (t : Tree). n) ts ++ ns)) (n ∷ (map (λ (t : Tree). n) us ++ ms))
         here = one_pair t u (map (λ (t : Tree). n) ts ++ ns) (map (λ (t : Tree). n) us ++ ms) x.0 y.0 p.0 q.0 (first_same (bare_b u) (bare_a t) (map bare_b us) (map bare_a ts) e)
 
-        at : Paired (in_a t ∷ (map in_a ts ++ fs)) (in_b u ∷ (map in_b us ++ gs)) (n ∷ (map (λ (t : Tree). n) ts ++ ns)) (n ∷ (map (λ (t : Tree). n) us ++ ms))
-        at zero f g s r =
+        at : Paired (map in_a ts ++ fs) (map in_b us ++ gs) (map (λ (t : Tree). n) ts ++ ns) (map (λ (t : Tree). n) us ++ ms)
+            → Paired (in_a t ∷ (map in_a ts ++ fs)) (in_b u ∷ (map in_b us ++ gs)) (n ∷ (map (λ (t : Tree). n) ts ++ ns)) (n ∷ (map (λ (t : Tree). n) us ++ ms))
+        at rest zero f g s r =
             subst (λ h. Pair zero h g (n ∷ (map (λ (t : Tree). n) ts ++ ns)) (n ∷ (map (λ (t : Tree). n) us ++ ms))) (same_some (in_a t) f s)
             (subst (λ h. Pair zero (in_a t) h (n ∷ (map (λ (t : Tree). n) ts ++ ns)) (n ∷ (map (λ (t : Tree). n) us ++ ms))) (same_some (in_b u) g r) here)
-        at (suc k) f g s r = let z = rest k f g s r in record { file = z.file; before = z.before; after = z.after; lies = z.lies; lies_new = z.lies_new; place = z.place }
+        at rest (suc k) f g s r = let z = rest k f g s r in record { file = z.file; before = z.before; after = z.after; lies = z.lies; lies_new = z.lies_new; place = z.place }
 
   outlined_functions : (t : Tree) → functions (parts (outline t)) ≡ map (λ d. carry (place_outside (in_bodies (parts t))) (without_body d)) (functions (parts t))
   outlined_functions (node k i j ps) = bare_functions (place_outside (in_bodies ps)) ps

@@ -69,10 +69,10 @@ at_most_moved : (a i j : ℕ) → nat_le (a + i) (a + j) ≡ nat_le i j
 at_most_moved a i j = grind (arith, nat_tests)
 
 all_three : (p q r s t u : Bool) → p ≡ s → q ≡ t → r ≡ u → (p && q && r) ≡ (s && t && u)
-all_three p q r s t u e f g = cc
+all_three p q r s t u e f g = ap (λ x. x && q && r) e ∙ ap (λ x. s && x && r) f ∙ ap (λ x. s && t && x) g
 
 both : (p q s t : Bool) → p ≡ s → q ≡ t → (p && q) ≡ (s && t)
-both p q s t e f = cc
+both p q s t e f = ap (λ x. x && q) e ∙ ap (λ x. s && x) f
 
 -- ---- in a file
 

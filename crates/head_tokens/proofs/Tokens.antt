@@ -27,7 +27,7 @@ use Rattle.go_tree.specs.Units.{word, is_blank}
 use Rattle.go_tree.specs.Uses.{declared_by, declared_in_package, uses, object_of}
 use Rattle.go_names.specs.Moved.{moved_event}
 use Rattle.go_names.specs.Orders.{EachDeclared}
-use Rattle.go_names.specs.Scopes.{locals_of, inmost}
+use Rattle.go_names.specs.Scopes.{locals_of, first_by, is_import, inmost}
 use Rattle.go_heads.specs.Functions.{Alone, AreRead, alone}
 use Rattle.go_heads.specs.Heads.{File, IsRead, in_bodies, place_outside}
 use Rattle.go_heads.proofs.Counting.{place_next, place_order}
@@ -103,19 +103,14 @@ own_function a = record { file = 0; name = own_text a (suc (first a.tree)); plac
 unless_blank : (b c : Bool) → b ≡ false → (not b && not (false && c)) ≡ true
 unless_blank b c e = ap (λ x. not x && true) e
 
-pub own_begins : (a : Alone) → Begins a.tree (function_events a) → is_blank (own_text a (suc (first a.tree))) ≡ false → BeginsFunction (own_declarations a)
-own_begins a b named =
-    let all : List Found = own_names a in
-    let rest : List Found = found_by (own_text a) b.others in
-    record {
-      function = own_function a;
-      others = new_among all rest;
-      whole =
-          ap (λ es. new_among all (found_by (own_text a) es)) b.whole
-          ∙ ap (λ x. if x then own_function a ∷ new_among all rest else new_among all rest) (unless_blank (is_blank (own_text a (suc (first a.tree)))) (is_reused (own_function a) all) named);
-      block = refl;
-      entity = refl;
-    }
+-- and then what stands in it
+abbrev own_others : (a : Alone) → Begins a.tree (function_events a) → List Found
+own_others a b = new_among (own_names a) (found_by (own_text a) b.others)
+
+own_first : (a : Alone) (b : Begins a.tree (function_events a)) → is_blank (own_text a (suc (first a.tree))) ≡ false → own_declarations a ≡ own_function a ∷ own_others a b
+own_first a b named =
+    ap (λ es. new_among (own_names a) (found_by (own_text a) es)) b.whole
+    ∙ ap (λ x. if x then own_function a ∷ own_others a b else own_others a b) (unless_blank (is_blank (own_text a (suc (first a.tree)))) (is_reused (own_function a) (own_names a)) named)
 
 same_local : (n : ℕ) (l : TokenList) (a : ℕ) (o : Option Meaning) (z : Option Object) → local_object (option_map (up_meaning n l a) o) z ≡ local_object o z
 same_local n l a None z = refl
@@ -128,7 +123,7 @@ each_first Q es d rest e h = (subst (EachDeclared Q) e h).0
 
 module _ (fs : List File) (h : AreRead fs) (n : ℕ) (f : File) (there : slice_get fs n ≡ Some f) (t : Tree)
     (stands : Stands (kinds f.tokens.tokens) (in_bodies (parts f.tree)) (last f.tree) (file_events f) t) (named : is_blank (word f.tokens (suc (first t))) ≡ false) where
-  read : IsRead f
+  pub read : IsRead f
   read = read_at fs h n f there
 
   abbrev l : TokenList
@@ -181,8 +176,11 @@ module _ (fs : List File) (h : AreRead fs) (n : ℕ) (f : File) (there : slice_g
       let z : a + suc (first by_itself.tree) ≡ suc a = omega (arith, first_own) in
       ap is_blank (e ∙ ap (word l) z) ∙ named
 
+  own_split : own ≡ own_function by_itself ∷ own_others by_itself begins_own
+  own_split = own_first by_itself begins_own named_own
+
   begins_function : BeginsFunction own
-  begins_function = own_begins by_itself begins_own named_own
+  begins_function = record { function = own_function by_itself; others = own_others by_itself begins_own; whole = own_split; block = refl; entity = refl }
 
   -- ---- its declarations among those of the package
 
@@ -276,7 +274,7 @@ module _ (fs : List File) (h : AreRead fs) (n : ℕ) (f : File) (there : slice_g
         ap (object_at ms n (a + x)) (sym text_own)
         ∙ meant_reached fs h n (a + x) w
         ∙ ap (λ o. meant_by n w o (imported_from 0 us) objects) (local_inmost w)
-        ∙ ap (λ o. if is_blank w then None else o) (same_local n l a (inmost 0 x w None (locals_of 0 own_names_mean)) _)
+        ∙ ap (λ o. if is_blank w then None else o) (same_local n l a (inmost 0 x w None (locals_of 0 own_names_mean)) (outer_object w (first_by (is_import n) w (imported_from 0 us)) (find 0 w objects)))
 
     object_declared : own_object n (a + x) (word l (a + x)) ms ms ≡ own_by meant x own_names_mean
     object_declared =
@@ -368,15 +366,15 @@ module _ (fs : List File) (h : AreRead fs) (n : ℕ) (f : File) (there : slice_g
   before_earlier = entries_earlier new_before front_before
 
   abbrev pub own_entry : Entry
-  own_entry = entry fs (declared_by (in_file n l a begins_function.function))
+  own_entry = entry fs (declared_by (in_file n l a (own_function by_itself)))
 
   pub own_there : IsThere n name_place own_entry
   own_there =
-      let z : a + begins_function.function.it.name ≡ suc a = omega (arith, first_own) in
-      record { file = refl; place = place_here (a + begins_function.function.it.name) ∙ ap (place_outside p) z }
+      let z : a + suc (first by_itself.tree) ≡ suc a = omega (arith, first_own) in
+      record { file = refl; place = place_here (a + suc (first by_itself.tree)) ∙ ap (place_outside p) z }
 
   abbrev objects_behind : List Entry
-  objects_behind = map (entry fs) (declared_in_package (map (in_file n l a) begins_function.others) ++ declared_in_package new_behind)
+  objects_behind = map (entry fs) (declared_in_package (map (in_file n l a) (own_others by_itself begins_own)) ++ declared_in_package new_behind)
 
   pub record Split : Type 0 where
     pub behind : List Entry
@@ -389,5 +387,5 @@ module _ (fs : List File) (h : AreRead fs) (n : ℕ) (f : File) (there : slice_g
         ap (λ ds. map (entry fs) (declared_in_package ds)) declared_split
         ∙ ap (map (entry fs)) (declared_append new_before (map (in_file n l a) own ++ new_behind))
         ∙ map-append (entry fs) (declared_in_package new_before) (declared_in_package (map (in_file n l a) own ++ new_behind))
-        ∙ ap (λ xs. objects_before ++ map (entry fs) xs) (declared_append (map (in_file n l a) own) new_behind ∙ ap (λ ds. declared_in_package (map (in_file n l a) ds) ++ declared_in_package new_behind) begins_function.whole);
+        ∙ ap (λ xs. objects_before ++ map (entry fs) xs) (declared_append (map (in_file n l a) own) new_behind ∙ ap (λ ds. declared_in_package (map (in_file n l a) ds) ++ declared_in_package new_behind) own_split);
   }
