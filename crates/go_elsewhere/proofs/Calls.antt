@@ -89,9 +89,9 @@ module _ (m : ℕ → ℕ) (rights : Rights) where
   sizes_kept [] = refl
   sizes_kept (x ∷ []) = bound_kept m rights None x
   sizes_kept (x ∷ y ∷ []) =
-      both m (bound_failing rights None (placed m x)) (bound_failing rights None (placed m y) ++ disordered (Some (placed m x)) (Some (placed m y))) (bound_failing rights None x) (bound_failing rights None y ++ disordered (Some x) (Some y))
-      (bound_kept m rights None x)
-      (both m (bound_failing rights None (placed m y)) (disordered (Some (placed m x)) (Some (placed m y))) (bound_failing rights None y) (disordered (Some x) (Some y)) (bound_kept m rights None y) (disordered_kept m rights (Some x) (Some y)))
+      both m (bound_failing rights None (placed m x) ++ bound_failing rights None (placed m y)) (disordered (Some (placed m x)) (Some (placed m y))) (bound_failing rights None x ++ bound_failing rights None y) (disordered (Some x) (Some y))
+      (both m (bound_failing rights None (placed m x)) (bound_failing rights None (placed m y)) (bound_failing rights None x) (bound_failing rights None y) (bound_kept m rights None x) (bound_kept m rights None y))
+      (disordered_kept m rights (Some x) (Some y))
   sizes_kept (x ∷ y ∷ z ∷ xs) =
       both m (bound_failing rights None (placed m x)) (bound_failing rights None (placed m y)) (bound_failing rights None x) (bound_failing rights None y) (bound_kept m rights None x) (bound_kept m rights None y)
 

@@ -57,9 +57,9 @@ module _ (m : ℕ → ℕ) (rights : Rights) where
 
   bounds_kept : (limit : Option ℕ) (low high : Option Part) → bounds_failing rights limit (optional m low) (optional m high) ≡ fails m (bounds_failing rights limit low high)
   bounds_kept limit low high =
-      both m (optional_bound rights limit (optional m low)) (optional_bound rights limit (optional m high) ++ disordered (optional m low) (optional m high)) (optional_bound rights limit low) (optional_bound rights limit high ++ disordered low high)
-      (optional_bound_kept limit low)
-      (both m (optional_bound rights limit (optional m high)) (disordered (optional m low) (optional m high)) (optional_bound rights limit high) (disordered low high) (optional_bound_kept limit high) (disordered_kept low high))
+      both m (optional_bound rights limit (optional m low) ++ optional_bound rights limit (optional m high)) (disordered (optional m low) (optional m high)) (optional_bound rights limit low ++ optional_bound rights limit high) (disordered low high)
+      (both m (optional_bound rights limit (optional m low)) (optional_bound rights limit (optional m high)) (optional_bound rights limit low) (optional_bound rights limit high) (optional_bound_kept limit low) (optional_bound_kept limit high))
+      (disordered_kept low high)
 
   pub slice_kept : (i j : ℕ) (x : Stands) (low high : Option Part) → slice_failing rights (m i) (m j) x (optional m low) (optional m high) ≡ fails m (slice_failing rights i j x low high)
   slice_kept i j x low high =

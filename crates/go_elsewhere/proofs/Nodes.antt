@@ -18,7 +18,7 @@ use Rattle.go_typed.specs.Trees as sort
 use Rattle.go_rules.specs.declared.fault.TypeFault.{TypeFault}
 use Rattle.go_rules.specs.Faults.{fault_at, or_else}
 use Rattle.go_rules.specs.Calls.{call_failing, call_sort, call_takes}
-use Rattle.go_rules.specs.Indexes.{selector_failing, selector_sort, index_failing, slice_failing}
+use Rattle.go_rules.specs.Indexes.{selector_failing, selector_sort, index_failing, index_sort, slice_failing, slice_sort}
 use Rattle.go_rules.specs.Literals.{literal_failing, literal_sort, literal_takes}
 use Rattle.go_rules.specs.Names.{integer_failing, place_failing, not_a_value, one_value, is_no_value, is_no_type, is_no_callee, is_no_target, is_no_statement, are_results, object_sort, need_of, name_sort, object_form, declared_form, form_or_type, name_form}
 use Rattle.go_rules.specs.Operators.{unary_failing, unary_sort, unary_take, operation_failing, operation_sort, operation_takes}
@@ -174,7 +174,7 @@ module _ (m : ℕ → ℕ) where
   on_literal_kept g d h f u e (t ∷ xs) =
       ap (λ z. u z (present (parts m xs))) (literal_type_kept h t) ∙ ap (u (literal_type h t)) (present_kept m xs) ∙ e (literal_type h t) (present xs)
 
-  same : {A : Type 0} → A → A
+  abbrev same : {A : Type 0} → A → A
   same x = x
 
   -- ---- a node

@@ -1,5 +1,5 @@
 -- What parts take of their places elsewhere, and what these refuse.
-use Rattle.std.proofs.Common.{◌≡◌, ◌∙◌, ℕ, Bool, true, false, List, [], ◌++◌, Option, Some, None, refl, ap}
+use Rattle.std.proofs.Common.{◌≡◌, ◌∙◌, ℕ, Bool, true, false, [], Option, Some, None, refl, ap}
 use Rattle.std.specs.Prelude.{if◌then◌else◌}
 use Rattle.go_base.specs.declared.fault.FaultCode.{FaultCode}
 use Rattle.go_base.specs.declared.fault.FaultCode.TheVariants as code
@@ -7,14 +7,13 @@ use Rattle.go_constants.specs.declared.values.Const.{Const}
 use Rattle.go_types.specs.Trees.{TypeTree}
 use Rattle.go_types.specs.Relations.{Rights}
 use Rattle.type_tests.specs.Tests.{underlying_of, is_assignable}
-use Rattle.go_typed.specs.Trees.{Label, Typed, typed, Typeds, sort_of}
+use Rattle.go_typed.specs.Trees.{typed, Typeds}
 use Rattle.go_typed.specs.Trees as sort
-use Rattle.go_rules.specs.declared.fault.TypeFault.{TypeFault}
 use Rattle.go_rules.specs.declared.family.OpenKind.{OpenKind}
 use Rattle.go_rules.specs.Faults.{fault_at}
 use Rattle.go_rules.specs.Settling.{Part, at_part, settled, all_settled, unrepresented_constant, unrepresented, all_unrepresented, Take, stay, default, as_type, defaulted, given, undefaulted_by, undefaulted, untyped_unassignable, unassignable_by, unassignable}
 use Rattle.go_rules.specs.Sorts.{Stands, is_open, takes_type, open_kind, is_constant, constant_of, retyped, represents, default_type, suits, has_nil}
-use Rattle.go_elsewhere.specs.Elsewhere.{placed, all_placed, fault_placed}
+use Rattle.go_elsewhere.specs.Elsewhere.{placed, all_placed}
 use Rattle.go_elsewhere.proofs.Parts.{fails, either, either_of, both}
 
 module _ (m : ℕ → ℕ) where

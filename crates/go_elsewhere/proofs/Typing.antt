@@ -96,17 +96,17 @@ module _ (m : ℕ → ℕ) where
   grown : (xs : Parts) (x : Option Part) → parts m xs ++ optional m x ∷ [] ≡ parts m (xs ++ x ∷ [])
   grown xs x = sym (map-append (optional m) xs (x ∷ []))
 
+  part_kept : (s : Scope) (k : Kind) (h : Hint) (all : Trees) (xs : Parts) (t : Tree) → typing (part_scope s k xs) (told s k h all xs t) (carry m t) ≡ placed m (typing (along m (part_scope s k xs)) (told s k h all xs t) t)
+      → typing (part_scope s k (parts m xs)) (hint s k h (carries m all) (parts m xs) (kind_of (carry m t))) (carry m t) ≡ placed m (part_typed s k h all xs t)
+  part_kept s k h all xs t e =
+      ap (λ z. typing z (hint s k h (carries m all) (parts m xs) (kind_of (carry m t))) (carry m t)) (scope_kept s k xs)
+      ∙ ap (λ z. typing (part_scope s k xs) z (carry m t)) (told_kept s k h all xs t)
+      ∙ e
+      ∙ ap (λ z. placed m (typing z (told s k h all xs t) t)) (scope_along s k xs)
+
   mutual
     pub typed_kept : (s : Scope) (h : Hint) (t : Tree) → KeepsLast m t → typing s h (carry m t) ≡ placed m (typing (along m s) h t)
     typed_kept s h (node k i j ps) e = ap (built s k h (m i) (m j)) (parts_kept s k h ps [] ps e.1) ∙ built_kept m s k h i j (typings (along m s) k h ps [] ps) e.0
-
-    part_kept : (s : Scope) (k : Kind) (h : Hint) (all : Trees) (xs : Parts) (t : Tree) → typing (part_scope s k xs) (told s k h all xs t) (carry m t) ≡ placed m (typing (along m (part_scope s k xs)) (told s k h all xs t) t)
-        → typing (part_scope s k (parts m xs)) (hint s k h (carries m all) (parts m xs) (kind_of (carry m t))) (carry m t) ≡ placed m (part_typed s k h all xs t)
-    part_kept s k h all xs t e =
-        ap (λ z. typing z (hint s k h (carries m all) (parts m xs) (kind_of (carry m t))) (carry m t)) (scope_kept s k xs)
-        ∙ ap (λ z. typing (part_scope s k xs) z (carry m t)) (told_kept s k h all xs t)
-        ∙ e
-        ∙ ap (λ z. placed m (typing z (told s k h all xs t) t)) (scope_along s k xs)
 
     parts_kept : (s : Scope) (k : Kind) (h : Hint) (all : Trees) (xs : Parts) (ps : Trees) → AllKeepLast m ps → typings s k h (carries m all) (parts m xs) (carries m ps) ≡ parts m (typings (along m s) k h all xs ps)
     parts_kept s k h all xs none e = refl
