@@ -1,16 +1,15 @@
 -- The rules on selectors, index and slice expressions elsewhere.
-use Rattle.std.proofs.Common.{◌≡◌, ◌∙◌, ℕ, ◌+◌, Bool, true, false, List, [], ◌++◌, Option, Some, None, refl, ap}
+use Rattle.std.proofs.Common.{◌≡◌, ◌∙◌, ℕ, ◌+◌, Bool, List, [], ◌++◌, Option, Some, None, refl, ap}
 use Rattle.std.specs.Prelude.{◌&&◌, ◌||◌, if◌then◌else◌, is_some}
 use Rattle.std.specs.Option.{option_map}
 use Rattle.go_base.specs.declared.fault.FaultCode.TheVariants as code
 use Rattle.go_types.specs.Trees.{TypeTree}
 use Rattle.go_types.specs.Relations.{Rights}
-use Rattle.go_typed.specs.Trees.{Typed, typed, sort_of}
+use Rattle.go_typed.specs.Trees.{typed}
 use Rattle.go_typed.specs.Trees as sort
-use Rattle.go_rules.specs.declared.fault.TypeFault.{TypeFault}
 use Rattle.go_rules.specs.Faults.{fault_at}
 use Rattle.go_rules.specs.Indexes.{named_field, selector_failing, outside, bound_failing, optional_bound, is_greater, disordered, text_length, index_failing_in, index_failing, whole_or_absent, bounds_failing, slice_failing}
-use Rattle.go_rules.specs.Settling.{Part, at_part, unrepresented}
+use Rattle.go_rules.specs.Settling.{Part, unrepresented}
 use Rattle.go_rules.specs.Sorts.{Stands, constant_of, is_text, is_whole, form_of_value, element_of, slice_element, array_length, int}
 use Rattle.go_elsewhere.specs.Elsewhere.{placed}
 use Rattle.go_elsewhere.proofs.Parts.{fails, optional, either, either_of, both}

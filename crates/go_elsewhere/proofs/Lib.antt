@@ -7,3 +7,4 @@ mod Literals
 mod TypeNodes
 mod Nodes
 mod Typing
+mod Further

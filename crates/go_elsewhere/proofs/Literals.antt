@@ -1,17 +1,16 @@
 -- The rules on composite literals elsewhere.
-use Rattle.std.proofs.Common.{◌≡◌, ◌∙◌, ℕ, zero, suc, Bool, true, false, List, [], ◌∷◌, ◌++◌, map, length, Option, Some, None, refl, ap}
+use Rattle.std.proofs.Common.{◌≡◌, ◌∙◌, ℕ, zero, suc, List, [], ◌∷◌, ◌++◌, map, length, Option, Some, None, refl, ap}
 use Rattle.std.specs.Prelude.{◌==◌, if◌then◌else◌}
-use Rattle.std.specs.List.{list_all, list_any}
+use Rattle.std.specs.List.{list_all}
 use Rattle.go_base.specs.declared.fault.FaultCode.TheVariants as code
 use Rattle.go_types.specs.Trees.{TypeTree, array, slice, structure, TypeRow}
 use Rattle.go_types.specs.Relations.{Rights}
-use Rattle.go_typed.specs.Trees.{Typed, typed, Typeds, sort_of, parts_of}
+use Rattle.go_typed.specs.Trees.{typed, Typeds}
 use Rattle.go_typed.specs.Trees as sort
-use Rattle.go_rules.specs.declared.fault.TypeFault.{TypeFault}
 use Rattle.go_rules.specs.Calls.{row_length, all_unassignable, all_as, each_unassignable}
 use Rattle.go_rules.specs.Faults.{fault_at}
 use Rattle.go_rules.specs.Literals.{key_of, is_keyed, has_keys, is_below, first_part, nth_part, at_optional, too_many, elements_failing, keyed_type, given_to_field, keyed_unassignable, keyed_failing, ordered_failing, fields_failing, literal_failing_in, literal_failing, as_optional, fields_take, literal_takes_in, literal_takes}
-use Rattle.go_rules.specs.Settling.{Part, unassignable, Take, stay, as_type}
+use Rattle.go_rules.specs.Settling.{Part, stay, as_type}
 use Rattle.go_rules.specs.Sorts.{underlying_in}
 use Rattle.go_elsewhere.specs.Elsewhere.{placed, all_placed}
 use Rattle.go_elsewhere.proofs.Calls.{all_unassignable_kept, each_unassignable_kept}

@@ -5,7 +5,7 @@ use Rattle.go_grammar.specs.declared.kind.Kind.TheVariants as kind
 use Rattle.go_grammar.specs.Trees.{Tree, node, Trees, none, more, skip}
 use Rattle.go_splice.specs.Places.{carry}
 use Rattle.go_types.specs.Trees.{TypeTree}
-use Rattle.go_typed.specs.Trees.{Typed, typed, Typeds}
+use Rattle.go_typed.specs.Trees.{typed, Typeds}
 use Rattle.go_typed.specs.Trees as sort
 use Rattle.go_rules.specs.declared.fault.TypeFault.{TypeFault}
 use Rattle.go_rules.specs.Scopes.{Scope, Hint}

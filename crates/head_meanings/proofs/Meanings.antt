@@ -20,7 +20,7 @@ use Rattle.go_tree.specs.Declarations.{Found, found_in, found_from, is_function,
 use Rattle.go_tree.specs.Events.{events}
 use Rattle.go_tree.specs.Extents.{covers, extent_by, extent_of}
 use Rattle.go_tree.specs.Imports.{imports_fmt}
-use Rattle.go_tree.specs.Meanings.{Meaning, Numbers, first_numbers, own_number, behind_shared, numbers_behind, numbered, imported_meaning, imported_from, meanings, meaning_at}
+use Rattle.go_tree.specs.Meanings.{Meaning, Numbers, first_numbers, own_number, behind_shared, numbers_behind, numbered, imported_meaning, imported_from, meanings}
 use Rattle.go_tree.specs.Objects.{predeclared_object, object_by, object_at}
 use Rattle.go_tree.specs.Units.{word, is_blank}
 use Rattle.go_tree.specs.Units as names

@@ -1,19 +1,17 @@
 -- The portions of functions in packages with equal heads.
-use Rattle.std.proofs.Common.{◌≡◌, ◌∙◌, ℕ, zero, suc, ◌+◌, ◌-◌, ◌<◌, Bool, true, false, List, [], ◌∷◌, ◌++◌, map, Option, Some, None, refl, sym, ap, subst, arith}
+use Rattle.std.proofs.Common.{◌≡◌, ◌∙◌, ℕ, zero, suc, ◌+◌, ◌-◌, ◌<◌, Bool, true, false, List, [], ◌∷◌, ◌++◌, map, Some, None, refl, sym, ap, arith}
 use Rattle.std.specs.Prelude.{slice_get, if◌then◌else◌, option_map}
 use Rattle.std.proofs.lemmas.List.{map-append}
 use Rattle.std.proofs.lemmas.Option.{slice_get-map}
 use Rattle.go_grammar.specs.Trees.{Tree, node, Trees, none, more, skip, kind_of, first, last, parts}
-use Rattle.go_tree.specs.declared.object.Object.{Object}
 use Rattle.go_tree.specs.Faults.{reported}
 use Rattle.go_tree.specs.Lists.{is_function, functions}
-use Rattle.go_tree.specs.Uses.{UsesView, uses, object_of}
-use Rattle.go_types.specs.Relations.{Rights}
+use Rattle.go_tree.specs.Uses.{uses, object_of}
 use Rattle.go_heads.specs.Functions.{Function, AreRead, all_functions, body_texts}
-use Rattle.go_heads.specs.Heads.{File, heads}
+use Rattle.go_heads.specs.Heads.{File}
 use Rattle.go_heads.proofs.Functions.{same_some}
 use Rattle.go_package.specs.Answer.{specifications}
-use Rattle.go_package.specs.Bodies.{own_object, objects_from, portion_of, typed_function, types_in}
+use Rattle.go_package.specs.Bodies.{own_object, objects_from, portion_of}
 use Rattle.go_package.specs.Declarations.{Specification, declaration, declarations, in_file}
 use Rattle.go_package.specs.Sources.{Source, Package}
 use Rattle.go_portions.specs.Portions.{files_of, AreNamed, SameBody, KeepsPortions, function_specifications}

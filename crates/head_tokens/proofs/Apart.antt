@@ -1,9 +1,8 @@
 -- What is declared outside a function means nothing at its tokens but through the package.
-use Rattle.std.proofs.Common.{◌≡◌, ◌∙◌, ℕ, zero, suc, ◌+◌, ◌<◌, ◌≤◌, ◌⊎◌, inl, inr, Bool, true, false, List, [], ◌∷◌, ◌++◌, map, Option, Some, None, refl, sym, ap, subst, arith}
-use Rattle.std.specs.Prelude.{if◌then◌else◌, ◌&&◌, nat_eq, nat_le, nat_lt, slice_get}
+use Rattle.std.proofs.Common.{◌≡◌, ◌∙◌, ℕ, suc, ◌+◌, ◌<◌, ◌≤◌, ◌⊎◌, inl, inr, Bool, true, false, List, [], ◌∷◌, ◌++◌, Option, Some, None, refl, sym, ap, subst, arith}
+use Rattle.std.specs.Prelude.{if◌then◌else◌, ◌&&◌, nat_eq, nat_le, nat_lt}
 use Rattle.std.proofs.lemmas.Bool.Decides.{nat_tests}
 use Rattle.std.proofs.lemmas.Bool.{lt-ltb}
-use Rattle.go_tokens.specs.declared.token.TokenKind.{TokenKind}
 use Rattle.go_tokens.specs.Tokens.{TokenList, kinds}
 use Rattle.go_tokens.specs.Spellings.{same_text}
 use Rattle.go_grammar.specs.declared.kind.Kind.TheVariants as kind
@@ -18,7 +17,6 @@ use Rattle.go_tree.specs.declared.context.Scope.{Scope}
 use Rattle.go_tree.specs.declared.event.Declaration.{Declaration}
 use Rattle.go_tree.specs.declared.event.Event.{Event}
 use Rattle.go_tree.specs.declared.event.Event.TheVariants as event
-use Rattle.go_tree.specs.declared.object.Object.{Object}
 use Rattle.go_tree.specs.Contexts.{is_there, is_package, file_context}
 use Rattle.go_tree.specs.Declarations.{Found, found_in}
 use Rattle.go_tree.specs.Events.{function_events, begin, events, events_of}
@@ -34,7 +32,7 @@ use Rattle.go_names.specs.Orders.{EachDeclared, Nests, ScopesNest, IsFollowed}
 use Rattle.go_names.specs.Scopes.{is_local, locals_of, inner, over, inmost}
 use Rattle.go_names.proofs.Inside.{true_false}
 use Rattle.go_names.proofs.Layers.{derives_layered}
-use Rattle.go_names.proofs.Nesting.{each_map, file_nested, file_follows}
+use Rattle.go_names.proofs.Nesting.{file_nested, file_follows}
 use Rattle.go_names.proofs.Rising.{derives_laid}
 use Rattle.go_heads.specs.Heads.{File, IsRead, in_bodies, without_body}
 use Rattle.go_heads.proofs.Functions.{Framed, framed}
@@ -44,7 +42,7 @@ use Rattle.head_objects.specs.Told.{file_events}
 use Rattle.head_bodies.proofs.Fresh as fresh
 use Rattle.head_bodies.proofs.Fresh.{Other}
 use Rattle.head_bodies.proofs.Names.{NamesIn, Stands, each_left, each_right}
-use Rattle.head_meanings.proofs.Meanings.{Every, every_append, IsAway, uncovered, imported_away}
+use Rattle.head_meanings.proofs.Meanings.{Every, IsAway, uncovered}
 use Rattle.head_meanings.proofs.Scopes.{IsBodily, locals_bodily, behind_name}
 
 -- ---- declarations apart

@@ -1,5 +1,5 @@
 -- The tokens of functions of one number in packages with equal heads.
-use Rattle.std.proofs.Common.{◌≡◌, ◌∙◌, ℕ, zero, suc, ◌+◌, ◌-◌, ◌<◌, Bool, false, List, [], ◌∷◌, ◌++◌, map, length, Some, refl, sym, ap, subst, arith}
+use Rattle.std.proofs.Common.{◌≡◌, ◌∙◌, ℕ, zero, suc, ◌+◌, ◌-◌, ◌<◌, false, List, [], ◌∷◌, ◌++◌, map, length, Some, refl, sym, ap, subst, arith}
 use Rattle.std.specs.Prelude.{slice_get}
 use Rattle.go_tokens.specs.Tokens.{kinds}
 use Rattle.go_grammar.specs.Trees.{Tree, node, first, last, parts}
@@ -9,8 +9,8 @@ use Rattle.go_tree.specs.Lists.{functions}
 use Rattle.go_tree.specs.Meanings.{Meaning, first_numbers, imported_from}
 use Rattle.go_tree.specs.Units.{word, is_blank}
 use Rattle.go_tree.specs.Uses.{uses, object_of}
-use Rattle.go_heads.specs.Functions.{Function, AreRead, KeepsFunctions, Alone, alone, all_functions, body_texts, function_alone}
-use Rattle.go_heads.specs.Heads.{File, IsRead, in_bodies, place_outside, head_of, heads, without_body, outline}
+use Rattle.go_heads.specs.Functions.{Function, AreRead, KeepsFunctions, Alone, all_functions, body_texts, function_alone}
+use Rattle.go_heads.specs.Heads.{File, in_bodies, place_outside, head_of, heads, without_body, outline}
 use Rattle.go_heads.proofs.Counting.{place_next}
 use Rattle.go_heads.proofs.Files.{first_same, others_same, some_not_none, one_outline}
 use Rattle.go_heads.proofs.Functions.{some_none, same_some, framed}

@@ -1,23 +1,20 @@
 -- The objects of a function's tokens follow from the function by itself, and from the objects of the package.
-use Rattle.std.proofs.Common.{◌≡◌, ◌∙◌, ℕ, zero, suc, ◌+◌, ◌-◌, ◌<◌, ◌≤◌, Bool, true, false, List, [], ◌∷◌, ◌++◌, map, length, Option, Some, None, refl, sym, ap, subst, arith}
+use Rattle.std.proofs.Common.{◌≡◌, ◌∙◌, ℕ, suc, ◌+◌, ◌-◌, ◌<◌, ◌≤◌, Bool, true, false, List, [], ◌∷◌, ◌++◌, map, length, Option, Some, None, refl, sym, ap, subst, arith}
 use Rattle.std.specs.Prelude.{if◌then◌else◌, ◌&&◌, not, nat_eq, slice_get, option_map}
 use Rattle.std.proofs.lemmas.Bool.Decides.{nat_tests}
 use Rattle.std.proofs.lemmas.List.{map-append}
 use Rattle.go_tokens.specs.Tokens.{TokenList, kinds}
 use Rattle.go_grammar.specs.declared.kind.Category.TheVariants as category
-use Rattle.go_grammar.specs.Trees.{Tree, node, Trees, kind_of, first, last, parts}
+use Rattle.go_grammar.specs.Trees.{Tree, node, kind_of, first, last, parts}
 use Rattle.go_grammar.proofs.Ranges.{lies_within}
 use Rattle.go_splice.specs.Places.{carry}
 use Rattle.go_splice.proofs.Kept.{first_carry, last_carry}
-use Rattle.go_tree.specs.declared.context.Block.TheVariants as block
-use Rattle.go_tree.specs.declared.context.Manner.TheVariants as manner
 use Rattle.go_tree.specs.declared.event.Declaration.{Declaration}
 use Rattle.go_tree.specs.declared.event.Event.{Event}
 use Rattle.go_tree.specs.declared.event.Event.TheVariants as event
-use Rattle.go_tree.specs.declared.object.Declared.{Declared}
 use Rattle.go_tree.specs.declared.object.Object.{Object}
 use Rattle.go_tree.specs.Contexts.{is_package, file_context}
-use Rattle.go_tree.specs.Declarations.{Found, found, found_in, may_be_reused, is_reused, is_new, new_among, declarations}
+use Rattle.go_tree.specs.Declarations.{Found, found, found_in, is_reused, new_among, declarations}
 use Rattle.go_tree.specs.Events.{events}
 use Rattle.go_tree.specs.Lists.{is_function}
 use Rattle.go_tree.specs.Meanings.{Meaning, Numbers, first_numbers, numbered, imported_from, meanings}
@@ -43,7 +40,7 @@ use Rattle.head_bodies.proofs.Names.{Stands}
 use Rattle.head_meanings.proofs.Lookups.{count_kinds, read_at, token_told}
 use Rattle.head_meanings.proofs.Meanings.{Every, every_append, every_new, local_object, outer_object, find, meant_by, meant_reached}
 use Rattle.head_tokens.proofs.Apart.{IsApart, IsAside, function_it, Begins, begins, numbered_aside, imported_aside, inmost_past, inmost_before, own_past, own_none, token_past, token_before, other_apart, each_named, in_order, clear, front_apart, back_apart}
-use Rattle.head_tokens.proofs.Numbers.{behind_all, numbered_append, behind_entries, SameNumbers, numbers_by, BeginsFunction, numbered_same, IsEarlier, IsThere}
+use Rattle.head_tokens.proofs.Numbers.{behind_all, numbered_append, behind_entries, numbers_by, BeginsFunction, numbered_same, IsEarlier, IsThere}
 use Rattle.head_tokens.proofs.Shifted.{IsOwn, numbered_own, own_by, eq_moved, up_meaning, numbered_up, inmost_up, own_up}
 
 -- ---- a function by itself
