@@ -12,12 +12,12 @@ use Rattle.go_heads.specs.Heads.{File}
 use Rattle.go_heads.proofs.Functions.{same_some}
 use Rattle.go_package.specs.Answer.{specifications}
 use Rattle.go_package.specs.Bodies.{own_object, objects_from, portion_of}
-use Rattle.go_package.specs.Declarations.{Specification, declaration, declarations, in_file}
+use Rattle.go_package.specs.Declarations.{Specification, declaration, declarations, function, in_file}
 use Rattle.go_package.specs.Sources.{Source, Package}
 use Rattle.go_portions.specs.Portions.{files_of, AreNamed, SameBody, KeepsPortions, function_specifications}
 use Rattle.go_portions.proofs.Portions.{one_portion}
 use Rattle.go_portions.proofs.Specifications.{IsOf, chosen, chosen_append, own, of_one, all_of, of_at}
-use Rattle.head_locals.specs.Locals as functions
+use Rattle.head_locals.specs.Locals as locals
 use Rattle.head_objects.specs.Objects.{units_of}
 use Rattle.head_packages.specs.Packages.{IsResolved, KeepsNames}
 use Rattle.head_packages.proofs.Packages.{units_same, by_units}
@@ -34,8 +34,8 @@ one_file : (n : ℕ) (d : Tree) (ds : Trees) (rest : List Specification) → map
 one_file n (node k i j ps) ds rest e = by (is_function k) refl
   where
     by : (c : Bool) → is_function k ≡ c → map file_of (own n (node k i j ps) ++ rest) ≡ map (λ (t : Tree). n) (if c then node k i j ps ∷ functions ds else functions ds)
-    by true f = ap (λ b. map file_of ((if b then _ ∷ [] else []) ++ rest)) f ∙ ap (λ ns. n ∷ ns) e
-    by false f = ap (λ b. map file_of ((if b then _ ∷ [] else []) ++ rest)) f ∙ e
+    by true f = ap (λ b. map file_of ((if b then function n (node k i j ps) i j ps ∷ [] else []) ++ rest)) f ∙ ap (λ ns. n ∷ ns) e
+    by false f = ap (λ b. map file_of ((if b then function n (node k i j ps) i j ps ∷ [] else []) ++ rest)) f ∙ e
 
 row_files : (n : ℕ) (ps : Trees) → map file_of (chosen (declarations n ps)) ≡ map (λ (t : Tree). n) (functions ps)
 row_files n none = refl
@@ -77,7 +77,7 @@ objects_equal p q n t u (suc k) h =
 -- ---- two packages
 
 abbrev AllNamed : Type 0
-AllNamed = (fs : List File) → AreRead fs → reported (units_of fs) ≡ None → functions.AreNamed fs
+AllNamed = (fs : List File) → AreRead fs → reported (units_of fs) ≡ None → locals.AreNamed fs
 
 pub resolved : AllNamed → (p : Package) (names : List (List ℕ)) → IsFaultless p names → IsResolved p names
 resolved f p names h = record { named = h.named; read = h.read; functions = f (files_of names p.sources) h.read (ap reported (units_same names p.sources h.named) ∙ h.faultless); uses = h.uses }
