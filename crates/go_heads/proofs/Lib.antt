@@ -6,6 +6,6 @@ pub mod Files
 mod Carried
 pub mod Words
 pub mod Functions
-mod Numbers
+pub mod Numbers
 mod Decided
 mod Declarations

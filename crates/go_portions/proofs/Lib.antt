@@ -1,2 +1,2 @@
-mod Specifications
-mod Portions
+pub mod Specifications
+pub mod Portions

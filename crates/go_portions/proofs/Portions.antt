@@ -41,7 +41,7 @@ portion_tree p d f h = ap (based_tree d.first) h.tree ∙ ap (λ i. Some (based 
 abbrev made : List (List ℕ) → List (Option Object) → Option Tree → Portion
 made ws os t = record { texts = ws; objects = os; tree = t }
 
-one_portion : (x y : Portion) → SamePortion x y → y.objects ≡ x.objects → y ≡ x
+pub one_portion : (x y : Portion) → SamePortion x y → y.objects ≡ x.objects → y ≡ x
 one_portion x y h e = ap (λ ws. made ws y.objects y.tree) h.texts ∙ ap (λ os. made x.texts os y.tree) e ∙ ap (λ t. made x.texts x.objects t) h.tree
 
 module _ (p q : Package) (names others : List (List ℕ)) (a : AreNamed names p.sources) (b : AreNamed others q.sources) (k : KeepsFunctions (files_of names p.sources) (files_of others q.sources)) where

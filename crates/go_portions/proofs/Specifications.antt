@@ -15,10 +15,10 @@ use Rattle.go_package.specs.Declarations.{Specification, grouped, declared, decl
 use Rattle.go_package.specs.Sources.{Source, Package, tokens_in, tokens_there}
 use Rattle.go_portions.specs.Portions.{files_of, AreNamed}
 
-abbrev chosen : List Specification → List Specification
+abbrev pub chosen : List Specification → List Specification
 chosen ds = those_of entity.Function ds
 
-chosen_append : (ds es : List Specification) → chosen (ds ++ es) ≡ chosen ds ++ chosen es
+pub chosen_append : (ds es : List Specification) → chosen (ds ++ es) ≡ chosen ds ++ chosen es
 chosen_append [] es = refl
 chosen_append (d ∷ ds) es = go (is_this entity.Function d.entity) (chosen_append ds es)
   where
@@ -38,10 +38,10 @@ no_declared n s (more (node (kind.Group g) i j ps) none) = no_grouped n s 0 None
 no_declared n s ps = no_grouped n s 0 None ps
 
 -- the specification of a function, if it is one
-abbrev own : ℕ → Tree → List Specification
+abbrev pub own : ℕ → Tree → List Specification
 own n (node k i j ps) = if is_function k then function n (node k i j ps) i j ps ∷ [] else []
 
-of_one : (n : ℕ) (d : Tree) → chosen (declaration n d) ≡ own n d
+pub of_one : (n : ℕ) (d : Tree) → chosen (declaration n d) ≡ own n d
 of_one n (node (kind.Declaration s) i j ps) = no_declared n s ps
 of_one n (node kind.FunctionDeclaration i j ps) = refl
 of_one n (node _ i j ps) = refl

@@ -54,10 +54,17 @@ other_block : (n m y : ℕ) (b : Block) → nat_eq n m ≡ false → are_one_blo
 other_block n m y block.Package e = refl
 other_block n m y (block.Local j) e = ap (λ x. x && nat_eq y j) e
 
-pub other_aside : (n a z m : ℕ) (l : TokenList) (es : List Event) → nat_eq n m ≡ false → Every (Aside n a z) (found_in m l es)
-other_aside n a z m l [] e = tt
-other_aside n a z m l (event.Declaration d ∷ es) e = (λ y lo hi. other_block n m y d.block e, other_aside n a z m l es e)
-other_aside n a z m l (x ∷ es) e = other_aside n a z m l es e
+-- in another file than n
+abbrev pub Other : ℕ → Found → Type 0
+Other n x = nat_eq n x.file ≡ false
+
+pub other_found : (n m : ℕ) (l : TokenList) (es : List Event) → nat_eq n m ≡ false → Every (Other n) (found_in m l es)
+other_found n m l [] e = tt
+other_found n m l (event.Declaration d ∷ es) e = (e, other_found n m l es e)
+other_found n m l (x ∷ es) e = other_found n m l es e
+
+pub other_aside : (n a z : ℕ) (xs : List Found) → Every (Other n) xs → Every (Aside n a z) xs
+other_aside n a z xs h = every_map (Other n) (Aside n a z) xs (λ x e y lo hi. other_block n x.file y x.it.block e) h
 
 second_false : (b c : Bool) → c ≡ false → (b && c) ≡ false
 second_false true c e = e

@@ -1,5 +1,5 @@
 mod Ends
 mod Bodies
 mod Blocks
-mod Fresh
+pub mod Fresh
 pub mod Names

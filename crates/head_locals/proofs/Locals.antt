@@ -37,6 +37,7 @@ use Rattle.go_heads.proofs.Functions.{some_none, same_some}
 use Rattle.go_heads.proofs.Outlines.{AllSit, OthersSit, file_sat}
 use Rattle.head_objects.specs.Objects.{units_of}
 use Rattle.head_objects.specs.Told.{file_events}
+use Rattle.head_objects.proofs.Objects.{new_append}
 use Rattle.head_meanings.proofs.Scopes.{Shared, tree_shared}
 use Rattle.head_bodies.specs.Names.{own_declarations, in_file}
 use Rattle.head_bodies.proofs.Names.{found_append, around_part, function_there, imports_next, AllStand, file_stands, declares}
@@ -55,14 +56,6 @@ every_new Q all (d ∷ ds) h = by (is_new all d) (every_new Q all ds h.1)
     by : (b : Bool) → Every Q (new_among all ds) → Every Q (if b then d ∷ new_among all ds else new_among all ds)
     by true g = (h.0, g)
     by false g = g
-
-new_append : (all ds es : List Found) → new_among all (ds ++ es) ≡ new_among all ds ++ new_among all es
-new_append all [] es = refl
-new_append all (d ∷ ds) es = ap (λ xs. if is_new all d then d ∷ xs else xs) (new_append all ds es) ∙ spread (is_new all d) (new_among all ds) (new_among all es)
-  where
-    spread : (b : Bool) (xs ys : List Found) → (if b then d ∷ (xs ++ ys) else xs ++ ys) ≡ (if b then d ∷ xs else xs) ++ ys
-    spread true xs ys = refl
-    spread false xs ys = refl
 
 abbrev NoFunction : Found → Type 0
 NoFunction d = begins_function d ≡ false

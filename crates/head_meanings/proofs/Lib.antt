@@ -1,4 +1,4 @@
 pub mod Scopes
 mod Imports
-mod Meanings
-mod Lookups
+pub mod Meanings
+pub mod Lookups

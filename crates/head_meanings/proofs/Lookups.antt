@@ -79,17 +79,26 @@ file_objects ms k (g ∷ fs) (suc n) f e =
     let z : suc k + n ≡ k + suc n = omega arith in
     file_objects ms (suc k) fs n f e ∙ ap (λ i. Some (token_objects ms i f.tokens (file_events f) 0 (length f.tokens.tokens))) z
 
-count_kinds : (ts : List Token) → length (kinds ts) ≡ length ts
+pub count_kinds : (ts : List Token) → length (kinds ts) ≡ length ts
 count_kinds [] = refl
 count_kinds (t ∷ ts) = ap suc (count_kinds ts)
 
 file_order : (f : File) → IsRead f → AreInOrder 0 (last f.tree) (file_events f)
 file_order f h = subst (λ i. AreInOrder i (last f.tree) (file_events f)) h.tree.begins (events_order (file_context (last f.tree)) f.tree (derives_laid (kinds f.tokens.tokens) f.tree category.File h.tree.derives))
 
-read_at : (fs : List File) → AreRead fs → (n : ℕ) (f : File) → slice_get fs n ≡ Some f → IsRead f
+pub read_at : (fs : List File) → AreRead fs → (n : ℕ) (f : File) → slice_get fs n ≡ Some f → IsRead f
 read_at [] h n f e = absurd (some_none f (sym e))
 read_at (g ∷ fs) h zero f e = subst IsRead (same_some g f e) h.0
 read_at (g ∷ fs) h (suc n) f e = read_at fs h.1 n f e
+
+-- the object of a token by what its file tells
+pub token_told : (fs : List File) (n t : ℕ) (f : File) → slice_get fs n ≡ Some f → t < length f.tokens.tokens → object_of (uses (units_of fs)) n t ≡ token_object (meanings (units_of fs)) n f.tokens t (file_events f)
+token_told fs n t f there some =
+    let ms : List Meaning = meanings (units_of fs) in
+    let z : 0 + n ≡ n = omega arith in
+    let y : 0 + t ≡ t = omega arith in
+    ap (λ o. object_in o t) (file_objects ms 0 fs n f there ∙ ap (λ i. Some (token_objects ms i f.tokens (file_events f) 0 (length f.tokens.tokens))) z)
+    ∙ ap object_there (token_at ms n f.tokens (file_events f) 0 (length f.tokens.tokens) t some ∙ ap (λ i. Some (token_object ms n f.tokens i (file_events f))) y)
 
 object_meant : (fs : List File) → AreRead fs → (n t : ℕ) (f : File) → slice_get fs n ≡ Some f → IsLookedUp fs n t → object_of (uses (units_of fs)) n t ≡ meant_at fs n t
 object_meant fs h n t f there used =
@@ -99,10 +108,7 @@ object_meant fs h n t f there used =
     let own : HasUse t (file_events f) = subst (λ g. HasUse t (file_events g)) here used in
     let order : AreInOrder 0 (last f.tree) (file_events f) = file_order f read in
     let some : t < length f.tokens.tokens = omega (arith, (used_within 0 (last f.tree) t (file_events f) order own).1, read.tree.ends, count_kinds f.tokens.tokens) in
-    let z : 0 + n ≡ n = omega arith in
-    let y : 0 + t ≡ t = omega arith in
-    ap (λ o. object_in o t) (file_objects ms 0 fs n f there ∙ ap (λ i. Some (token_objects ms i f.tokens (file_events f) 0 (length f.tokens.tokens))) z)
-    ∙ ap object_there (token_at ms n f.tokens (file_events f) 0 (length f.tokens.tokens) t some ∙ ap (λ i. Some (token_object ms n f.tokens i (file_events f))) y)
+    token_told fs n t f there some
     ∙ used_object ms n f.tokens 0 (last f.tree) t (file_events f) order own
     ∙ ap (λ (g : File). object_at ms n t (word g.tokens t)) (sym here)
 

@@ -20,8 +20,8 @@ use Rattle.go_tree.specs.Declarations.{Found, found_in, found_from, is_function,
 use Rattle.go_tree.specs.Events.{events}
 use Rattle.go_tree.specs.Extents.{covers, extent_by, extent_of}
 use Rattle.go_tree.specs.Imports.{imports_fmt}
-use Rattle.go_tree.specs.Meanings.{Meaning, Numbers, first_numbers, own_number, behind_shared, numbers_behind, numbered, imported_meaning, imported_from, meanings, meaning_at}
-use Rattle.go_tree.specs.Objects.{predeclared_object, object_by}
+use Rattle.go_tree.specs.Meanings.{Meaning, Numbers, first_numbers, own_number, behind_shared, numbers_behind, numbered, imported_meaning, imported_from, meanings}
+use Rattle.go_tree.specs.Objects.{predeclared_object, object_by, object_at}
 use Rattle.go_tree.specs.Units.{word, is_blank}
 use Rattle.go_tree.specs.Units as names
 use Rattle.go_tree.specs.Uses.{declared_by, declared_in_package}
@@ -47,15 +47,15 @@ use Rattle.head_meanings.proofs.Scopes.{IsBodily, locals_bodily}
 
 -- ---- lists
 
-abbrev Every : {A : Type 0} → (A → Type 0) → List A → Type 0
+abbrev pub Every : {A : Type 0} → (A → Type 0) → List A → Type 0
 Every Q [] = Unit {0}
 Every Q (x ∷ xs) = Q x × Every Q xs
 
-every_append : {A : Type 0} (Q : A → Type 0) (xs ys : List A) → Every Q xs → Every Q ys → Every Q (xs ++ ys)
+pub every_append : {A : Type 0} (Q : A → Type 0) (xs ys : List A) → Every Q xs → Every Q ys → Every Q (xs ++ ys)
 every_append Q [] ys h g = g
 every_append Q (x ∷ xs) ys h g = (h.0, every_append Q xs ys h.1 g)
 
-every_new : (Q : Found → Type 0) (all ds : List Found) → Every Q ds → Every Q (new_among all ds)
+pub every_new : (Q : Found → Type 0) (all ds : List Found) → Every Q ds → Every Q (new_among all ds)
 every_new Q all [] h = tt
 every_new Q all (d ∷ ds) h = by (is_new all d) (every_new Q all ds h.1)
   where
@@ -84,10 +84,10 @@ orderly (f ∷ fs) h = (one f h.0, orderly fs h.1)
 
 -- ---- no local covers a token outside of bodies
 
-abbrev IsAway : ℕ → ℕ → Extent → Type 0
+abbrev pub IsAway : ℕ → ℕ → Extent → Type 0
 IsAway n t e = is_local n e ≡ true → covers e n t ≡ false
 
-uncovered : (b c : Bool) (x y : Option Meaning) → c ≡ false → (if b && c then x else y) ≡ y
+pub uncovered : (b c : Bool) (x y : Option Meaning) → c ≡ false → (if b && c then x else y) ≡ y
 uncovered true c x y e = ap (λ z. if z then x else y) e
 uncovered false c x y e = refl
 
@@ -99,7 +99,7 @@ inmost_away n t w (m ∷ ms) h = by (is_local n m.extent) refl (inmost_away n t 
     by true e g = ap (λ o. inmost n t w o (locals_of n ms)) (uncovered (same_text m.name w) (covers m.extent n t) (inner None m) None (h.0 e)) ∙ g
     by false e g = g
 
-imported_away : (n t k : ℕ) (us : List names.Unit) → Every (λ m. IsAway n t m.extent) (imported_from k us)
+pub imported_away : (n t k : ℕ) (us : List names.Unit) → Every (λ m. IsAway n t m.extent) (imported_from k us)
 imported_away n t k [] = tt
 imported_away n t k (u ∷ us) = by (imports_fmt u.tokens u.events) (imported_away n t (suc k) us)
   where
@@ -173,7 +173,7 @@ numbered_none n w k (d ∷ ds) =
     ∙ numbered_none n w (numbers_behind k d.it.entity d.it.block) ds
 
 -- the object of the package that has this name, where the first of these has the number k
-abbrev find : ℕ → List ℕ → List Entry → Option Object
+abbrev pub find : ℕ → List ℕ → List Entry → Option Object
 find k w [] = None
 find k w (x ∷ xs) = if same_text x.text w then Some (object.Package k) else find (suc k) w xs
 
@@ -223,7 +223,7 @@ module _ (all : List File) where
 
 -- ---- what a name means outside of bodies
 
-abbrev outer_object : List ℕ → Option Meaning → Option Object → Option Object
+abbrev pub outer_object : List ℕ → Option Meaning → Option Object → Option Object
 outer_object w (Some a) o = Some a.object
 outer_object w None None = predeclared_object w
 outer_object w None (Some x) = Some x
@@ -237,20 +237,27 @@ nothing_else : (o : Option Meaning) → otherwise o None ≡ o
 nothing_else None = refl
 nothing_else (Some m) = refl
 
-abbrev meant_by : ℕ → List ℕ → List Meaning → List Entry → Option Object
-meant_by n w imports objects = if is_blank w then None else outer_object w (first_by (scopes.is_import n) w imports) (find 0 w objects)
+-- the object of a local meaning, else another
+abbrev pub local_object : Option Meaning → Option Object → Option Object
+local_object None o = o
+local_object (Some m) o = Some m.object
 
-meant_outside : (fs : List File) → AreRead fs → (n t : ℕ) → StandsOutside fs n t → meant_at fs n t ≡ meant_by n (text_at fs n t) (imported_from 0 (units_of fs)) (map (entry fs) (package_objects fs))
-meant_outside fs h n t out =
+local_reached : (w : List ℕ) (l i p : Option Meaning) → object_by w (reached l i p) ≡ local_object l (outer_object w i (object_in p))
+local_reached w None i p = by_outer w i p
+local_reached w (Some m) i p = refl
+
+abbrev pub meant_by : ℕ → List ℕ → Option Meaning → List Meaning → List Entry → Option Object
+meant_by n w local imports objects = if is_blank w then None else local_object local (outer_object w (first_by (scopes.is_import n) w imports) (find 0 w objects))
+
+-- a local meaning, else what is imported in the file, else what the package declares
+pub meant_reached : (fs : List File) → AreRead fs → (n t : ℕ) (w : List ℕ)
+    → object_at (meanings (units_of fs)) n t w ≡ meant_by n w (inmost n t w None (locals_of n (meanings (units_of fs)))) (imported_from 0 (units_of fs)) (map (entry fs) (package_objects fs))
+meant_reached fs h n t w =
     let us : List names.Unit = units_of fs in
-    let w : List ℕ = text_at fs n t in
     let ds : List Found = declarations us in
     let ms : List Meaning = meanings us in
+    let local : Option Meaning = inmost n t w None (locals_of n ms) in
     let stand : StandFrom fs 0 fs = stand_from fs 0 fs (λ k. let z : 0 + k ≡ k = omega arith in ap (file_in fs) z) in
-    let away : Every (λ m. IsAway n t m.extent) ms =
-    every_append (λ m. IsAway n t m.extent) (imported_from 0 us) (numbered first_numbers ds) (imported_away n t 0 us)
-    (numbered_away n t first_numbers ds (every_new (λ d. IsAway n t (extent_of d)) (found_from 0 us) (found_from 0 us) (all_away fs n t out 0 fs h stand))) in
-    let local : inmost n t w None (locals_of n ms) ≡ None = inmost_away n t w ms away in
     let imported : first_by (scopes.is_import n) w ms ≡ first_by (scopes.is_import n) w (imported_from 0 us) =
     first_append (scopes.is_import n) w (imported_from 0 us) (numbered first_numbers ds)
     ∙ ap (otherwise (first_by (scopes.is_import n) w (imported_from 0 us))) (numbered_none n w first_numbers ds)
@@ -258,17 +265,26 @@ meant_outside fs h n t out =
     let shared : object_in (first_by scopes.is_package w ms) ≡ find 0 w (map (entry fs) (declared_in_package ds)) =
     ap object_in (first_append scopes.is_package w (imported_from 0 us) (numbered first_numbers ds) ∙ ap (λ o. otherwise o (first_by scopes.is_package w (numbered first_numbers ds))) (imported_none w 0 us))
     ∙ first_found fs w first_numbers ds (every_new (IsNamed fs) (found_from 0 us) (found_from 0 us) (all_named fs 0 fs stand)) in
-    let reach : meaning_at ms n t w ≡ otherwise (first_by (scopes.is_import n) w ms) (first_by scopes.is_package w ms) =
-    meaning_reached n t w ms (locals_good us (orderly fs h) n).1 ∙ ap (λ o. reached o (first_by (scopes.is_import n) w ms) (first_by scopes.is_package w ms)) local in
-    ap (λ o. if is_blank w then None else object_by w o) reach
+    ap (λ o. if is_blank w then None else object_by w o) (meaning_reached n t w ms (locals_good us (orderly fs h) n).1)
     ∙ ap (λ o. if is_blank w then None else o) (
-    by_outer w (first_by (scopes.is_import n) w ms) (first_by scopes.is_package w ms)
-    ∙ ap (λ i. outer_object w i (object_in (first_by scopes.is_package w ms))) imported
-    ∙ ap (outer_object w (first_by (scopes.is_import n) w (imported_from 0 us))) shared)
+    local_reached w local (first_by (scopes.is_import n) w ms) (first_by scopes.is_package w ms)
+    ∙ ap (λ i. local_object local (outer_object w i (object_in (first_by scopes.is_package w ms)))) imported
+    ∙ ap (λ p. local_object local (outer_object w (first_by (scopes.is_import n) w (imported_from 0 us)) p)) shared)
+
+meant_outside : (fs : List File) → AreRead fs → (n t : ℕ) → StandsOutside fs n t → meant_at fs n t ≡ meant_by n (text_at fs n t) None (imported_from 0 (units_of fs)) (map (entry fs) (package_objects fs))
+meant_outside fs h n t out =
+    let us : List names.Unit = units_of fs in
+    let w : List ℕ = text_at fs n t in
+    let ds : List Found = declarations us in
+    let stand : StandFrom fs 0 fs = stand_from fs 0 fs (λ k. let z : 0 + k ≡ k = omega arith in ap (file_in fs) z) in
+    let away : Every (λ m. IsAway n t m.extent) (meanings us) =
+    every_append (λ m. IsAway n t m.extent) (imported_from 0 us) (numbered first_numbers ds) (imported_away n t 0 us)
+    (numbered_away n t first_numbers ds (every_new (λ d. IsAway n t (extent_of d)) (found_from 0 us) (found_from 0 us) (all_away fs n t out 0 fs h stand))) in
+    meant_reached fs h n t w ∙ ap (λ o. meant_by n w o (imported_from 0 us) (map (entry fs) (package_objects fs))) (inmost_away n t w (meanings us) away)
 
 -- ---- two packages
 
-imports_told : (k : ℕ) (old new : List File) → AreRead old → AreRead new → heads old ≡ heads new → imported_from k (units_of new) ≡ imported_from k (units_of old)
+pub imports_told : (k : ℕ) (old new : List File) → AreRead old → AreRead new → heads old ≡ heads new → imported_from k (units_of new) ≡ imported_from k (units_of old)
 imports_told k [] [] h g e = refl
 imports_told k [] (b ∷ bs) h g e = absurd (some_not_none (head_of b) (heads bs) (sym e))
 imports_told k (a ∷ xs) [] h g e = absurd (some_not_none (head_of a) (heads xs) e)
@@ -296,8 +312,8 @@ meanings_kept old new h k e = record {
   meaning =
       λ n t u x y same.
       meant_outside new k n u y
-      ∙ ap (λ w. meant_by n w (imported_from 0 (units_of new)) (map (entry new) (package_objects new))) (text_same old new e n t u x y same)
-      ∙ ap (λ ms. meant_by n (text_at old n t) ms (map (entry new) (package_objects new))) (imports_told 0 old new h k e)
-      ∙ ap (meant_by n (text_at old n t) (imported_from 0 (units_of old))) (entries_same old new h k e)
+      ∙ ap (λ w. meant_by n w None (imported_from 0 (units_of new)) (map (entry new) (package_objects new))) (text_same old new e n t u x y same)
+      ∙ ap (λ ms. meant_by n (text_at old n t) None ms (map (entry new) (package_objects new))) (imports_told 0 old new h k e)
+      ∙ ap (meant_by n (text_at old n t) None (imported_from 0 (units_of old))) (entries_same old new h k e)
       ∙ sym (meant_outside old h n t x);
 }

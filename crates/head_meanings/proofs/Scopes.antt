@@ -202,7 +202,7 @@ at_name entity.Type name from h = omega (arith, h)
 at_name entity.Function name from h = absurd h
 at_name e name from h = omega (arith, h)
 
-behind_name : (b : Block) (e : Entity) (name from : ℕ) → BeginsIn b e name from → is_package b ≡ false → name ≤ from
+pub behind_name : (b : Block) (e : Entity) (name from : ℕ) → BeginsIn b e name from → is_package b ≡ false → name ≤ from
 behind_name block.Package e name from h x = absurd (true_false true refl x)
 behind_name (block.Local i) e name from h x = at_name e name from h
 

@@ -139,7 +139,7 @@ module _ (all : List File) (among : List Found) (n : ℕ) (f : File) (here : fil
 
 -- ---- packages
 
-new_append : (all : List Found) (ds es : List Found) → new_among all (ds ++ es) ≡ new_among all ds ++ new_among all es
+pub new_append : (all : List Found) (ds es : List Found) → new_among all (ds ++ es) ≡ new_among all ds ++ new_among all es
 new_append all [] es = refl
 new_append all (d ∷ ds) es = ap (λ xs. if is_new all d then d ∷ xs else xs) (new_append all ds es) ∙ spread (is_new all d) (new_among all ds) (new_among all es)
   where
@@ -147,7 +147,7 @@ new_append all (d ∷ ds) es = ap (λ xs. if is_new all d then d ∷ xs else xs)
     spread true xs ys = refl
     spread false xs ys = refl
 
-declared_append : (ds es : List Found) → declared_in_package (ds ++ es) ≡ declared_in_package ds ++ declared_in_package es
+pub declared_append : (ds es : List Found) → declared_in_package (ds ++ es) ≡ declared_in_package ds ++ declared_in_package es
 declared_append [] es = refl
 declared_append (d ∷ ds) es = ap (λ xs. if is_package d.it.block then declared_by d ∷ xs else xs) (declared_append ds es) ∙ spread (is_package d.it.block) (declared_in_package ds) (declared_in_package es)
   where

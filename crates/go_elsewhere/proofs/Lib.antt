@@ -1,0 +1,10 @@
+mod Parts
+mod Settling
+mod Operators
+mod Indexes
+mod Calls
+mod Literals
+mod TypeNodes
+mod Nodes
+mod Typing
+mod Further

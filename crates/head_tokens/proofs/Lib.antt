@@ -1,0 +1,5 @@
+pub mod Shifted
+pub mod Apart
+pub mod Numbers
+pub mod Tokens
+pub mod Pairs
