@@ -5,6 +5,7 @@
 #   shapes    checks of packages of one shape, each in three sizes: a body of many statements, a function of many locals, blocks
 #             nested as deep as a file may, many functions, and functions that call one another
 #   chains    checks of declarations over 256 files, each of which names another one, in two sizes
+#   faults    checks of declarations over 256 files with many faults, in two sizes
 #   phases    the phases of the check of the largest package of functions. It is given up at the first phase with a fault, and the
 #             fault stands at the end of the file; so the times of two packages with faults of adjoining phases differ by a phase
 #   listings  listings of clone classes: functions of one statement over and over, and the largest package of functions
@@ -13,7 +14,7 @@
 top=$(cd "$(dirname "${BASH_SOURCE[0]}")/.." && pwd) || exit 1
 program=${1:-${GOCLONE:-$top/crates/clone_cli/out/clone_cli}}
 tables=${*:2}
-tables=${tables:-sizes shapes chains phases listings}
+tables=${tables:-sizes shapes chains faults phases listings}
 read -ra sizes <<<"${SIZES:-16384 65536 262144 1048576}"
 room=$(mktemp -d) || exit 1
 trap 'rm -rf "$room"' EXIT
@@ -132,7 +133,8 @@ idle() {
 }
 
 # So many declarations over the 256 files of a new folder, each of which names another one: constants behind the one that they name or
-# in front of it, slices or structs of the next type, or types and variables that name one another.
+# in front of it, slices or structs of the next type, types and variables that name one another, or wrong values: in front of a faulty
+# constant that all of them need, or each in front of one that it needs.
 #   chain SORT COUNT FOLDER
 chain() {
     mkdir "$3" && awk -v sort="$1" -v count="$2" -v folder="$3" '
@@ -146,6 +148,11 @@ chain() {
                 if (sort == "before") put(i, "const c" i " = " (i < last ? "c" (i + 1) " + 1" : "1"))
                 if (sort == "slices") put(i, "type t" i " " (i < last ? "[]t" (i + 1) : "int"))
                 if (sort == "structs") put(i, "type t" i " " (i < last ? "struct{ next t" (i + 1) " }" : "int"))
+            }
+            for (i = 0; i < count && sort == "blocked"; i++) put(i, "var a" i ", b" i " int = \"x\", bad")
+            if (sort == "blocked") put(255, "const bad = 1 + \"x\"")
+            for (i = 0; i < count && sort == "wrong"; i++) {
+                put(i, "const a" i ", b" i " int = \"x\", " (i < last ? "a" (i + 1) : "1"))
             }
             for (i = 0; i < count / 2 && sort == "mixed"; i++) {
                 put(i, "type t" i " []t" (i + 1) % (count / 2))
@@ -216,6 +223,24 @@ table_of_chains() {
     chain_rows 'types, slices of the next one' slices 1000 10000 || return 1
     chain_rows 'types, structs of the next one' structs 1000 10000 || return 1
     chain_rows 'types and variables that name one another' mixed 2500 25000 || return 1
+}
+
+# Rows for declarations with many faults.
+#   fault_rows TEXT SORT COUNT ..
+fault_rows() {
+    local text=$1 sort=$2 count seen
+    shift 2
+    for count in "$@"; do
+        chain "$sort" "$count" "$room/$sort$count" && seen=$(check fault "$room/$sort$count") || return 1
+        echo "| $text | $count | ${seen% *} | ${seen#* } |"
+    done
+}
+
+table_of_faults() {
+    echo '| Declarations over 256 files | How many | Check, ms | Memory, kB |'
+    echo '|---|---|---|---|'
+    fault_rows 'wrong values, which a fault behind all of them blocks' blocked 1000 10000 || return 1
+    fault_rows 'wrong values, each of which needs the next one' wrong 1000 10000 || return 1
 }
 
 # A row for the phases up to one: the package ends in a text with a fault of this phase.
