@@ -19,9 +19,10 @@ pub struct Node {
 
 impl Node {
     /// A node over the tokens from `first` up to `last`.
-    pub fn new(kind: Kind, first: u32, last: u32, parts: Vec<Option<Node>>) -> Node
+    pub fn new(kind: Kind, first: u32, last: u32, mut parts: Vec<Option<Node>>) -> Node
         ensures { view result ≡ node kind first last (views parts.items) }
     {
+        parts.shrink_to_fit();
         Node {
             kind,
             first,

@@ -57,14 +57,17 @@ impl TypedFunc {
         alloc: Global,
         number: u32,
         signature: TypeId,
-        parameters: Vec<Option<u32>>,
-        locals: Vec<Sort>,
-        tokens: Vec<Option<u32>>,
+        mut parameters: Vec<Option<u32>>,
+        mut locals: Vec<Sort>,
+        mut tokens: Vec<Option<u32>>,
         root: TypedNode,
     ) -> Result<TypedFunc, Memory>
         requires { IsTypedFunc (record { number = number; signature = signature; parameters = parameters.items; locals = map sort_view locals.items; tokens = tokens.items; root = root }) }
         ensures { IfOk result (λ f. f ≡ record { number = number; signature = signature; parameters = parameters.items; locals = map sort_view locals.items; tokens = tokens.items; root = root }) }
     {
+        parameters.shrink_to_fit();
+        locals.shrink_to_fit();
+        tokens.shrink_to_fit();
         let table = NodeTable::of(alloc, &root)?;
         Ok(TypedFunc {
             number,

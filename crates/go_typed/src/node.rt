@@ -27,10 +27,11 @@ impl TypedNode {
         first: u32,
         last: u32,
         label: Label,
-        parts: Vec<Option<TypedNode>>,
+        mut parts: Vec<Option<TypedNode>>,
     ) -> TypedNode
         ensures { view result ≡ typed form first last (label_view label) (views parts.items) }
     {
+        parts.shrink_to_fit();
         TypedNode {
             form,
             first,

@@ -46,6 +46,8 @@ impl NodeTable {
             lists: Vec::new(alloc),
         };
         table.push_node(0, tree)?;
+        table.places.shrink_to_fit();
+        table.lists.shrink_to_fit();
         Ok(table)
     }
 
