@@ -105,13 +105,16 @@ impl Graph {
 
     /// What the name of this number calls for.
     fn add_lookup(&mut self, name: usize, a: &Asked<'_>) -> Result<(), AllocError> {
+        let site = a.lookup.site;
+        if full_part(site).is_none() {
+            return Ok(());
+        }
         let Some(d) = source_of(a.meaning) else {
             return Ok(());
         };
         let Some(number) = self.declared.get(&(d.file, d.declaration.name)).copied() else {
             return Ok(());
         };
-        let site = a.lookup.site;
         self.add_need(a.file, full_part(site), name, node_of(number, true))?;
         self.add_need(a.file, partial_part(site), name, node_of(number, false))
     }

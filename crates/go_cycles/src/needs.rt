@@ -68,7 +68,7 @@ pub fn source_of<'a>(meaning: Option<Meaning<'a>>) -> Option<Found<'a>>
     ensures { option_map found_view result ≡ source_of (option_map meaning_view meaning.entry) }
 {
     match meaning {
-        Some(meaning) => meaning.source,
+        Some(meaning) => meaning.entry.source,
         None => None,
     }
 }

@@ -29,7 +29,7 @@ pub fn based(alloc: Global, base: u32, node: &Node) -> Result<Node, Memory>
 fn all_based(alloc: Global, base: u32, parts: &[Option<Node>]) -> Result<Vec<Option<Node>>, Memory>
     ensures { IfOk result (λ ns. views ns.items ≡ all_based base (views parts.now)) }
 {
-    let mut out = Vec::new(alloc);
+    let mut out = Vec::with_capacity(alloc, parts.len())?;
     for part in parts {
         match part {
             Some(node) => out.push(Some(based(alloc, base, node)?))?,

@@ -34,9 +34,9 @@ same_by w o e key k h f = subst (λ x. same_outer x k ≡ (same_text w.now k.nam
     some_same : (x y : Outer) → Some x ≡ Some y → x ≡ y
     some_same x y e = cc
 
-pub outer_key : (m : own.Meaning) (e : Extent) (key k : Outer) → outer_by m e ≡ Some key → same_outer key k ≡ (same_text m.name.now k.name.now && in_block k.file e)
-outer_key m extent.Everywhere key k h = same_by m.name None extent.Everywhere key k h (in_package k.file)
-outer_key m (extent.Throughout n) key k h = same_by m.name (Some n) (extent.Throughout n) key k h (in_file n k.file)
+pub outer_key : (m : own.Meaning) (e : Extent) (key k : Outer) → outer_by m e ≡ Some key → same_outer key k ≡ (same_text m.entry.now.name.now k.name.now && in_block k.file e)
+outer_key m extent.Everywhere key k h = same_by m.entry.now.name None extent.Everywhere key k h (in_package k.file)
+outer_key m (extent.Throughout n) key k h = same_by m.entry.now.name (Some n) (extent.Throughout n) key k h (in_file n k.file)
 outer_key m (extent.Between n s) key k h = cc
 
 pub outer_put : (b : Bool) (m : own.Meaning) (g : Option own.Meaning) (o : Option Meaning) → option_map meaning_view g ≡ o → option_map meaning_view (cond b (Some m) g) ≡ (if b then Some (meaning_view m) else o)

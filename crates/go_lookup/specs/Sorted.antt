@@ -33,8 +33,8 @@ in_block (Some n) e = is_import n e
 
 -- the name and the block of a meaning that is not local
 abbrev pub outer_by : Meaning → Extent → Option Outer
-outer_by m extent.Everywhere = Some (record { file = None; name = m.name })
-outer_by m (extent.Throughout n) = Some (record { file = Some n; name = m.name })
+outer_by m extent.Everywhere = Some (record { file = None; name = m.entry.now.name })
+outer_by m (extent.Throughout n) = Some (record { file = Some n; name = m.entry.now.name })
 outer_by m (extent.Between n s) = None
 
 abbrev pub same_outer : Outer → Outer → Bool

@@ -2,13 +2,15 @@
 use Rattle.std.specs.Prelude.{List, map}
 use Rattle.std.specs.Option.{option_map}
 use Rattle.go_base.specs.declared.span.Span.{Span}
-use Rattle.go_tree.specs.Units.{Place}
+use Rattle.go_tree.specs.Units.{Place, word, bytes_at}
 use Rattle.go_tree.specs.Declarations as declarations
 use Rattle.go_tree.specs.Meanings as meanings
 use Rattle.go_tree.specs.Units as units
+use Rattle.go_tree.specs.Lookups.{whole_of, selected_of}
 use Rattle.go_tree.specs.Lookups as rules
 use Rattle.go_lookup.specs.declared.unit.Unit.{Unit}
 use Rattle.go_lookup.specs.declared.found.Found.{Found}
+use Rattle.go_lookup.specs.declared.meaning.Entry.{Entry}
 use Rattle.go_lookup.specs.declared.meaning.Meaning.{Meaning}
 use Rattle.go_lookup.specs.declared.meaning.Numbers.{Numbers}
 use Rattle.go_lookup.specs.declared.asked.Asked.{Asked}
@@ -25,11 +27,14 @@ place_of s = record { file = s.file; start = s.start; end = s.end }
 abbrev pub found_view : Found → declarations.Found
 found_view f = record { file = f.file; name = f.name.now; place = place_of f.place; it = f.declaration }
 
+abbrev pub entry_view : Entry → meanings.Meaning
+entry_view e = record { name = e.name.now; extent = e.extent; object = e.object; source = option_map found_view e.source }
+
 abbrev pub meaning_view : Meaning → meanings.Meaning
-meaning_view m = record { name = m.name.now; extent = m.extent; object = m.object; source = option_map found_view m.source }
+meaning_view m = entry_view m.entry.now
 
 abbrev pub asked_view : Asked → rules.Asked
-asked_view a = record { file = a.file; name = a.name.now; place = place_of a.place; whole = place_of a.whole; selected = a.selected.now; meaning = option_map meaning_view a.meaning; it = a.lookup }
+asked_view a = record { file = a.file; name = word a.tokens.now a.lookup.name; place = bytes_at a.file a.tokens.now a.lookup.name; whole = whole_of a.file a.tokens.now a.lookup.name a.lookup.role; selected = selected_of a.tokens.now a.lookup.role; meaning = option_map meaning_view a.meaning; it = a.lookup }
 
 abbrev pub numbers_view : Numbers → meanings.Numbers
 numbers_view k = record { shared = k.shared; functions = k.functions; local = k.local }

@@ -20,20 +20,45 @@ use go_tree::event::{Event, Use};
 use std::alloc::AllocError;
 
 /// A name that is looked up.
-#[derive(Clone, Copy, Debug)]
+#[derive(Clone, Copy)]
 pub struct Asked<'a> {
     /// The number of its file.
     pub file: u32,
-    pub name: &'a [u8],
-    /// Its bytes.
-    pub place: Span,
-    /// If it is the operand of a selector, the bytes of the selector.
-    pub whole: Span,
-    /// If it is the operand of a selector, the selected name.
-    pub selected: &'a [u8],
+    /// The tokens of its file.
+    pub tokens: &'a Tokens,
     /// What it is declared as there.
     pub meaning: Option<Meaning<'a>>,
     pub lookup: Use,
+}
+
+impl<'a> Asked<'a> {
+    /// The name.
+    pub fn name(&self) -> &'a [u8]
+        ensures { result.now ≡ (asked_view self.now).name }
+    {
+        word(self.tokens, self.lookup.name)
+    }
+
+    /// Its bytes.
+    pub fn place(&self) -> Span
+        ensures { place_of result ≡ (asked_view self.now).place }
+    {
+        bytes_at(self.file, self.tokens, self.lookup.name)
+    }
+
+    /// If it is the operand of a selector, the bytes of the selector.
+    pub fn whole(&self) -> Span
+        ensures { place_of result ≡ (asked_view self.now).whole }
+    {
+        whole_of(self.file, self.tokens, self.lookup.name, self.lookup.role)
+    }
+
+    /// If it is the operand of a selector, the selected name.
+    pub fn selected(&self) -> &'a [u8]
+        ensures { result.now ≡ (asked_view self.now).selected }
+    {
+        selected_of(self.tokens, self.lookup.role)
+    }
 }
 
 /// The bytes of the selector whose operand the token is; else those of the token.
@@ -62,10 +87,7 @@ fn ask<'a>(file: u32, tokens: &'a Tokens, lookup: &Use, meaning: Option<Meaning<
 {
     Asked {
         file,
-        name: word(tokens, lookup.name),
-        place: bytes_at(file, tokens, lookup.name),
-        whole: whole_of(file, tokens, lookup.name, lookup.role),
-        selected: selected_of(tokens, lookup.role),
+        tokens,
         meaning,
         lookup: *lookup,
     }

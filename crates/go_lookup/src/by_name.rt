@@ -1,21 +1,19 @@
 //! What any name means at any place of a package.
 
-ghost use Rattle.std.specs.Prelude.{◌≡◌, ◌∷◌, ◌++◌, ◌≤◌, List, [], None, IfOk, OnOk, length, map};
+ghost use Rattle.std.specs.Prelude.{◌≡◌, ◌∷◌, ◌++◌, ℕ, List, [], None, IfOk, OnOk, map};
 ghost use Rattle.std.specs.Option.{option_map, option_copied};
-ghost use Rattle.go_tree.specs.Declarations.{declarations};
 ghost use Rattle.go_tree.specs.Extents.{covers};
 ghost use Rattle.go_tree.specs.Meanings.{meaning_at};
 ghost use Rattle.go_tree.specs.Objects.{object_at};
 ghost use Rattle.go_tree.specs.Meanings as meanings;
-ghost use Rattle.go_names.specs.Scopes.{inner, AreOrderly};
+ghost use Rattle.go_names.specs.Scopes.{inner, locals_of, AreNested};
 ghost use Rattle.go_lookup.specs.Named.{KnowsNamed, IsNamed, all_meanings, named_locals, over_covering, inmost_among, local_meaning, reached_meaning};
 ghost use Rattle.go_lookup.specs.Sorted.{items_of};
-ghost use Rattle.go_lookup.specs.Views.{units_view, found_view, meaning_view};
+ghost use Rattle.go_lookup.specs.Views.{entry_view, meaning_view};
 
-use crate::found::Found;
-use crate::meaning::{Meaning, lies_inside, meanings, object_by};
+use crate::meaning::{Entry, Meaning, lies_inside, meanings, object_by};
 use crate::sorted::{Sorted, by_block, or_none};
-use crate::unit::{Unit, is_blank};
+use crate::unit::is_blank;
 use go_base::Memory;
 use go_tree::object::{Extent, Object};
 use std::alloc::{AllocError, Global};
@@ -39,8 +37,8 @@ fn add_local<'a>(
 ) -> Result<(), AllocError>
     ensures { OnOk result ((ms : List meanings.Meaning) → KnowsNamed locals.old ms → KnowsNamed locals.new (ms ++ meaning_view meaning.now ∷ [])) }
 {
-    if let Extent::Between { file, .. } = meaning.extent {
-        let key = (file, meaning.name);
+    if let Extent::Between { file, .. } = meaning.entry.extent {
+        let key = (file, meaning.entry.name);
         let mut own = or_none(alloc, locals.remove(&key));
         own.push(*meaning)?;
         locals.insert(key, own)?;
@@ -59,23 +57,17 @@ fn locals<'a>(alloc: Global, all: &[Meaning<'a>]) -> Result<NamedLocals<'a>, All
     Ok(locals)
 }
 
-/// The meanings of a package with these declarations, by their names.
+/// The meanings of a package with these entries, by their names.
 ///
 /// # Errors
 ///
 /// Want of memory.
-pub fn by_name<'a>(
-    alloc: Global,
-    units: &[Unit<'a>],
-    declared: &[Found<'a>],
-) -> Result<Named<'a>, Memory>
-    requires few { length units.now ≤ 256 }
-    requires orderly { AreOrderly (units_view units.now) }
-    requires declared { map found_view declared.now ≡ declarations (units_view units.now) }
+pub fn by_name<'a>(alloc: Global, entries: &'a [Entry<'a>]) -> Result<Named<'a>, Memory>
+    requires nested { (n : ℕ) → AreNested (locals_of n (map entry_view entries.now)) }
     ensures named { IfOk result (λ x. IsNamed x) }
-    ensures meanings { IfOk result (λ x. all_meanings x ≡ meanings.meanings (units_view units.now)) }
+    ensures meanings { IfOk result (λ x. all_meanings x ≡ map entry_view entries.entry.now) }
 {
-    let sorted = by_block(alloc, meanings(alloc, units, declared)?)?;
+    let sorted = by_block(alloc, meanings(alloc, entries)?)?;
     let locals = locals(alloc, &sorted.all)?;
     Ok(Named { sorted, locals })
 }
@@ -100,7 +92,7 @@ fn inner<'a>(found: Option<Meaning<'a>>, meaning: &Meaning<'a>) -> Option<Meanin
     match found {
         None => Some(*meaning),
         Some(found) => {
-            if lies_inside(found.extent, meaning.extent) {
+            if lies_inside(found.entry.extent, meaning.entry.extent) {
                 Some(found)
             } else {
                 Some(*meaning)
@@ -118,7 +110,7 @@ fn over<'a>(
 ) -> Option<Meaning<'a>>
     ensures { option_map meaning_view result ≡ over_covering file token (option_map meaning_view found.entry) (meaning_view meaning.now) }
 {
-    if covers(meaning.extent, file, token) {
+    if covers(meaning.entry.extent, file, token) {
         inner(found, meaning)
     } else {
         found

@@ -3,15 +3,13 @@
 ghost use Rattle.std.specs.Prelude.{◌≡◌, ◌≤◌, ℕ, IfOk, length, map};
 ghost use Rattle.go_names.specs.Scopes.{locals_of, AreSwept, AreNested, AreOrderly};
 ghost use Rattle.go_tree.specs.Lookups.{asked_from};
-ghost use Rattle.go_tree.specs.Declarations.{declarations};
 ghost use Rattle.go_tree.specs.Meanings.{meanings};
 ghost use Rattle.go_tree.specs.Objects.{objects, objects_from};
-ghost use Rattle.go_lookup.specs.Views.{units_view, found_view, asked_view};
+ghost use Rattle.go_lookup.specs.Views.{units_view, entry_view, asked_view};
 ghost use Rattle.go_lookup.specs.Sorted.{all_of, IsSorted};
 
 use crate::asked::{Asked, push_asked};
-use crate::found::Found;
-use crate::meaning::meanings;
+use crate::meaning::{Entry, meanings};
 use crate::sorted::{Sorted, by_block};
 use crate::sweep::event_meanings;
 use crate::table::{owners_of, token_objects};
@@ -54,7 +52,7 @@ fn look_up_files<'a>(
     Ok(LookedUp { asked, objects })
 }
 
-/// What the names of a package with these declarations mean.
+/// What the names of a package with these entries mean.
 ///
 /// # Errors
 ///
@@ -62,14 +60,14 @@ fn look_up_files<'a>(
 pub fn look_up<'a>(
     alloc: Global,
     units: &[Unit<'a>],
-    declared: &[Found<'a>],
+    entries: &'a [Entry<'a>],
 ) -> Result<LookedUp<'a>, Memory>
     requires few { length units.now ≤ 256 }
     requires orderly { AreOrderly (units_view units.now) }
-    requires declared { map found_view declared.now ≡ declarations (units_view units.now) }
+    requires entries { map entry_view entries.now ≡ meanings (units_view units.now) }
     ensures asked { IfOk result (λ r. map asked_view r.asked.items ≡ asked_from (meanings (units_view units.now)) 0 (units_view units.now)) }
     ensures objects { IfOk result (λ r. map (λ v. v.items) r.objects.items ≡ objects (units_view units.now)) }
 {
-    let sorted = by_block(alloc, meanings(alloc, units, declared)?)?;
+    let sorted = by_block(alloc, meanings(alloc, entries)?)?;
     look_up_files(alloc, &sorted, units)
 }

@@ -7,7 +7,7 @@ ghost use Rattle.go_tree.specs.Extents.{lies_inside, extent_of};
 ghost use Rattle.go_tree.specs.Imports.{imports_fmt};
 ghost use Rattle.go_tree.specs.Meanings.{first_numbers, own_number, behind_shared, numbers_behind, numbered, imported_from, meanings};
 ghost use Rattle.go_tree.specs.Objects.{predeclared_object, object_by};
-ghost use Rattle.go_lookup.specs.Views.{unit_view, units_view, found_view, meaning_view, numbers_view};
+ghost use Rattle.go_lookup.specs.Views.{unit_view, units_view, found_view, entry_view, meaning_view, numbers_view};
 
 use crate::found::Found;
 use crate::unit::{Unit, is_fmt_path};
@@ -20,12 +20,18 @@ use std::alloc::{AllocError, Global};
 
 /// A name with a meaning.
 #[derive(Clone, Copy, Debug)]
-pub struct Meaning<'a> {
+pub struct Entry<'a> {
     pub name: &'a [u8],
     pub extent: Extent,
     pub object: Object,
     /// Its declaration, if it isn't imported.
     pub source: Option<Found<'a>>,
+}
+
+/// What a name means: one of the entries of a package.
+#[derive(Clone, Copy, Debug)]
+pub struct Meaning<'a> {
+    pub entry: &'a Entry<'a>,
 }
 
 /// Whether the first extent lies inside the second.
@@ -115,8 +121,8 @@ impl Numbers {
 }
 
 /// What the declarations mean, behind other meanings.
-fn push_numbered<'a>(out: &mut Vec<Meaning<'a>>, all: &[Found<'a>]) -> Result<(), AllocError>
-    ensures { OnOk result (map meaning_view out.new.items ≡ map meaning_view out.old.items ++ numbered first_numbers (map found_view all.now)) }
+fn push_numbered<'a>(out: &mut Vec<Entry<'a>>, all: &[Found<'a>]) -> Result<(), AllocError>
+    ensures { OnOk result (map entry_view out.new.items ≡ map entry_view out.old.items ++ numbered first_numbers (map found_view all.now)) }
 {
     let mut numbers = Numbers {
         shared: 0,
@@ -124,7 +130,7 @@ fn push_numbered<'a>(out: &mut Vec<Meaning<'a>>, all: &[Found<'a>]) -> Result<()
         local: 0,
     };
     for d in all {
-        out.push(Meaning {
+        out.push(Entry {
             name: d.name,
             extent: extent_of(d),
             object: numbers.object(d.declaration.block),
@@ -150,14 +156,14 @@ pub fn imports_fmt(alloc: Global, unit: &Unit<'_>) -> Result<bool, Memory>
 }
 
 /// What the imports mean.
-fn imported<'a>(alloc: Global, units: &[Unit<'_>]) -> Result<Vec<Meaning<'a>>, Memory>
+fn imported<'a>(alloc: Global, units: &[Unit<'_>]) -> Result<Vec<Entry<'a>>, Memory>
     requires { length units.now ≤ 256 }
-    ensures { IfOk result (λ v. map meaning_view v.items ≡ imported_from 0 (units_view units.now)) }
+    ensures { IfOk result (λ v. map entry_view v.items ≡ imported_from 0 (units_view units.now)) }
 {
     let mut out = Vec::new(alloc);
     for (file, unit) in units.iter().enumerate() {
         if imports_fmt(alloc, unit)? {
-            out.push(Meaning {
+            out.push(Entry {
                 name: b"fmt",
                 extent: Extent::Throughout(file as u32),
                 object: Object::Import,
@@ -169,16 +175,27 @@ fn imported<'a>(alloc: Global, units: &[Unit<'_>]) -> Result<Vec<Meaning<'a>>, M
 }
 
 /// What the imports and the declarations of a package mean.
-pub fn meanings<'a>(
+pub fn entries<'a>(
     alloc: Global,
     units: &[Unit<'_>],
     declarations: &[Found<'a>],
-) -> Result<Vec<Meaning<'a>>, Memory>
+) -> Result<Vec<Entry<'a>>, Memory>
     requires { length units.now ≤ 256 }
-    ensures { IfOk result (λ v. map meaning_view v.items ≡ imported_from 0 (units_view units.now) ++ numbered first_numbers (map found_view declarations.now)) }
+    ensures { IfOk result (λ v. map entry_view v.items ≡ imported_from 0 (units_view units.now) ++ numbered first_numbers (map found_view declarations.now)) }
 {
     let mut out = imported(alloc, units)?;
     push_numbered(&mut out, declarations)?;
+    Ok(out)
+}
+
+/// The meanings that these entries are.
+pub fn meanings<'a>(alloc: Global, entries: &'a [Entry<'a>]) -> Result<Vec<Meaning<'a>>, AllocError>
+    ensures { IfOk result (λ v. map meaning_view v.items ≡ map entry_view entries.entry.now) }
+{
+    let mut out = Vec::new(alloc);
+    for entry in entries {
+        out.push(Meaning { entry })?;
+    }
     Ok(out)
 }
 
@@ -188,6 +205,6 @@ pub fn object_by(name: &[u8], meaning: Option<Meaning<'_>>) -> Option<Object>
 {
     match meaning {
         None => predeclared_object(name),
-        Some(meaning) => Some(meaning.object),
+        Some(meaning) => Some(meaning.entry.object),
     }
 }

@@ -40,7 +40,7 @@ impl<'a> Block<'a> {
         ensures end { OnOk result (self.new.end ≡ self.old.end) }
         ensures names { OnOk result ((t : ℕ) → (w : Bor (List ℕ)) → said_in self.new t w ≡ with_one self.old.end (meaning_view meaning.now) t w (said_in self.old t w)) }
     {
-        self.names.insert(meaning.name, *meaning)?;
+        self.names.insert(meaning.entry.name, *meaning)?;
         Ok(())
     }
 }
@@ -129,13 +129,13 @@ impl<'a> Scopes<'a> {
     /// Enters a local name whose scope has begun: of those with equal scopes the first counts.
     pub fn enter(&mut self, alloc: Global, token: u32, meaning: &Meaning<'a>) -> Result<(), Memory>
         ensures over { OnOk result (SaysOver token (meaning_view meaning.now) self.old.blocks.items self.new.blocks.items) }
-        ensures parted { OnOk result ((ms : List meanings.Meaning) → AreParted self.old.blocks.items ms → ArePartedBy ms (scope_of meaning.now.extent).to → AreParted self.new.blocks.items ms) }
+        ensures parted { OnOk result ((ms : List meanings.Meaning) → AreParted self.old.blocks.items ms → ArePartedBy ms (scope_of meaning.now.entry.now.extent).to → AreParted self.new.blocks.items ms) }
     {
-        if let Some(outer) = self.find(token, meaning.name) {
-            if lies_inside(outer.extent, meaning.extent) {
+        if let Some(outer) = self.find(token, meaning.entry.name) {
+            if lies_inside(outer.entry.extent, meaning.entry.extent) {
                 return Ok(());
             }
         }
-        self.put(alloc, scope_of(meaning.extent).to, meaning)
+        self.put(alloc, scope_of(meaning.entry.extent).to, meaning)
     }
 }

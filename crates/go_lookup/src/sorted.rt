@@ -38,16 +38,16 @@ pub struct Sorted<'a> {
 
 /// The name and the block of a meaning, if it isn't local.
 fn outer_of<'a>(meaning: &Meaning<'a>) -> Option<Outer<'a>>
-    ensures { result ≡ outer_by meaning.now meaning.now.extent }
+    ensures { result ≡ outer_by meaning.now meaning.now.entry.now.extent }
 {
-    match meaning.extent {
+    match meaning.entry.extent {
         Extent::Everywhere => Some(Outer {
             file: None,
-            name: meaning.name,
+            name: meaning.entry.name,
         }),
         Extent::Throughout(file) => Some(Outer {
             file: Some(file),
-            name: meaning.name,
+            name: meaning.entry.name,
         }),
         Extent::Between { .. } => None,
     }
@@ -92,7 +92,7 @@ fn add_local<'a>(
 ) -> Result<(), AllocError>
     ensures { OnOk result ((ms : List meanings.Meaning) → KnowsLocals locals.old ms → KnowsLocals locals.new (ms ++ meaning_view meaning.now ∷ [])) }
 {
-    if let Extent::Between { file, .. } = meaning.extent {
+    if let Extent::Between { file, .. } = meaning.entry.extent {
         let mut own = or_none(alloc, locals.remove(&file));
         own.push(*meaning)?;
         locals.insert(file, own)?;

@@ -33,7 +33,7 @@ fn advance<'a>(
     scopes.leave(token);
     for number in from..locals.len() {
         let meaning = &locals[number];
-        if token < scope_of(meaning.extent).from {
+        if token < scope_of(meaning.entry.extent).from {
             return Ok(number);
         }
         scopes.enter(alloc, token, meaning)?;

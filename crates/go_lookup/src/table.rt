@@ -28,8 +28,8 @@ pub fn owners_of(alloc: Global, all: &[Meaning<'_>]) -> Result<Owners, AllocErro
     let mut owners = HashMap::new(alloc);
     for number in (0..all.len()).rev() {
         let meaning = all[number];
-        if let Some(d) = meaning.source {
-            owners.insert((d.file, d.declaration.name), meaning.object)?;
+        if let Some(d) = meaning.entry.source {
+            owners.insert((d.file, d.declaration.name), meaning.entry.object)?;
         }
     }
     Ok(owners)

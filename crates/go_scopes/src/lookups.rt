@@ -37,7 +37,7 @@ pub enum LookupRule {
 pub fn object_asked(a: &Asked<'_>) -> Option<Object>
     ensures { result ≡ object_asked (asked_view a.now) }
 {
-    object_by(a.name, a.meaning)
+    object_by(a.name(), a.meaning)
 }
 
 /// Whether the name has no meaning; `iota` has one in constant declarations, which `constant` tells of.
@@ -89,17 +89,15 @@ fn is_no_call(role: Role, selected: &[u8]) -> bool
 fn is_initial(meaning: Option<Meaning<'_>>) -> bool
     ensures { result ≡ is_initial (option_map meaning_view meaning.entry) }
 {
-    match meaning {
-        Some(
-            Meaning {
-                source: Some(d),
-                ..
-            },
-        ) => match d.declaration.entity {
+    let Some(meaning) = meaning else {
+        return false;
+    };
+    match meaning.entry.source {
+        Some(d) => match d.declaration.entity {
             Entity::Function | Entity::Variable => true,
             Entity::Constant | Entity::Type | Entity::Parameter => false,
         },
-        _ => false,
+        None => false,
     }
 }
 
@@ -120,13 +118,13 @@ fn fails(rule: LookupRule, a: &Asked<'_>) -> bool
     ensures { result ≡ fails rule (asked_view a.now) }
 {
     match rule {
-        LookupRule::Undeclared => lacks_meaning(a.lookup.constant, a.name, object_asked(a)),
-        LookupRule::OutsideName => is_outside(a.name, object_asked(a)),
+        LookupRule::Undeclared => lacks_meaning(a.lookup.constant, a.name(), object_asked(a)),
+        LookupRule::OutsideName => is_outside(a.name(), object_asked(a)),
         LookupRule::OutsideMember => {
-            is_import(object_asked(a)) && is_other_member(a.lookup.role, a.selected)
+            is_import(object_asked(a)) && is_other_member(a.lookup.role, a.selected())
         }
         LookupRule::NotCalled => {
-            is_import(object_asked(a)) && is_no_call(a.lookup.role, a.selected)
+            is_import(object_asked(a)) && is_no_call(a.lookup.role, a.selected())
         }
         LookupRule::Initialiser => a.lookup.initial && is_initial(a.meaning),
     }
@@ -137,8 +135,8 @@ fn place_of(rule: LookupRule, a: &Asked<'_>) -> Span
     ensures { place_of result ≡ place_by rule (asked_view a.now) }
 {
     match rule {
-        LookupRule::OutsideMember | LookupRule::NotCalled => a.whole,
-        LookupRule::Undeclared | LookupRule::OutsideName | LookupRule::Initialiser => a.place,
+        LookupRule::OutsideMember | LookupRule::NotCalled => a.whole(),
+        LookupRule::Undeclared | LookupRule::OutsideName | LookupRule::Initialiser => a.place(),
     }
 }
 

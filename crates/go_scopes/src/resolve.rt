@@ -28,6 +28,7 @@ use go_lookup::asked::Asked;
 use go_lookup::declared::uses_of;
 use go_lookup::found::{Found, all_found, new_among};
 use go_lookup::look_up::look_up;
+use go_lookup::meaning::entries;
 use go_lookup::unit::Unit;
 use go_names::laws::{files_are_orderly, locals_stand_inside_functions, names_are_in_order};
 use go_names::walk::events;
@@ -92,7 +93,8 @@ fn resolve_units(alloc: Global, units: &[Unit<'_>]) -> Result<Uses, ResolveError
         return Err(ResolveError::Fault(fault));
     }
     let declared = new_among(alloc, &all)?;
-    let looked_up = look_up(alloc, units, &declared)?;
+    let entries = entries(alloc, units, &declared)?;
+    let looked_up = look_up(alloc, units, &entries)?;
     if let Some(fault) = name_faults(alloc, units, &all, &declared, &looked_up.asked)? {
         return Err(ResolveError::Fault(fault));
     }

@@ -52,15 +52,8 @@ fn used_spot(a: &Asked<'_>) -> Option<(u32, u32)>
     if is_assigned(a.lookup.role) {
         return None;
     }
-    match a.meaning {
-        Some(
-            Meaning {
-                source: Some(d),
-                ..
-            },
-        ) => Some((d.file, d.declaration.name)),
-        _ => None,
-    }
+    let d = a.meaning?.entry.source?;
+    Some((d.file, d.declaration.name))
 }
 
 /// Notes where the variable is declared that the name uses.

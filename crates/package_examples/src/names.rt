@@ -2,11 +2,13 @@
 
 use go_base::Span;
 use go_cycles::order::order_of;
+use go_lookup::by_name::by_name;
 use go_lookup::found::{all_found, new_among};
 use go_lookup::look_up::look_up;
+use go_lookup::meaning::entries;
 use go_parse::parse;
 use go_scopes::error::ResolveError;
-use go_scopes::names::names_of;
+use go_scopes::names::entries_of;
 use go_scopes::repeated::{NamePlace, redeclared_names, repeated_parameters};
 use go_scopes::resolve::{resolve, units_of};
 use go_tokens::lex::lex;
@@ -259,7 +261,8 @@ fn shown(alloc: Global, text: &[u8]) -> Result<Vec<Shown>, Fail> {
         return Err("a package has at most 256 files".into());
     }
     let declared = new_among(alloc, &all_found(alloc, &units)?)?;
-    let asked = look_up(alloc, &units, &declared)?.asked;
+    let entries = entries(alloc, &units, &declared)?;
+    let asked = look_up(alloc, &units, &entries)?.asked;
     let order = order_of(alloc, &asked, &declared)?;
     let rounds = declared.len().saturating_mul(2);
     let mut shown = Vec::new(alloc);
@@ -292,7 +295,8 @@ fn order(rt: HostRuntime) -> Result<(), Fail> {
         return Err("a package has at most 256 files".into());
     }
     let declared = new_among(alloc, &all_found(alloc, &units)?)?;
-    let asked = look_up(alloc, &units, &declared)?.asked;
+    let entries = entries(alloc, &units, &declared)?;
+    let asked = look_up(alloc, &units, &entries)?.asked;
     let mut names = Vec::new(alloc);
     let sorted = order_of(alloc, &asked, &declared)?.in_order(alloc, &declared)?;
     for d in sorted.iter().flatten() {
@@ -312,7 +316,8 @@ fn object_at<'a>(
     if files.len() > 256 {
         return Err("a package has at most 256 files".into());
     }
-    let names = names_of(alloc, files)?;
+    let entries = entries_of(alloc, files)?;
+    let names = by_name(alloc, &entries)?;
     Ok(names.object_at(0, token, name))
 }
 

@@ -18,14 +18,14 @@ returns-in_ok-insert c ms known n w =
     let f = c.in-Between.file in
     let locals = c.args.locals.now in
     let old : List Meaning = items_of (get same_named locals (n, w)) in
-    let had : map meaning_view c.or_none-own.result.items ≡ items_of (get same_named locals (f, m.name)) = c.or_none-own.ensures ∙ ap items_of c.remove.ensures.value in
-    let grown : map meaning_view c.push.new.self.items ≡ items_of (get same_named locals (f, m.name)) ++ meaning_view m ∷ [] =
+    let had : map meaning_view c.or_none-own.result.items ≡ items_of (get same_named locals (f, m.entry.now.name)) = c.or_none-own.ensures ∙ ap items_of c.remove.ensures.value in
+    let grown : map meaning_view c.push.new.self.items ≡ items_of (get same_named locals (f, m.entry.now.name)) ++ meaning_view m ∷ [] =
     ap (map meaning_view) c.in_ok-push.ensures.items ∙ (map-append meaning_view c.or_none-own.result.items (m ∷ []) ∙ ap (λ l. l ++ meaning_view m ∷ []) had) in
-    let b = same_named (f, m.name) (n, w) in
+    let b = same_named (f, m.entry.now.name) (n, w) in
     let put : get same_named c.insert.new.self (n, w) ≡ cond b (Some c.push.new.self) (get same_named c.remove.new.self (n, w)) = c.in_ok-insert.ensures.updates.0 (n, w) in
     let taken : get same_named c.remove.new.self (n, w) ≡ cond b None (get same_named locals (n, w)) = c.remove.ensures.updates.0 (n, w) in
-    named_step n w.now (meaning_view m) ms old (items_of (get same_named c.insert.new.self (n, w))) b (ap (λ x. is_local n x && same_text m.name.now w.now) c.in-Between.is ∙ ap (λ x. nat_eq f n && x) (sym (one_text m.name.now w.now))) (known n w)
-    (λ e. ap items_of (put ∙ ap (λ b. cond b (Some c.push.new.self) (get same_named c.remove.new.self (n, w))) e) ∙ (grown ∙ ap (λ l. l ++ meaning_view m ∷ []) (known f m.name ∙ named_equal f n m.name.now w.now ms e ∙ sym (known n w))))
+    named_step n w.now (meaning_view m) ms old (items_of (get same_named c.insert.new.self (n, w))) b (ap (λ x. is_local n x && same_text m.entry.now.name.now w.now) c.in-Between.is ∙ ap (λ x. nat_eq f n && x) (sym (one_text m.entry.now.name.now w.now))) (known n w)
+    (λ e. ap items_of (put ∙ ap (λ b. cond b (Some c.push.new.self) (get same_named c.remove.new.self (n, w))) e) ∙ (grown ∙ ap (λ l. l ++ meaning_view m ∷ []) (known f m.entry.now.name ∙ named_equal f n m.entry.now.name.now w.now ms e ∙ sym (known n w))))
     (λ e. ap items_of (put ∙ (ap (λ b. cond b (Some c.push.new.self) (get same_named c.remove.new.self (n, w))) e ∙ (taken ∙ ap (λ b. cond b None (get same_named locals (n, w))) e))))
 
 pub returns-in_default : goal.returns-in_default

@@ -1,7 +1,7 @@
-use Rattle.std.proofs.Common.{◌≡◌, ◌∙◌, ◌++◌, sym, ap, subst}
+use Rattle.std.proofs.Common.{◌≡◌, ◌∙◌, sym, subst}
 use Rattle.go_names.specs.Scopes.{locals_of, AreSwept, AreNested}
 use Rattle.go_names.proofs.Locals.{locals_good}
-use Rattle.go_tree.specs.Meanings.{meanings, imported_from, numbered, first_numbers}
+use Rattle.go_tree.specs.Meanings.{meanings}
 use Rattle.go_lookup.specs.Views.{units_view}
 use Rattle.go_lookup.specs.Sorted.{all_of}
 use Rattle.go_lookup.proofs.look_up.look_up.Goals as goal
@@ -9,5 +9,5 @@ use Rattle.go_lookup.proofs.look_up.look_up.Goals as goal
 pub look_up_files-requires-clause-locals : goal.look_up_files-requires-clause-locals
 look_up_files-requires-clause-locals c n =
     let us = units_view c.args.units.now in
-    let all : all_of c.in_ok-sorted.sorted ≡ meanings us = c.in_ok-sorted.ensures.all ∙ c.in_ok-meanings.ensures ∙ ap (λ ds. imported_from 0 us ++ numbered first_numbers ds) c.requires.declared in
+    let all : all_of c.in_ok-sorted.sorted ≡ meanings us = c.in_ok-sorted.ensures.all ∙ c.in_ok-meanings.ensures ∙ c.requires.entries in
     subst (λ ms. AreSwept 0 (locals_of n ms) × AreNested (locals_of n ms)) (sym all) (locals_good us c.requires.orderly n)

@@ -13,7 +13,7 @@ pub returns-in_ok-insert : goal.returns-in_ok-insert
 returns-in_ok-insert c ms known k =
     let m = c.args.meaning.now in
     let before : Option own.Meaning = get same_outer c.args.outer.now k in
-    let there : Bool = same_text m.name.now k.name.now && in_block k.file m.extent in
-    let new : same_outer c.in-Some.key k ≡ there = outer_key m m.extent c.in-Some.key k (sym c.outer_of.ensures ∙ c.in-Some.is) in
+    let there : Bool = same_text m.entry.now.name.now k.name.now && in_block k.file m.entry.now.extent in
+    let new : same_outer c.in-Some.key k ≡ there = outer_key m m.entry.now.extent c.in-Some.key k (sym c.outer_of.ensures ∙ c.in-Some.is) in
     ap (option_map meaning_view) (c.in_ok-insert.ensures.updates.0 k ∙ ap (λ b. cond b (Some m) before) new)
     ∙ outer_put there m before (first_by (in_block k.file) k.name.now ms) (known k)

@@ -19,7 +19,7 @@ loop-number-preserved c n i all le s =
     let bs = c.loop-number.scopes.blocks.items in
     let back : drop number locals ≡ item ∷ drop (number + 1) locals = drop-back locals (number + 1) number item refl (omega (arith, c.loop-number-test.true)) c.index-locals-number.is in
     let now = subst (λ l. IsSweeping n t all bs (map meaning_view l)) back (c.loop-number.invariant n i all le s) in
-    let begun : (scope_of item.extent).from ≤ t = subst (λ r. r.from ≤ t) c.scope_of.ensures c.if-token-scope_of.false in
+    let begun : (scope_of item.entry.now.extent).from ≤ t = subst (λ r. r.from ≤ t) c.scope_of.ensures c.if-token-scope_of.false in
     sweep_enter n t all bs c.enter.new.self.blocks.items (meaning_view item) (map meaning_view (drop (number + 1) locals)) begun c.in_ok-enter.ensures.over c.in_ok-enter.ensures.parted now
 
 pub returns-then-token-scope_of : goal.returns-then-token-scope_of
