@@ -6,6 +6,7 @@ pub mod NamePlaces
 pub mod Numbering
 pub mod Orderly
 pub mod Seconds
+pub mod Sited
 pub mod Statements
 pub mod Twice
 pub mod UsedSpots

@@ -5,5 +5,6 @@ pub mod Noted
 pub mod Numbering
 pub mod Resolve
 pub mod SecondMembers
+pub mod Sited
 pub mod Used
 pub mod Views

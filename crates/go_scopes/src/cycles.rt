@@ -9,6 +9,7 @@ ghost use Rattle.go_lookup.specs.Views.{place_of, found_view, asked_view};
 ghost use Rattle.go_cycles.specs.Order.{IsOrder};
 ghost use Rattle.go_scopes.specs.Decided.{is_decided};
 ghost use Rattle.go_scopes.specs.Noted.{noted};
+ghost use Rattle.go_scopes.specs.Sited.{is_sited, sited};
 ghost use Rattle.go_scopes.specs.Views.{failure_of};
 
 use crate::failure::{is_earlier, note};
@@ -16,6 +17,7 @@ use go_base::{Fault, FaultCode};
 use go_cycles::order::{Order, order_of};
 use go_lookup::asked::Asked;
 use go_lookup::found::Found;
+use go_tree::context::Site;
 use std::alloc::{AllocError, Global};
 
 /// Whether a fault that was found is reported before another one.
@@ -51,8 +53,44 @@ fn note_cycle<'a>(
     Ok(note(found, fails, FaultCode::Cycle, d.place))
 }
 
+/// Whether a name with this site stands in a part of a declaration.
+fn is_sited(site: Site) -> bool
+    ensures { result ≡ is_sited site }
+{
+    match site {
+        Site::Elsewhere => false,
+        Site::Type { .. } | Site::Value { .. } | Site::Right { .. } => true,
+    }
+}
+
+/// The names that stand in parts of declarations: no declaration needs another one.
+fn sited<'a>(alloc: Global, lookups: &[Asked<'a>]) -> Result<Vec<Asked<'a>>, AllocError>
+    ensures { IfOk result (λ v. map asked_view v.items ≡ sited (map asked_view lookups.now)) }
+{
+    let mut out = Vec::new(alloc);
+    for a in lookups {
+        if is_sited(a.lookup.site) {
+            out.push(*a)?;
+        }
+    }
+    Ok(out)
+}
+
 /// No declaration needs itself (Go specification: Type declarations, Package initialization).
 pub fn cycles<'a>(
+    alloc: Global,
+    found: Option<Fault>,
+    lookups: &[Asked<'a>],
+    declared: &[Found<'a>],
+) -> Result<Option<Fault>, AllocError>
+    ensures { IfOk result (λ f. option_map failure_of f ≡ noted (option_map failure_of found) FaultCode.Cycle (cycles (map asked_view lookups.now) (length declared.now + length declared.now) (map found_view declared.now))) }
+{
+    let sited = sited(alloc, lookups)?;
+    cycles_among(alloc, found, &sited, declared)
+}
+
+/// The same, where these names are looked up.
+fn cycles_among<'a>(
     alloc: Global,
     found: Option<Fault>,
     lookups: &[Asked<'a>],

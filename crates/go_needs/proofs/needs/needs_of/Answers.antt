@@ -18,5 +18,5 @@ returns c =
     let asked : map asked_view c.in_ok-looked_up.looked_up.asked.items ≡ asked_from (meanings units) 0 units = search rules in
     let whole = units_same fs ∙ sym same in
     IfOk-weaker c.needs_by.result _ _ (λ n h. h (package_of (map source_of fs) c.args.uses.now) refl
-    (ap found whole ∙ (sym all ∙ sym (ap (map found_view) c.deref-5.ensures.value)))
-    (ap (λ us. asked_from (meanings us) 0 us) whole ∙ (sym asked ∙ sym (ap (map asked_view) c.deref-6.ensures.value)))) c.needs_by.ensures
+    (ap found whole ∙ (sym all ∙ sym (ap (map found_view) c.deref-7.ensures.value)))
+    (ap (λ us. asked_from (meanings us) 0 us) whole ∙ (sym asked ∙ sym (ap (map asked_view) c.deref-8.ensures.value)))) c.needs_by.ensures

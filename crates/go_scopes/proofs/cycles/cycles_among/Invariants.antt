@@ -5,7 +5,7 @@ use Rattle.go_tree.specs.Needs.{cycles}
 use Rattle.go_lookup.specs.Views.{found_view, asked_view}
 use Rattle.go_scopes.specs.Noted.{noted}
 use Rattle.go_scopes.specs.Views.{failure_of}
-use Rattle.go_scopes.proofs.cycles.cycles.Given as goal
+use Rattle.go_scopes.proofs.cycles.cycles_among.Given as goal
 
 abbrev pub invariant-loop-d : goal.invariant-loop-d
 invariant-loop-d l =
