@@ -1,9 +1,11 @@
 -- What is told of the events of a file, one by one.
-use Rattle.std.proofs.Common.{◌≡◌, ℕ, zero, suc, ◌+◌, ◌<◌, List, [], ◌∷◌, ◌++◌, Option, Some, None, refl, sym, ap, ◌∙◌, subst, arith, map, drop, length, slice_index_or}
+use Rattle.std.proofs.Common.{◌≡◌, ℕ, zero, suc, ◌+◌, ◌<◌, List, [], ◌∷◌, ◌++◌, Option, Some, None, refl, sym, ap, ◌∙◌, subst, append_assoc, arith, map, drop, length, slice_index_or}
 use Rattle.std.proofs.Math.Seq.{drop-cons}
 use Rattle.std.specs.Prelude.{slice_get}
 use Rattle.std.specs.Option.{option_map, option_to_list}
 use Rattle.go_names.specs.Scopes.{IsOrderly, AreOrderly}
+use Rattle.go_tree.specs.Lookups.{Asked, asked_in, asked_from}
+use Rattle.go_tree.specs.Meanings.{Meaning}
 use Rattle.go_lookup.specs.declared.unit.Unit as own
 use Rattle.go_lookup.specs.Views.{unit_view, units_view}
 
@@ -48,3 +50,16 @@ pub orderly_at : (us : List own.Unit) (i : ℕ) (u d : own.Unit) → AreOrderly 
 orderly_at [] i u d h less e = absurd (omega (arith, less))
 orderly_at (x ∷ us) zero u d h less e = subst (λ y. IsOrderly (unit_view y).events) (sym e) h.0
 orderly_at (x ∷ us) (suc i) u d h less e = orderly_at us i u d h.1 (omega (arith, less)) e
+
+-- the names of one file more
+pub asked_more : (ms : List Meaning) (units : List own.Unit) (i : ℕ) (unit : own.Unit) (out new whole : List Asked) → i < length units → unit ≡ slice_index_or units i unit → new ≡ out ++ asked_in ms i unit.tokens.now unit.events.items → out ++ asked_from ms i (units_view (drop i units)) ≡ whole → new ++ asked_from ms (i + 1) (units_view (drop (i + 1) units)) ≡ whole
+asked_more ms units i unit out new whole less is more invariant =
+    let rest = drop (i + 1) units in
+    let here = asked_in ms i unit.tokens.now unit.events.items in
+    let back : drop i units ≡ unit ∷ rest = drop_at units i unit less ∙ ap (λ x. x ∷ rest) (sym is) in
+    let next : suc i ≡ i + 1 = omega arith in
+    ap (λ l. l ++ asked_from ms (i + 1) (units_view rest)) more
+    ∙ append_assoc out here (asked_from ms (i + 1) (units_view rest))
+    ∙ ap (λ k. out ++ (here ++ asked_from ms k (units_view rest))) (sym next)
+    ∙ ap (λ l. out ++ asked_from ms i (units_view l)) (sym back)
+    ∙ invariant

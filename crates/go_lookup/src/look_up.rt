@@ -52,6 +52,47 @@ fn look_up_files<'a>(
     Ok(LookedUp { asked, objects })
 }
 
+/// The names of the files that are looked up, where the package has these meanings.
+fn asked_in_files<'a>(
+    alloc: Global,
+    sorted: &Sorted<'a>,
+    units: &[Unit<'a>],
+) -> Result<Vec<Asked<'a>>, Memory>
+    requires few { length units.now ≤ 256 }
+    requires sorted { IsSorted sorted.now }
+    requires locals { (n : ℕ) → AreSwept 0 (locals_of n (all_of sorted.now)) × AreNested (locals_of n (all_of sorted.now)) }
+    requires orderly { AreOrderly (units_view units.now) }
+    ensures { IfOk result (λ v. map asked_view v.items ≡ asked_from (all_of sorted.now) 0 (units_view units.now)) }
+{
+    let mut asked = Vec::new(alloc);
+    for (number, unit) in units.iter().enumerate() {
+        let file = number as u32;
+        let told = event_meanings(alloc, sorted, file, unit)?;
+        push_asked(&mut asked, file, unit, &told)?;
+    }
+    Ok(asked)
+}
+
+/// The names of a package with these entries that are looked up, in order, with their meanings: those of `look_up`, without the
+/// objects of tokens.
+///
+/// # Errors
+///
+/// Want of memory.
+pub fn names_asked<'a>(
+    alloc: Global,
+    units: &[Unit<'a>],
+    entries: &'a [Entry<'a>],
+) -> Result<Vec<Asked<'a>>, Memory>
+    requires few { length units.now ≤ 256 }
+    requires orderly { AreOrderly (units_view units.now) }
+    requires entries { map entry_view entries.now ≡ meanings (units_view units.now) }
+    ensures { IfOk result (λ v. map asked_view v.items ≡ asked_from (meanings (units_view units.now)) 0 (units_view units.now)) }
+{
+    let sorted = by_block(alloc, meanings(alloc, entries)?)?;
+    asked_in_files(alloc, &sorted, units)
+}
+
 /// What the names of a package with these entries mean.
 ///
 /// # Errors

@@ -28,7 +28,7 @@ use go_base::Memory;
 use go_declarations::Specification;
 use go_lookup::asked::Asked;
 use go_lookup::found::{Found, all_found, new_among};
-use go_lookup::look_up::look_up;
+use go_lookup::look_up::names_asked;
 use go_lookup::meaning::entries;
 use go_scopes::resolve::units_of;
 use go_tree::file::File;
@@ -95,8 +95,8 @@ pub fn needs_of(
     let all = all_found(alloc, &units)?;
     let declared = new_among(alloc, &all)?;
     let entries = entries(alloc, &units, &declared)?;
-    let looked_up = look_up(alloc, &units, &entries)?;
-    needs_by(alloc, uses, &all, &looked_up.asked, specifications)
+    let asked = names_asked(alloc, &units, &entries)?;
+    needs_by(alloc, uses, &all, &asked, specifications)
 }
 
 impl Needs {

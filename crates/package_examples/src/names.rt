@@ -4,7 +4,7 @@ use go_base::Span;
 use go_cycles::order::order_of;
 use go_lookup::by_name::by_name;
 use go_lookup::found::{all_found, new_among};
-use go_lookup::look_up::look_up;
+use go_lookup::look_up::names_asked;
 use go_lookup::meaning::entries;
 use go_parse::parse;
 use go_scopes::error::ResolveError;
@@ -262,7 +262,7 @@ fn shown(alloc: Global, text: &[u8]) -> Result<Vec<Shown>, Fail> {
     }
     let declared = new_among(alloc, &all_found(alloc, &units)?)?;
     let entries = entries(alloc, &units, &declared)?;
-    let asked = look_up(alloc, &units, &entries)?.asked;
+    let asked = names_asked(alloc, &units, &entries)?;
     let order = order_of(alloc, &asked, &declared)?;
     let rounds = declared.len().saturating_mul(2);
     let mut shown = Vec::new(alloc);
@@ -296,7 +296,7 @@ fn order(rt: HostRuntime) -> Result<(), Fail> {
     }
     let declared = new_among(alloc, &all_found(alloc, &units)?)?;
     let entries = entries(alloc, &units, &declared)?;
-    let asked = look_up(alloc, &units, &entries)?.asked;
+    let asked = names_asked(alloc, &units, &entries)?;
     let mut names = Vec::new(alloc);
     let sorted = order_of(alloc, &asked, &declared)?.in_order(alloc, &declared)?;
     for d in sorted.iter().flatten() {

@@ -15,7 +15,7 @@ returns c =
     let units = units_view c.in_ok-units.units.items in
     let same : units ≡ units_of fs = search rules in
     let all : map found_view c.in_ok-all.all.items ≡ found units = search rules in
-    let asked : map asked_view c.in_ok-looked_up.looked_up.asked.items ≡ asked_from (meanings units) 0 units = search rules in
+    let asked : map asked_view c.in_ok-asked.asked.items ≡ asked_from (meanings units) 0 units = search rules in
     let whole = units_same fs ∙ sym same in
     IfOk-weaker c.needs_by.result _ _ (λ n h. h (package_of (map source_of fs) c.args.uses.now) refl
     (ap found whole ∙ (sym all ∙ sym (ap (map found_view) c.deref-7.ensures.value)))
