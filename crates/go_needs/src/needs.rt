@@ -211,8 +211,10 @@ impl Needs {
         faulty: &[bool],
         assigning: &[bool],
     ) -> Result<Vec<bool>, Memory>
-        ensures { IfOk result (λ v. (p : Package) (ds : List declarations.Specification) (ss : List State) (n : ℕ) (d : declarations.Specification) → TellsNeeds self.now p ds → AreRanks ranks.now own.now p ds → own.now ≡ map (rank_by ranks.now) self.now.declaring.items →
-            length ss ≡ length p.uses.package_level → slice_get ds n ≡ Some d → faulty.now ≡ map is_faulty ss → assigning.now ≡ map is_misassigned ss → slice_get v.items n ≡ Some true → is_blocked p (outlines p ds) ss d ≡ true) }
+        ensures { IfOk result (λ v. (p : Package) (ds : List declarations.Specification) (ss : List State) (n : ℕ) (d : declarations.Specification) → TellsNeeds self.now p ds →
+            AreRanks ranks.now own.now p ds → own.now ≡ map (rank_by ranks.now) self.now.declaring.items →
+            length ss ≡ length p.uses.package_level → slice_get ds n ≡ Some d → faulty.now ≡ map is_faulty ss → assigning.now ≡ map is_misassigned ss →
+            slice_get v.items n ≡ Some true → is_blocked p (outlines p ds) ss d ≡ true) }
     {
         let seeds = seeds(alloc, top, own, faulty, assigning)?;
         let found = graded_levels(alloc, &self.owners, &self.calls, &seeds)?;
@@ -231,8 +233,9 @@ impl Needs {
     }
 
     /// Of each specification whether it is seen at once, by an order of all of them, that it needs a declaration with a fault, so that its
-    /// own rule isn't judged; `faulty` and `assigning` are those of `is_blocked`, which tells of one specification whether it does. All
-    /// that do are seen but for those which need one another in a circle, as `const a, b = 1, c` and `const c, d = a, 2` do.
+    /// own rule isn't judged; `faulty` and `assigning` are those of `is_blocked`, which tells of one specification whether it does. One
+    /// that isn't seen may need such a declaration too. It is meant to be so only where specifications need one another in a circle, as
+    /// `const a, b = 1, c` and `const c, d = a, 2` do.
     ///
     /// # Errors
     ///
@@ -244,7 +247,8 @@ impl Needs {
         assigning: &[bool],
     ) -> Result<Vec<bool>, Memory>
         ensures { IfOk result (λ v. (p : Package) (ds : List declarations.Specification) (ss : List State) (n : ℕ) (d : declarations.Specification) → TellsNeeds self.now p ds →
-            length ss ≡ length p.uses.package_level → slice_get ds n ≡ Some d → faulty.now ≡ map is_faulty ss → assigning.now ≡ map is_misassigned ss → slice_get v.items n ≡ Some true → is_blocked p (outlines p ds) ss d ≡ true) }
+            length ss ≡ length p.uses.package_level → slice_get ds n ≡ Some d → faulty.now ≡ map is_faulty ss → assigning.now ≡ map is_misassigned ss →
+            slice_get v.items n ≡ Some true → is_blocked p (outlines p ds) ss d ≡ true) }
     {
         let top = self.owners.len().saturating_add(self.groups.len());
         let ranks = ranks(alloc, &self.owners, &self.groups, &self.calls)?;
