@@ -114,9 +114,9 @@ module _ (f : ℕ → ℕ) where
     declared_kept s none = refl
     declared_kept s (skip ps) = grouped_kept s 0 None (skip ps)
     declared_kept s (more (node (kind.Group g) i j qs) none) = grouped_kept s 0 None qs
-    declared_kept s (more (node k i j qs) none) = grouped_kept s 0 None (more (node k i j qs) none)
-    declared_kept s (more p (more q ps)) = grouped_kept s 0 None (more p (more q ps))
-    declared_kept s (more p (skip ps)) = grouped_kept s 0 None (more p (skip ps))
+    declared_kept s (more (node (kind.Group g) i j qs) (more q ps)) = grouped_kept s 0 None (more (node (kind.Group g) i j qs) (more q ps))
+    declared_kept s (more (node (kind.Group g) i j qs) (skip ps)) = grouped_kept s 0 None (more (node (kind.Group g) i j qs) (skip ps))
+    declared_kept s (more (node k i j qs) ps) = grouped_kept s 0 None (more (node k i j qs) ps)
 
 -- ---- so many tokens further on
 

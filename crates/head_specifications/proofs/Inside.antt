@@ -124,9 +124,9 @@ module _ (w : ℕ) where
   declared_lie n s none h = tt
   declared_lie n s (skip ps) h = grouped_lie n s 0 None (skip ps) h tt
   declared_lie n s (more (node (kind.Group g) i j qs) none) h = grouped_lie n s 0 None qs (parts_inside (kind.Group g) i j qs h.0) tt
-  declared_lie n s (more (node k i j qs) none) h = grouped_lie n s 0 None (more (node k i j qs) none) h tt
-  declared_lie n s (more p (more q ps)) h = grouped_lie n s 0 None (more p (more q ps)) h tt
-  declared_lie n s (more p (skip ps)) h = grouped_lie n s 0 None (more p (skip ps)) h tt
+  declared_lie n s (more (node (kind.Group g) i j qs) (more q ps)) h = grouped_lie n s 0 None (more (node (kind.Group g) i j qs) (more q ps)) h tt
+  declared_lie n s (more (node (kind.Group g) i j qs) (skip ps)) h = grouped_lie n s 0 None (more (node (kind.Group g) i j qs) (skip ps)) h tt
+  declared_lie n s (more (node k i j qs) ps) h = grouped_lie n s 0 None (more (node k i j qs) ps) h tt
 
   -- a function's name is its second token, so it needs two
   pub declaration_lies : (n : ℕ) (t : Tree) → Inside w t → (is_function (kind_of t) ≡ true → suc (first t) < w) → AllLie n (declaration n t)
