@@ -1,0 +1,3 @@
+mod Sites
+mod Sited
+mod Looked
