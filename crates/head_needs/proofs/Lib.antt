@@ -1,3 +1,5 @@
 mod Sites
 mod Sited
 mod Looked
+mod Same
+mod Meant
