@@ -3,3 +3,6 @@ mod Sited
 mod Looked
 mod Same
 mod Meant
+mod Telling
+mod Closure
+mod Kept

@@ -182,7 +182,7 @@ module _ (p : ℕ → Bool) where
 -- ---- among the declarations of all files
 
 module _ (n t : ℕ) where
-  none_other : (xs : List Found) → fresh.Every (Other n) xs → declared_at n t xs ≡ None
+  pub none_other : (xs : List Found) → fresh.Every (Other n) xs → declared_at n t xs ≡ None
   none_other [] h = refl
   none_other (d ∷ xs) h = ap (λ b. if b && nat_eq d.it.name t then Some d else declared_at n t xs) (other_test n d.file h.0) ∙ none_other xs h.1
 

@@ -214,6 +214,13 @@ same_number j k e = cc
 
 -- ---- two packages
 
+pub placed_source : (old new : List File) (p : ℕ → Bool) (q : ℕ → Bool) (n : ℕ) (a b : Option ℕ) → ((s t : ℕ) → p s ≡ false → q t ≡ false → place_outside q t ≡ place_outside p s → AtOnePlace old new n s t)
+    → SourceOut p a → SourceOut q b → place_of (place_outside q) b ≡ place_of (place_outside p) a → SameSource old new n a b
+placed_source old new p q n None None f x y e = tt
+placed_source old new p q n None (Some t) f x y e = cc
+placed_source old new p q n (Some s) None f x y e = cc
+placed_source old new p q n (Some s) (Some t) f x y e = f s t x y (same_some (place_outside q t) (place_outside p s) e)
+
 abbrev pub AreOrderlyRead : Type 0
 AreOrderlyRead = (ts : List TokenKind) (t : Tree) → IsFile ts t → IsOrderly (events (file_context (last t)) t)
 
@@ -237,13 +244,6 @@ module _ (read : AreOrderlyRead) (order : OrderRead) (old new : List File) (h : 
   number_of : (fs : List File) → AreRead fs → (d : Found) (o : Object) (s : IsShared fs d o) → number_by fs d ≡ Some s.number
   number_of fs g d o s = ap number_in (uses_own (units_of fs) (orderly read fs g) (counted order fs g) (object.Package s.number) (declared_by d) s.there)
 
-  placed_source : (p : ℕ → Bool) (q : ℕ → Bool) (n : ℕ) (a b : Option ℕ) → ((s t : ℕ) → p s ≡ false → q t ≡ false → place_outside q t ≡ place_outside p s → AtOnePlace old new n s t)
-      → SourceOut p a → SourceOut q b → place_of (place_outside q) b ≡ place_of (place_outside p) a → SameSource old new n a b
-  placed_source p q n None None f x y e = tt
-  placed_source p q n None (Some t) f x y e = cc
-  placed_source p q n (Some s) None f x y e = cc
-  placed_source p q n (Some s) (Some t) f x y e = f s t x y (same_some (place_outside q t) (place_outside p s) e)
-
   shared_same : (d e : Found) (o : Object) (x : IsShared old d o) (y : IsShared new e o) → SameFound old new d e
   shared_same d e o x y =
       let one : y.number ≡ x.number = same_number y.number x.number (ap (λ z. Some z) (sym y.object ∙ x.object)) in
@@ -266,7 +266,7 @@ module _ (read : AreOrderlyRead) (order : OrderRead) (old new : List File) (h : 
           place = sym (ap (λ i. head_place new i e.it.name) same.file) ∙ same.place;
         };
         source =
-            placed_source p q d.file d.it.source e.it.source (λ s t a b c. record { before = a; after = b; place = c })
+            placed_source old new p q d.file d.it.source e.it.source (λ s t a b c. record { before = a; after = b; place = c })
             x.looked.source (subst (λ i. SourceOut (in_bodies (parts (file_in new i).tree)) e.it.source) same.file y.looked.source)
             (sym (ap (λ i. place_of (place_outside (in_bodies (parts (file_in new i).tree))) e.it.source) same.file) ∙ ap (λ (z : NewName). z.source) told);
         column = ap (λ (z : NewName). z.column) told;

@@ -45,3 +45,13 @@ module _ (old new : List File) where
 abbrev pub declaration_of : Option Meaning → Option Found
 declaration_of None = None
 declaration_of (Some m) = m.source
+
+-- What they need at once is the same: they stand in files of one number, in one specification and one column, and are needed in one way.
+pub record SameSeeking (old new : List File) (x y : Needed) : Type 0 where
+  pub file : y.it.file ≡ x.it.file
+  pub source : SameSource old new x.it.file x.it.it.source y.it.it.source
+  pub column : y.it.it.column ≡ x.it.it.column
+  pub full : y.full ≡ x.full
+
+pub seeking : (old new : List File) (x y : Needed) → SameNeed old new x y → SameSeeking old new x y
+seeking old new x y h = record { file = h.it.file; source = h.it.source; column = h.it.column; full = h.full }
