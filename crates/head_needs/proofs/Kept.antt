@@ -67,7 +67,7 @@ nothing_needed asks (suc k) = nothing_needed asks k
 
 -- ---- files
 
-told_at : ((a b : File) → IsRead a → IsRead b → head_of a ≡ head_of b → told_outside b ≡ told_outside a) → (old new : List File) → AreRead old → AreRead new → heads old ≡ heads new
+pub told_at : ((a b : File) → IsRead a → IsRead b → head_of a ≡ head_of b → told_outside b ≡ told_outside a) → (old new : List File) → AreRead old → AreRead new → heads old ≡ heads new
     → (n : ℕ) → told_outside (file_in new n) ≡ told_outside (file_in old n)
 told_at f [] [] h k e n = refl
 told_at f [] (b ∷ bs) h k e n = absurd (some_not_none (head_of b) (heads bs) (sym e))
@@ -88,7 +88,7 @@ beyond k (suc i) n (f ∷ fs) e h =
 none_there : (n t : ℕ) (fs : List File) → slice_get fs n ≡ None → declared_at n t (found (units_of fs)) ≡ None
 none_there n t fs h = let z : n ≡ 0 + n = omega arith in none_other n t (found_from 0 (units_of fs)) (beyond 0 n n fs z h)
 
-both_or_none : (old new : List File) → heads old ≡ heads new → (n : ℕ) → option_map head_of (slice_get new n) ≡ option_map head_of (slice_get old n)
+pub both_or_none : (old new : List File) → heads old ≡ heads new → (n : ℕ) → option_map head_of (slice_get new n) ≡ option_map head_of (slice_get old n)
 both_or_none old new e n = sym (slice_get-map head_of new n) ∙ ap (λ (hs : List Head). slice_get hs n) (sym e) ∙ slice_get-map head_of old n
 
 -- ---- two packages

@@ -1,8 +1,8 @@
 mod Sites
-mod Sited
-mod Looked
+pub mod Sited
+pub mod Looked
 mod Same
-mod Meant
+pub mod Meant
 mod Telling
 mod Closure
-mod Kept
+pub mod Kept

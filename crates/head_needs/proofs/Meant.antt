@@ -230,11 +230,11 @@ OrderRead = (ts : List TokenKind) (t : Tree) → IsFile ts t → AreInOrder 0 (l
 pub ordered : OrderRead → (fs : List File) → AreOrdered fs
 ordered order fs f h = order (kinds f.tokens.tokens) f.tree h.tree
 
-orderly : AreOrderlyRead → (fs : List File) → AreRead fs → AreOrderly (units_of fs)
+pub orderly : AreOrderlyRead → (fs : List File) → AreRead fs → AreOrderly (units_of fs)
 orderly o [] h = tt
 orderly o (f ∷ fs) h = (o (kinds f.tokens.tokens) f.tree h.0.tree, orderly o fs h.1)
 
-counted : OrderRead → (fs : List File) → AreRead fs → AreCounted (units_of fs)
+pub counted : OrderRead → (fs : List File) → AreRead fs → AreCounted (units_of fs)
 counted o [] h = tt
 counted o (f ∷ fs) h =
     (subst (λ j. AreInOrder 0 j (file_events f)) (h.0.tree.ends ∙ count_kinds f.tokens.tokens) (o (kinds f.tokens.tokens) f.tree h.0.tree), counted o fs h.1)

@@ -12,6 +12,7 @@ use Rattle.go_splice.proofs.Order.{tree_order}
 use Rattle.go_tree.specs.Views.{part_at}
 use Rattle.go_tree.specs.declared.context.Block.{Block}
 use Rattle.go_tree.specs.declared.context.Block.TheVariants as block
+use Rattle.go_tree.specs.declared.context.Manner.TheVariants as manner
 use Rattle.go_tree.specs.declared.context.Role.{Role}
 use Rattle.go_tree.specs.declared.context.Role.TheVariants as role
 use Rattle.go_tree.specs.declared.context.Scope.{Scope}
@@ -39,10 +40,10 @@ use Rattle.head_needs.proofs.Sites.{NumberIn, SiteIn, AllIn, ContextIn, in_appen
 
 -- ---- names that are declared in no specification: parameters
 
-abbrev Unsourced : Declaration → Type 0
-Unsourced d = d.source ≡ None
+abbrev pub Unsourced : Declaration → Type 0
+Unsourced d = (d.source ≡ None) × (d.manner ≡ manner.Declared) × (is_package d.block ≡ false)
 
-abbrev NamesNone : Role → Type 0
+abbrev pub NamesNone : Role → Type 0
 NamesNone (role.New d) = ⊥
 NamesNone r = Unit {0}
 
@@ -51,7 +52,7 @@ name_unsourced c i (role.New d) h = absurd h
 name_unsourced c i (role.Field g) h = tt
 name_unsourced c i (role.Key g) h = tt
 name_unsourced c i (role.Parameter g None) h = tt
-name_unsourced c i (role.Parameter g (Some s)) h = (refl, tt)
+name_unsourced c i (role.Parameter g (Some s)) h = ((refl, refl, refl), tt)
 name_unsourced c i r h = tt
 
 own_unsourced : (c : Context) (k : Kind) (i j : ℕ) (ps : Trees) → layer k ≡ Holding → NamesNone c.role → EachDeclared Unsourced (own_events c k i j ps)
@@ -109,7 +110,7 @@ role_none c kind.Parameter i j named n p e r = first_none n (parameter_role c.gr
 role_none c k i j named n p e r = tt
 
 mutual
-  tree_unsourced : (c : Context) (t : Tree) → IsPlain t → NamesNone c.role → EachDeclared Unsourced (events c t)
+  pub tree_unsourced : (c : Context) (t : Tree) → IsPlain t → NamesNone c.role → EachDeclared Unsourced (events c t)
   tree_unsourced c (node k i j ps) h r =
       each_append Unsourced (statement_events c.listed i j ++ own_events c k i j ps) (events_of (begin c k) k i j ps 0 ps)
       (each_append Unsourced (statement_events c.listed i j) (own_events c k i j ps) (statement_each Unsourced c.listed i j) (own_unsourced c k i j ps h.0 r))
@@ -231,7 +232,7 @@ module _ (ts : List TokenKind) (p : ℕ → Bool) (e : ℕ) where
   signature_agreed c k s g plain inc le f r =
       clear_agreed p k (last s) (events c s) f (tree_in k (last s) c s (derives_laid ts s category.Signature g) le (omega arith) inc)
       (ordered_names k (first s) (last s) (events c s) le (events_order c s (derives_laid ts s category.Signature g)))
-      (each_map Unsourced (LocalNone p) (events c s) (λ d u l. u) (tree_unsourced c s plain r))
+      (each_map Unsourced (LocalNone p) (events c s) (λ d u l. u.0) (tree_unsourced c s plain r))
 
   function_agreed : (i j : ℕ) (ps : Trees) (n : ℕ) (k l : ℕ) (qs : Trees) (b : Bool) → Sits ts p (node kind.FunctionDeclaration k l qs)
       → Agreed p (events (around_part i j ps n (node kind.FunctionDeclaration k l qs) b) (node kind.FunctionDeclaration k l qs))

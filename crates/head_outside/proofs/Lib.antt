@@ -1,0 +1,3 @@
+mod Classes
+mod Shared
+mod Names
