@@ -209,7 +209,7 @@ module _ (ts : List TokenKind) (p : ℕ → Bool) (e : ℕ) where
   abbrev file : Context
   file = file_context e
 
-  abbrev around_part : ℕ → ℕ → Trees → ℕ → Tree → Bool → Context
+  abbrev pub around_part : ℕ → ℕ → Trees → ℕ → Tree → Bool → Context
   around_part i j ps n d b = enter file kind.File i j ps (ends_named ps) n d b
 
   own_agreed : (k l : ℕ) (qs : Trees) → p k ≡ false → Agreed p (declaration_events k l qs)
@@ -296,7 +296,7 @@ module _ (ts : List TokenKind) (p : ℕ → Bool) (e : ℕ) where
       (tree_shared c d (derives_outside ts d category.Declaration refl h.derives) inner (record { block = tt; role = tt; parameters = tt }))
   part_agreed i j ps n (node k x y qs) b h = absurd (true_false false h.derives.0 refl)
 
-  next : (d : Tree) → Sits ts p d → pass file d ≡ file
+  pub next : (d : Tree) → Sits ts p d → pass file d ≡ file
   next (node kind.FunctionDeclaration k l qs) h = refl
   next (node (kind.Declaration s) k l qs) h = refl
   next (node k x y qs) h = absurd (true_false false h.derives.0 refl)
@@ -309,7 +309,7 @@ module _ (ts : List TokenKind) (p : ℕ → Bool) (e : ℕ) where
       (part_agreed i j ps n d (is_more ds) h.0)
       (subst (λ c. Agreed p (events_of c kind.File i j ps (suc n) ds)) (sym (next d h.0)) (row_agreed i j ps (suc n) ds h.1))
 
-  next_imports : (d : Tree) → Derives ts category.Imports d → pass file d ≡ file
+  pub next_imports : (d : Tree) → Derives ts category.Imports d → pass file d ≡ file
   next_imports (node kind.Imports i j ps) h = refl
   next_imports (node k i j ps) h = absurd (true_false false h.0 refl)
 

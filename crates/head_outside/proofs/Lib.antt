@@ -1,3 +1,5 @@
 mod Classes
 mod Shared
 mod Names
+mod Headers
+mod Params

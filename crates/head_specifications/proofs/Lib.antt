@@ -1,3 +1,3 @@
 mod Further
 mod Inside
-mod Pairs
+pub mod Pairs

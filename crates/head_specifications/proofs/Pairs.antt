@@ -95,7 +95,7 @@ outlined_parts (node k i j ps) = bare_parts (place_outside (in_bodies ps)) ps
 -- ---- trees that are moved to and fro
 
 mutual
-  tree_back : (a : ℕ) (t : Tree) → InOrder t → a ≤ first t → t ≡ carry (λ i. a + i) (carry (λ n. n - a) t)
+  pub tree_back : (a : ℕ) (t : Tree) → InOrder t → a ≤ first t → t ≡ carry (λ i. a + i) (carry (λ n. n - a) t)
   tree_back a (node k i j ps) h le =
       ap (λ x. node k x j ps) (let e : i ≡ a + (i - a) = omega (arith, le) in e)
       ∙ ap (λ x. node k (a + (i - a)) x ps) (let e : j ≡ a + (j - a) = omega (arith, le, h.0) in e)

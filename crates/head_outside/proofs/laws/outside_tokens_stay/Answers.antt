@@ -1,8 +1,7 @@
 use Rattle.std.proofs.Common.{refl}
-use Rattle.head_outside.proofs.Classes.{blank_none, none_none, in_either, class_of}
-use Rattle.head_outside.proofs.Shared.{shared_kept}
-use Rattle.head_outside.proofs.Names.{names_placed}
+use Rattle.head_outside.proofs.Headers.{locals_in_functions, headed}
+use Rattle.head_outside.proofs.Params.{local_object, has_locals, parameters_first, kept_same, kept_at, in_names}
 use Rattle.head_outside.proofs.laws.outside_tokens_stay.Goals as goal
 
 pub returns : goal.returns
-returns c f = let x = blank_none in let y = none_none in let z = in_either in let u = class_of in let v = shared_kept in let w = names_placed in refl
+returns c f = let x = locals_in_functions in let y = headed in let z = local_object in let u = has_locals in let v = parameters_first in let w = kept_same in let a = kept_at in let b = in_names in refl
