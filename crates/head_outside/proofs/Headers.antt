@@ -13,6 +13,7 @@ use Rattle.go_grammar.specs.Grammar.{IsFile, rule, Derives, ends_named}
 use Rattle.go_splice.proofs.Order.{tree_order, derives_ordered}
 use Rattle.go_tree.specs.declared.context.Block.{Block}
 use Rattle.go_tree.specs.declared.context.Block.TheVariants as block
+use Rattle.go_tree.specs.declared.context.Role.TheVariants as role
 use Rattle.go_tree.specs.declared.context.Context.{Context}
 use Rattle.go_tree.specs.declared.event.Declaration.{Declaration}
 use Rattle.go_tree.specs.declared.event.Event.{Event}
@@ -46,7 +47,8 @@ pub record Headed (p : ℕ → Bool) (t : Tree) (es : List Event) : Type 0 where
   pub shared : EachDeclared (λ d. is_package d.block ≡ true) front
   pub inner : EachDeclared (λ d. p d.name ≡ true) rest
   pub plain : IsPlain signature
-  pub role : NamesNone around.role
+  pub declares_none : NamesNone around.role
+  pub operand : around.role ≡ role.Operand
   pub parameters : is_some around.parameters ≡ is_some (body_of t)
   pub group : around.group ≡ None
   pub begins : first_part (parts (without_body t)) ≡ Some signature
@@ -107,7 +109,8 @@ module _ (ts : List TokenKind) (p : ℕ → Bool) (e : ℕ) where
         shared = front_shared i j ps;
         inner = tt;
         plain = layered.0;
-        role = tt;
+        declares_none = tt;
+        operand = refl;
         parameters = refl;
         group = refl;
         begins = refl;
@@ -136,7 +139,8 @@ module _ (ts : List TokenKind) (p : ℕ → Bool) (e : ℕ) where
         inner = each_append (λ d. p d.name ≡ true) (events inner b) [] (each_named p (first b) (last b) (events inner b) within
         (ordered_names (first b) (first b) (last b) (events inner b) (omega arith) (events_order inner b (derives_laid ts b category.Block h.derives.1.2.1)))) tt;
         plain = layered.0;
-        role = tt;
+        declares_none = tt;
+        operand = refl;
         parameters = refl;
         group = refl;
         begins = refl;

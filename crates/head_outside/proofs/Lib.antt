@@ -3,3 +3,4 @@ mod Shared
 mod Names
 mod Headers
 mod Params
+mod Outside

@@ -57,7 +57,7 @@ second_names b (more t ps) =
 
 -- ---- whether a name is declared
 
-abbrev declaring : Role → Bool
+abbrev pub declaring : Role → Bool
 declaring (role.New d) = true
 declaring (role.Parameter g (Some s)) = true
 declaring r = false

@@ -187,7 +187,7 @@ parameters_first fs n f t p own h =
     let l : TokenList = f.tokens in
     let es : List Event = events h.around h.signature in
     let news : List Event → List Found = λ xs. new_among all (found_in n l xs) in
-    let signature : EachDeclared Unsourced es = tree_unsourced h.around h.signature h.plain h.role in
+    let signature : EachDeclared Unsourced es = tree_unsourced h.around h.signature h.plain h.declares_none in
     let spread : (xs ys : List Event) → locals_in (news (xs ++ ys)) ≡ locals_in (news xs) ++ locals_in (news ys) =
     λ xs ys. ap (λ ds. locals_in (new_among all ds)) (found_append n l xs ys) ∙ ap locals_in (new_append all (found_in n l xs) (found_in n l ys)) ∙ locals_append (news xs) (news ys) in
     record {

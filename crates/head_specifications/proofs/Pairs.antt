@@ -56,7 +56,7 @@ module _ (ts : List TokenKind) (p : ℕ → Bool) where
       let order = derives_ordered ts (node kind.FunctionDeclaration i j (more s (more b ps))) category.Declaration h.derives in
       omega (arith, h.derives.1.0.1.1, tree_order s order.1.1, order.1.2.0)
 
-  function_bare : (d : Tree) → is_function (kind_of d) ≡ true → Sits ts p d → IsBare p d
+  pub function_bare : (d : Tree) → is_function (kind_of d) ≡ true → Sits ts p d → IsBare p d
   function_bare (node k i j ps) e h =
       let f = framed ts p (node k i j ps) e h in
       let l = function_kind k e in
@@ -195,7 +195,7 @@ module _ (old new : List File) (n : ℕ) (f g : File) (there : slice_get old n �
     wide : last (without_body u) - b ≡ w
     wide = sym (last_less b (without_body u)) ∙ ap last alone_one ∙ last_one
 
-    at_place : (i : ℕ) → i < w → AtOnePlace old new n (a + i) (b + i)
+    pub at_place : (i : ℕ) → i < w → AtOnePlace old new n (a + i) (b + i)
     at_place i lt =
         let here : file_in old n ≡ f = ap file_there there in
         let here_new : file_in new n ≡ g = ap file_there there_new in

@@ -1,7 +1,13 @@
-use Rattle.std.proofs.Common.{refl}
-use Rattle.head_outside.proofs.Headers.{locals_in_functions, headed}
-use Rattle.head_outside.proofs.Params.{local_object, has_locals, parameters_first, kept_same, kept_at, in_names}
+use Rattle.head_outside.proofs.Outside.{Laws, outside_kept}
 use Rattle.head_outside.proofs.laws.outside_tokens_stay.Goals as goal
 
 pub returns : goal.returns
-returns c f = let x = locals_in_functions in let y = headed in let z = local_object in let u = has_locals in let v = parameters_first in let w = kept_same in let a = kept_at in let b = in_names in refl
+returns c old new h k p q e b =
+    outside_kept (record {
+      orderly = c.files_are_orderly.ensures;
+      order = c.names_are_in_order.ensures;
+      declared = c.functions_declare_by_themselves.ensures;
+      locals = c.locals_follow_from_functions.ensures;
+      meanings = c.names_keep_their_meanings.ensures;
+      lookups = c.names_keep_their_objects.ensures;
+    }) old new (record { read = h; read_new = k; named = p; named_new = q; same = e; bodied = b })
