@@ -36,7 +36,7 @@ use Rattle.head_needs.proofs.Meant.{AreOrderlyRead, OrderRead, ordered, placed_s
 use Rattle.head_needs.proofs.Telling.{all_needs}
 use Rattle.head_needs.proofs.Closure.{all_with, all_same, numbers_same}
 
-units_same : (ws : List (List ℕ)) (ss : List Source) → AreNamed ws ss → units_of (files_of ws ss) ≡ map unit_of ss
+pub units_same : (ws : List (List ℕ)) (ss : List Source) → AreNamed ws ss → units_of (files_of ws ss) ≡ map unit_of ss
 units_same [] [] e = refl
 units_same [] (s ∷ ss) e = absurd (omega (arith, e))
 units_same (w ∷ ws) [] e = absurd (omega (arith, e))

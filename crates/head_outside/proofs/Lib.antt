@@ -1,5 +1,5 @@
 mod Classes
-mod Shared
+pub mod Shared
 mod Names
 mod Headers
 mod Params

@@ -105,7 +105,7 @@ all_outside fs (d ∷ ds) h = by (is_package d.it.block) refl (all_outside fs ds
     by true e g = ((h.0 e).outside, g)
     by false e g = g
 
-every_at : {A : Type 0} (Q : A → Type 0) (xs : List A) (k : ℕ) (x : A) → Every Q xs → slice_get xs k ≡ Some x → Q x
+pub every_at : {A : Type 0} (Q : A → Type 0) (xs : List A) (k : ℕ) (x : A) → Every Q xs → slice_get xs k ≡ Some x → Q x
 every_at Q [] k x h e = absurd cc
 every_at Q (y ∷ xs) zero x h e = subst Q (same_some y x e) h.0
 every_at Q (y ∷ xs) (suc k) x h e = every_at Q xs k x h.1 e
@@ -121,7 +121,7 @@ module _ (old new : List File) (h : AreRead old) (k : AreRead new) (e : heads ol
     pub there : slice_get (package_objects new) i ≡ Some other
     pub same : entry new other ≡ entry old x
 
-  paired : (i : ℕ) (x : Declared) → slice_get (package_objects old) i ≡ Some x → Paired i x
+  pub paired : (i : ℕ) (x : Declared) → slice_get (package_objects old) i ≡ Some x → Paired i x
   paired i x there =
       by (slice_get (package_objects new) i) refl
       (sym (slice_get-map (entry new) (package_objects new) i) ∙ ap (λ xs. slice_get xs i) (entries_same old new h k e) ∙ slice_get-map (entry old) (package_objects old) i ∙ ap (option_map (entry old)) there)
