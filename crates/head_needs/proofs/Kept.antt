@@ -1,27 +1,25 @@
 -- What is declared at one place of the heads needs the same.
-use Rattle.std.proofs.Common.{◌≡◌, ◌∙◌, ℕ, zero, suc, ◌+◌, ◌<◌, Bool, true, false, List, [], ◌∷◌, ◌++◌, map, length, Option, Some, None, refl, sym, ap, subst, arith}
-use Rattle.std.specs.Prelude.{if◌then◌else◌, ◌&&◌, nat_eq, slice_get, option_map}
+use Rattle.std.proofs.Common.{◌≡◌, ◌∙◌, ℕ, zero, suc, ◌+◌, ◌<◌, Bool, true, false, List, [], ◌∷◌, map, length, Option, Some, None, refl, sym, ap, subst, arith}
+use Rattle.std.specs.Prelude.{nat_eq, slice_get, option_map}
 use Rattle.std.proofs.lemmas.Bool.Decides.{nat_tests}
 use Rattle.std.proofs.lemmas.Option.{slice_get-map}
 use Rattle.go_tokens.specs.Tokens.{kinds}
 use Rattle.go_grammar.specs.Trees.{last, parts}
-use Rattle.go_tree.specs.declared.object.Declared.{Declared}
 use Rattle.go_tree.specs.declared.context.Site.{Site}
 use Rattle.go_tree.specs.declared.context.Site.TheVariants as site
 use Rattle.go_tree.specs.Declarations.{Found, found_in, found_from, found}
 use Rattle.go_tree.specs.Lookups.{Asked, asked_from}
 use Rattle.go_tree.specs.Meanings.{meanings}
-use Rattle.go_tree.specs.Needs.{Needed, if_so, way_by, way, right_way, needed_meaning, needs, with_all, all_needed}
+use Rattle.go_tree.specs.Needs.{Needed, if_so, way_by, needed_meaning, needs, with_all, all_needed}
 use Rattle.go_tree.specs.Units as names
 use Rattle.go_tree.specs.Uses.{UsesView, uses}
 use Rattle.go_heads.specs.Functions.{AreRead}
 use Rattle.go_heads.specs.Heads.{File, IsRead, Head, head_of, heads, in_bodies, place_outside}
 use Rattle.go_heads.proofs.Files.{first_same, others_same, some_not_none}
-use Rattle.go_heads.proofs.Functions.{same_some}
-use Rattle.go_package.specs.Sources.{Source, Package, package_of, package_by, unit_of, rounds, needed_numbers, needed_by, declared_at, needed_from, needed_at}
+use Rattle.go_package.specs.Sources.{Source, Package, package_of, unit_of, rounds, needed_numbers, needed_by, declared_at, needed_from, needed_at}
 use Rattle.go_portions.specs.Portions.{files_of, AreNamed}
-use Rattle.head_objects.specs.Objects.{units_of, package_objects, file_in, file_there, KeepsObjects}
-use Rattle.head_objects.specs.Told.{NewName, Told, placed, place_of, told_outside, file_events}
+use Rattle.head_objects.specs.Objects.{units_of, file_in, file_there, KeepsObjects}
+use Rattle.head_objects.specs.Told.{NewName, told_outside, file_events}
 use Rattle.head_objects.proofs.Objects.{stand_from}
 use Rattle.head_bodies.proofs.Fresh as fresh
 use Rattle.head_bodies.proofs.Fresh.{Other, other_found}
@@ -29,8 +27,8 @@ use Rattle.head_meanings.specs.Lookups.{AtOnePlace}
 use Rattle.head_meanings.specs.Meanings.{KeepsMeanings}
 use Rattle.head_meanings.proofs.Lookups.{read_at}
 use Rattle.head_needs.specs.Needs.{KeepsNeeds}
-use Rattle.head_needs.proofs.Sited.{SourceOut, file_agreed}
-use Rattle.head_needs.proofs.Looked.{find_new, placed_new, ToldAs, declared_told, declared_in_file, none_other}
+use Rattle.head_needs.proofs.Sited.{file_agreed}
+use Rattle.head_needs.proofs.Looked.{find_new, ToldAs, declared_told, declared_in_file, none_other}
 use Rattle.head_needs.proofs.Same.{SameSource, SameNeeds, SameSeeking}
 use Rattle.head_needs.proofs.Meant.{AreOrderlyRead, OrderRead, ordered, placed_source, called_same}
 use Rattle.head_needs.proofs.Telling.{all_needs}

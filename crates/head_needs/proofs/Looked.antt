@@ -1,5 +1,5 @@
 -- The names of the package block, found by their places in heads.
-use Rattle.std.proofs.Common.{◌≡◌, ◌∙◌, ℕ, zero, suc, ◌+◌, ◌-◌, ◌<◌, ◌≤◌, ◌⊎◌, inl, inr, Bool, true, false, List, [], ◌∷◌, ◌++◌, map, Option, Some, None, refl, sym, ap, subst, arith}
+use Rattle.std.proofs.Common.{◌≡◌, ◌∙◌, ℕ, suc, ◌+◌, ◌-◌, ◌<◌, ◌≤◌, ◌⊎◌, inl, inr, Bool, true, false, List, [], ◌∷◌, ◌++◌, map, Option, Some, None, refl, sym, ap, subst, arith}
 use Rattle.std.specs.Prelude.{if◌then◌else◌, ◌&&◌, not, nat_eq, slice_get}
 use Rattle.std.proofs.lemmas.Bool.Decides.{nat_tests}
 use Rattle.go_tokens.specs.Tokens.{TokenList, kinds}
@@ -11,13 +11,13 @@ use Rattle.go_tree.specs.Contexts.{is_package}
 use Rattle.go_tree.specs.Declarations.{Found, found_in, found_from, found}
 use Rattle.go_tree.specs.Units.{word, bytes_at}
 use Rattle.go_names.specs.Orders.{AreInOrder, EachDeclared}
-use Rattle.go_names.proofs.Inside.{true_false, each_between}
+use Rattle.go_names.proofs.Inside.{each_between}
 use Rattle.go_names.proofs.Nesting.{each_map}
 use Rattle.go_heads.specs.Functions.{AreRead}
 use Rattle.go_heads.specs.Heads.{File, IsRead, in_bodies, place_outside}
 use Rattle.go_heads.proofs.Counting.{place_next, place_order}
 use Rattle.go_package.specs.Sources.{is_at, declared_at}
-use Rattle.head_objects.specs.Objects.{units_of, file_in, file_there, head_place}
+use Rattle.head_objects.specs.Objects.{units_of, file_in, head_place}
 use Rattle.head_objects.specs.Told.{NewName, Told, declares, asks, new_name, told, placed, place_of, file_events, told_outside}
 use Rattle.head_objects.proofs.Declared.{IsHeaded, file_headed, each_both}
 use Rattle.head_objects.proofs.Objects.{StandFrom, stand_from}
@@ -114,13 +114,14 @@ module _ (p : ℕ → Bool) where
 
   all_found : (i j : ℕ) (es : List Event) → AreInOrder i j es → EachDeclared (IsFound es) es
   all_found i j [] o = tt
-  all_found i j (event.Declaration e ∷ es) o =
-      (λ b f. there e (told p es) b f,
-      each_both (IsFound es) (λ d. (suc e.name ≤ d.name) × (d.name < j)) (IsFound (event.Declaration e ∷ es)) es
-      (λ d h le b f.
-      skipped (m d.name) e (told p es) (is_package e.block && not (p e.name)) (λ g. place_test e.name d.name (outer (is_package e.block) (p e.name) g) f ∙ less_test e.name d.name (omega (arith, le.0)))
-      ∙ h b f)
-      (all_found (suc e.name) j es o.1) (each_between (suc e.name) j (suc e.name) j es (omega arith) (omega arith) o.1))
+  all_found i j (event.Declaration e ∷ es) o = (
+    λ b f. there e (told p es) b f,
+    each_both (IsFound es) (λ d. (suc e.name ≤ d.name) × (d.name < j)) (IsFound (event.Declaration e ∷ es)) es
+        (λ d h le b f.
+        skipped (m d.name) e (told p es) (is_package e.block && not (p e.name)) (λ g. place_test e.name d.name (outer (is_package e.block) (p e.name) g) f ∙ less_test e.name d.name (omega (arith, le.0)))
+        ∙ h b f)
+        (all_found (suc e.name) j es o.1) (each_between (suc e.name) j (suc e.name) j es (omega arith) (omega arith) o.1),
+  )
   all_found i j (event.Use u ∷ es) o =
       each_map (IsFound es) (IsFound (event.Use u ∷ es)) es (λ d h b f. asked_aside (m d.name) (asks _) (told p es) (p u.name) refl ∙ h b f) (all_found (suc u.name) j es o.1)
   all_found i j (event.Import k ∷ es) o = all_found i j es o
@@ -238,16 +239,17 @@ module _ (all : List File) where
 
   in_found : (n : ℕ) (f : File) → file_in all n ≡ f → (es : List Event) → EachDeclared (OfFile (in_bodies (parts f.tree)) (told_outside f)) es → Every Looked (found_in n f.tokens es)
   in_found n f here [] h = tt
-  in_found n f here (event.Declaration d ∷ es) h =
-      (λ b.
-      let k = h.0 b in
-      let back : f ≡ file_in all n = sym here in
-      record {
-        outside = subst (λ (g : File). in_bodies (parts g.tree) d.name ≡ false) back k.0;
-        source = subst (λ (g : File). SourceOut (in_bodies (parts g.tree)) d.source) back k.1;
-        found = subst (λ (g : File). find_new (place_outside (in_bodies (parts g.tree)) d.name) (told_outside g) ≡ Some (placed_new (in_bodies (parts g.tree)) d)) back k.2;
-      },
-      in_found n f here es h.1)
+  in_found n f here (event.Declaration d ∷ es) h = (
+    λ b.
+        let k = h.0 b in
+        let back : f ≡ file_in all n = sym here in
+        record {
+          outside = subst (λ (g : File). in_bodies (parts g.tree) d.name ≡ false) back k.0;
+          source = subst (λ (g : File). SourceOut (in_bodies (parts g.tree)) d.source) back k.1;
+          found = subst (λ (g : File). find_new (place_outside (in_bodies (parts g.tree)) d.name) (told_outside g) ≡ Some (placed_new (in_bodies (parts g.tree)) d)) back k.2;
+        },
+    in_found n f here es h.1,
+  )
   in_found n f here (event.Import i ∷ es) h = in_found n f here es h
   in_found n f here (event.Use u ∷ es) h = in_found n f here es h
   in_found n f here (event.Member a c i ∷ es) h = in_found n f here es h

@@ -1,5 +1,5 @@
 -- What names outside of bodies call for: declarations at one place of the heads.
-use Rattle.std.proofs.Common.{◌≡◌, ◌∙◌, ℕ, zero, suc, ◌+◌, ◌<◌, ◌≤◌, Bool, true, false, List, [], ◌∷◌, ◌++◌, map, length, Option, Some, None, refl, sym, ap, subst, append_assoc, arith}
+use Rattle.std.proofs.Common.{◌≡◌, ◌∙◌, ℕ, suc, ◌+◌, ◌<◌, ◌≤◌, Bool, true, false, List, [], ◌∷◌, ◌++◌, length, Option, Some, None, refl, sym, ap, subst, append_assoc, arith}
 use Rattle.std.specs.Prelude.{if◌then◌else◌, ◌&&◌, nat_eq, nat_le, nat_lt, slice_get}
 use Rattle.std.proofs.lemmas.Bool.Decides.{nat_tests}
 use Rattle.go_tokens.specs.Spellings.{same_text}
@@ -23,27 +23,27 @@ use Rattle.go_tree.specs.Declarations.{Found, is_function, found_in, found_from,
 use Rattle.go_tree.specs.Events.{events}
 use Rattle.go_tree.specs.Extents.{covers, extent_by, extent_of}
 use Rattle.go_tree.specs.Imports.{imports_fmt}
-use Rattle.go_tree.specs.Meanings.{Meaning, declared_meaning, Numbers, first_numbers, own_number, behind_shared, numbers_behind, numbered, imported_meaning, imported_from, meanings, covering, is_innermost, innermost_of, meaning_at}
+use Rattle.go_tree.specs.Meanings.{Meaning, Numbers, first_numbers, own_number, behind_shared, numbers_behind, numbered, imported_meaning, imported_from, meanings, covering, is_innermost, innermost_of, meaning_at}
 use Rattle.go_tree.specs.Objects.{known_object, predeclared_object, object_by}
 use Rattle.go_tree.specs.Predeclared.{known_names, known_in}
 use Rattle.go_tree.specs.Units as names
 use Rattle.go_tree.specs.Units.{is_blank}
-use Rattle.go_tree.specs.Uses.{declared_by, declared_in_package, uses, object_of}
+use Rattle.go_tree.specs.Uses.{declared_by, declared_in_package}
 use Rattle.go_lookup.specs.Tables.{AreCounted}
 use Rattle.go_lookup.proofs.Owned.{uses_own}
 use Rattle.go_names.specs.Orders.{AreInOrder, EachDeclared}
-use Rattle.go_names.specs.Scopes.{is_local, IsOrderly, AreOrderly}
+use Rattle.go_names.specs.Scopes.{IsOrderly, AreOrderly}
 use Rattle.go_names.proofs.Inside.{true_false}
 use Rattle.go_names.proofs.Layers.{and_both}
 use Rattle.go_heads.specs.Functions.{AreRead}
-use Rattle.go_heads.specs.Heads.{File, IsRead, heads, in_bodies, place_outside}
+use Rattle.go_heads.specs.Heads.{File, in_bodies, place_outside}
 use Rattle.go_heads.proofs.Functions.{same_some}
 use Rattle.go_package.specs.Sources.{number_in}
 use Rattle.head_objects.specs.Objects.{units_of, package_objects, file_in, text_at, head_place, SameObject, KeepsObjects}
-use Rattle.head_objects.specs.Told.{NewName, Told, place_of, file_events, told_outside}
+use Rattle.head_objects.specs.Told.{NewName, place_of, file_events, told_outside}
 use Rattle.head_objects.proofs.Objects.{StandFrom, stand_from}
 use Rattle.head_meanings.specs.Lookups.{AtOnePlace}
-use Rattle.head_meanings.specs.Meanings.{StandsOutside, meant_at, KeepsMeanings}
+use Rattle.head_meanings.specs.Meanings.{StandsOutside, KeepsMeanings}
 use Rattle.head_meanings.proofs.Lookups.{count_kinds}
 use Rattle.head_meanings.proofs.Meanings.{Every, every_append, every_new, IsAway, imported_away}
 use Rattle.head_meanings.proofs.Scopes.{IsBodily, locals_bodily}

@@ -1,5 +1,5 @@
 -- Declarations of two packages at one place of the heads.
-use Rattle.std.specs.Prelude.{◌≡◌, ℕ, Bool, List, [], ◌∷◌, Option, Some, None}
+use Rattle.std.specs.Prelude.{◌≡◌, ℕ, List, [], ◌∷◌, Option, Some, None}
 use Rattle.go_tree.specs.Declarations.{Found}
 use Rattle.go_tree.specs.Meanings.{Meaning}
 use Rattle.go_tree.specs.Needs.{Needed}

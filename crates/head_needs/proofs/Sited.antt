@@ -1,5 +1,5 @@
 -- In which specifications the names of a file stand, by whether they stand in bodies.
-use Rattle.std.proofs.Common.{◌≡◌, ◌∙◌, ℕ, zero, suc, ◌<◌, ◌≤◌, Bool, true, false, List, [], ◌∷◌, ◌++◌, Option, Some, None, refl, sym, ap, subst, arith}
+use Rattle.std.proofs.Common.{◌≡◌, ◌∙◌, ℕ, zero, suc, ◌<◌, ◌≤◌, Bool, true, false, List, [], ◌∷◌, ◌++◌, Option, Some, None, refl, sym, subst, arith}
 use Rattle.std.specs.Prelude.{if◌then◌else◌, nat_lt}
 use Rattle.go_tokens.specs.declared.token.TokenKind.{TokenKind}
 use Rattle.go_grammar.specs.declared.kind.Kind.{Kind}
@@ -36,7 +36,7 @@ use Rattle.go_heads.proofs.Functions.{Framed, framed}
 use Rattle.go_heads.proofs.Outlines.{Sits, AllSit, OthersSit, file_sat}
 use Rattle.head_bodies.proofs.Names.{NamesIn, ordered_names}
 use Rattle.head_meanings.proofs.Scopes.{Shared, tree_shared}
-use Rattle.head_needs.proofs.Sites.{NumberIn, SiteIn, AllIn, ContextIn, in_append, tree_in}
+use Rattle.head_needs.proofs.Sites.{NumberIn, SiteIn, AllIn, ContextIn, tree_in}
 
 -- ---- names that are declared in no specification: parameters
 

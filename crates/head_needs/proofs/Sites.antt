@@ -1,5 +1,5 @@
 -- Where the specifications lie in which the names of a tree stand: in the tree, or where its context says.
-use Rattle.std.proofs.Common.{◌≡◌, ℕ, zero, suc, ◌<◌, ◌≤◌, Bool, true, false, List, [], ◌∷◌, ◌++◌, Option, Some, None, refl, arith}
+use Rattle.std.proofs.Common.{ℕ, zero, suc, ◌<◌, ◌≤◌, Bool, true, false, List, [], ◌∷◌, ◌++◌, Option, Some, None, arith}
 use Rattle.std.specs.Prelude.{if◌then◌else◌, ◌||◌, nat_eq, nat_lt}
 use Rattle.go_grammar.specs.declared.kind.Kind.{Kind}
 use Rattle.go_grammar.specs.declared.kind.Kind.TheVariants as kind
@@ -17,8 +17,8 @@ use Rattle.go_tree.specs.declared.context.Site.TheVariants as site
 use Rattle.go_tree.specs.declared.context.Context.{Context}
 use Rattle.go_tree.specs.declared.event.Event.{Event}
 use Rattle.go_tree.specs.declared.event.Event.TheVariants as event
-use Rattle.go_tree.specs.Contexts.{is_there, is_called, specified, defined, ranged, role_in, site_in, specification_in, source_of, own_source, source_at, source_in, has_values, called_in, if_name, if_first, field_role, key_role, parameter_role, entry_role, element_site, length_site, column_site, value_site, values_site, sequence_site, typed_site, function_site, enter}
-use Rattle.go_tree.specs.Events.{name_events, own_events, statement_events, misplaced, is_default, default_events, second_defaults, function_events, declaration_events, is_more, pass, begin, events, events_of}
+use Rattle.go_tree.specs.Contexts.{is_there, is_called, specified, defined, ranged, role_in, site_in, specification_in, source_of, own_source, source_in, has_values, called_in, if_name, if_first, field_role, key_role, parameter_role, entry_role, element_site, length_site, column_site, value_site, sequence_site, typed_site, function_site, enter}
+use Rattle.go_tree.specs.Events.{name_events, own_events, statement_events, misplaced, is_default, default_events, second_defaults, function_events, is_more, pass, begin, events, events_of}
 use Rattle.go_names.proofs.Rising.{behind_name, IsLaidOut, LieIn, laid_grows, lie_order}
 
 name_behind : (k : Kind) (i : ℕ) → i ≤ behind_name k i

@@ -1,6 +1,6 @@
 -- What a declaration needs at once follows from what its file tells outside of bodies.
-use Rattle.std.proofs.Common.{◌≡◌, ◌∙◌, ℕ, zero, suc, ◌+◌, Bool, true, false, List, [], ◌∷◌, ◌++◌, map, Option, Some, None, refl, sym, ap, subst, append_assoc, arith}
-use Rattle.std.specs.Prelude.{if◌then◌else◌, ◌&&◌, ◌||◌, not, nat_eq, slice_get}
+use Rattle.std.proofs.Common.{◌≡◌, ◌∙◌, ℕ, suc, Bool, true, false, List, [], ◌∷◌, ◌++◌, map, Option, Some, None, refl, sym, ap, subst}
+use Rattle.std.specs.Prelude.{if◌then◌else◌, ◌&&◌, ◌||◌, not, nat_eq}
 use Rattle.go_tokens.specs.Tokens.{TokenList, kinds}
 use Rattle.go_grammar.specs.Trees.{parts}
 use Rattle.go_tree.specs.declared.context.Site.{Site}
@@ -16,14 +16,14 @@ use Rattle.go_tree.specs.Units.{word, is_blank}
 use Rattle.go_heads.specs.Functions.{AreRead}
 use Rattle.go_heads.specs.Heads.{File, IsRead, head_of, heads, in_bodies, place_outside}
 use Rattle.go_heads.proofs.Files.{first_same, others_same, some_not_none}
-use Rattle.head_objects.specs.Objects.{units_of, file_in, text_at, head_place}
+use Rattle.head_objects.specs.Objects.{units_of, file_in, text_at}
 use Rattle.head_objects.specs.Told.{Told, declares, asks, new_name, asked_name, AskedName, told, placed, place_of, site_of, file_events, told_outside}
 use Rattle.head_objects.proofs.Objects.{StandFrom}
 use Rattle.head_meanings.specs.Lookups.{AtOnePlace}
 use Rattle.head_meanings.specs.Meanings.{KeepsMeanings}
 use Rattle.head_needs.proofs.Sited.{SourceOut, SiteSays, Agreed, file_agreed}
-use Rattle.head_needs.proofs.Looked.{equal_test, same_test, place_test}
-use Rattle.head_needs.proofs.Same.{SameSource, SameSources, SameNeed, SameNeeds, SameSeeking, declaration_of}
+use Rattle.head_needs.proofs.Looked.{same_test, place_test}
+use Rattle.head_needs.proofs.Same.{SameSource, SameSources, SameNeeds, SameSeeking, declaration_of}
 
 -- ---- specifications in bodies and outside of them
 

@@ -1,5 +1,5 @@
 -- Specifications lie inside their declarations.
-use Rattle.std.proofs.Common.{◌≡◌, ◌∙◌, ℕ, zero, suc, ◌+◌, ◌-◌, ◌<◌, ◌≤◌, true, List, [], ◌∷◌, Option, Some, None, refl, arith}
+use Rattle.std.proofs.Common.{◌≡◌, ℕ, suc, ◌-◌, ◌<◌, ◌≤◌, true, List, [], ◌∷◌, Option, Some, None, refl, arith}
 use Rattle.go_grammar.specs.declared.kind.Kind.{Kind}
 use Rattle.go_grammar.specs.declared.kind.Kind.TheVariants as kind
 use Rattle.go_grammar.specs.declared.kind.Sort.{Sort}
@@ -7,7 +7,7 @@ use Rattle.go_grammar.specs.declared.kind.Sort.TheVariants as declaring
 use Rattle.go_grammar.specs.Trees.{Tree, node, Trees, none, more, skip, kind_of, first, last}
 use Rattle.go_splice.specs.Lists.{InOrder, Ordered}
 use Rattle.go_splice.specs.Places.{carry, carries}
-use Rattle.go_splice.proofs.Order.{tree_order, row_order}
+use Rattle.go_splice.proofs.Order.{row_order}
 use Rattle.go_tree.specs.Lists.{is_function}
 use Rattle.go_stmts.specs.Reading.{part_source}
 use Rattle.go_package.specs.Declarations.{Specification, trees_of, first_tokens, name_tokens, listed_values, type_behind, values_behind, first_part, specification_of, source_behind, grouped, declared, declaration}

@@ -1,5 +1,5 @@
 -- The specifications of packages with equal heads, declaration by declaration.
-use Rattle.std.proofs.Common.{◌≡◌, ◌∙◌, ℕ, zero, suc, ◌+◌, ◌-◌, ◌<◌, ◌≤◌, Bool, true, false, List, [], ◌∷◌, ◌++◌, map, length, Some, refl, sym, ap, subst, append_assoc, arith}
+use Rattle.std.proofs.Common.{◌≡◌, ◌∙◌, ℕ, suc, ◌+◌, ◌-◌, ◌<◌, ◌≤◌, Bool, true, false, List, [], ◌∷◌, ◌++◌, map, Some, refl, sym, ap, subst, arith}
 use Rattle.std.specs.Prelude.{slice_get}
 use Rattle.go_tokens.specs.declared.token.TokenKind.{TokenKind}
 use Rattle.go_tokens.specs.Tokens.{kinds}
@@ -15,7 +15,7 @@ use Rattle.go_heads.specs.Functions.{Alone, AreRead, parts_there}
 use Rattle.go_heads.specs.Heads.{File, IsRead, is_within, in_bodies, place_outside, head_of, heads, without_body, without_bodies, outline}
 use Rattle.go_heads.proofs.Counting.{places_stay}
 use Rattle.go_heads.proofs.Files.{first_same, others_same, some_not_none, one_outline}
-use Rattle.go_heads.proofs.Functions.{Framed, framed, alone_same}
+use Rattle.go_heads.proofs.Functions.{framed, alone_same}
 use Rattle.go_heads.proofs.Outlines.{Sits, AllSit, OthersSit, file_sat, plain_same, plain_none, function_kind}
 use Rattle.go_package.specs.Answer.{specifications}
 use Rattle.go_package.specs.Declarations.{Specification, declaration, declarations, in_file}
@@ -23,7 +23,7 @@ use Rattle.go_package.specs.Sources.{Source}
 use Rattle.go_portions.specs.Portions.{files_of, AreNamed}
 use Rattle.head_meanings.specs.Lookups.{AtOnePlace}
 use Rattle.head_objects.specs.Objects.{file_in, file_there}
-use Rattle.head_specifications.specs.Specifications.{Inside, IsOne, AreOne}
+use Rattle.head_specifications.specs.Specifications.{AreOne}
 use Rattle.head_specifications.proofs.Further.{AllFurther, bare_further}
 use Rattle.head_specifications.proofs.Inside.{order_less, AllLie, declaration_lies}
 
@@ -141,19 +141,20 @@ module _ (old new : List File) (n a b w : ℕ) (places : (i : ℕ) → i < w →
   zipped [] (d ∷ ds) es f g l = absurd f
   zipped (r ∷ rs) [] es f g l = absurd f
   zipped (r ∷ rs) (d ∷ ds) [] f g l = absurd g
-  zipped (r ∷ rs) (d ∷ ds) (e ∷ es) f g l =
-      (record {
-        one = r;
-        from = a;
-        to = b;
-        width = w;
-        before = f.0.0;
-        after = g.0.0;
-        lies = l.0.0;
-        file = g.0.1 ∙ sym f.0.1;
-        places = λ i lt. subst (λ k. AtOnePlace old new k (a + i) (b + i)) (sym (f.0.1 ∙ l.0.1)) (places i lt);
-      },
-      zipped rs ds es f.1 g.1 l.1)
+  zipped (r ∷ rs) (d ∷ ds) (e ∷ es) f g l = (
+    record {
+      one = r;
+      from = a;
+      to = b;
+      width = w;
+      before = f.0.0;
+      after = g.0.0;
+      lies = l.0.0;
+      file = g.0.1 ∙ sym f.0.1;
+      places = λ i lt. subst (λ k. AtOnePlace old new k (a + i) (b + i)) (sym (f.0.1 ∙ l.0.1)) (places i lt);
+    },
+    zipped rs ds es f.1 g.1 l.1,
+  )
 
 -- ---- one file
 

@@ -1,6 +1,6 @@
 -- The answers of packages whose declarations are the same but for where they stand.
-use Rattle.std.proofs.Common.{◌≡◌, ◌∙◌, ℕ, zero, suc, ◌+◌, Bool, true, false, List, [], ◌∷◌, ◌++◌, map, length, Option, Some, None, refl, sym, ap}
-use Rattle.std.specs.Prelude.{◌&&◌, ◌||◌, not, if◌then◌else◌, slice_get, Ok, Err}
+use Rattle.std.proofs.Common.{◌≡◌, ◌∙◌, ℕ, zero, suc, ◌+◌, Bool, true, false, List, [], ◌∷◌, ◌++◌, map, length, Some, refl, sym, ap}
+use Rattle.std.specs.Prelude.{◌&&◌, ◌||◌, not, if◌then◌else◌, slice_get, Ok}
 use Rattle.std.specs.List.{list_any}
 use Rattle.go_tree.specs.declared.context.Entity.{Entity}
 use Rattle.go_tree.specs.declared.object.Declared.{Declared}
@@ -8,7 +8,7 @@ use Rattle.go_tree.specs.Failures.{Failure, is_earlier, least_from, least}
 use Rattle.go_rules.specs.declared.fault.TypeFault.{TypeFault}
 use Rattle.go_rules.specs.Scopes.{at_once, Scope}
 use Rattle.go_rules.specs.Tables.{no_faults}
-use Rattle.go_package.specs.Answer.{Environment, failures_at, is_procedure, is_main, fault_if, main_faults, mains_from, all_failures, unless, answer_on, answer_by}
+use Rattle.go_package.specs.Answer.{Environment, failures_at, is_procedure, is_main, fault_if, main_faults, mains_from, all_failures, unless, answer_on}
 use Rattle.go_package.specs.Declarations.{Specification}
 use Rattle.go_package.specs.Knowledge.{Outline, outlines, State, state_of, passes, is_sound, free_scope, rights_of}
 use Rattle.go_package.specs.Sources.{Package, rounds}
@@ -16,7 +16,7 @@ use Rattle.go_package.specs.Verdicts.{known, expression_faults, specification_ru
 use Rattle.go_alike.specs.Scopes.{SaySame}
 use Rattle.go_elsewhere.specs.Elsewhere.{along}
 use Rattle.head_states.specs.Same.{SameSpecification, SameSpecifications, SameOutlines, SameDeclarations}
-use Rattle.head_states.specs.States.{SameState, SameStates, SameKnowledge}
+use Rattle.head_states.specs.States.{SameStates, SameKnowledge}
 use Rattle.head_states.proofs.Failing.{Alike}
 use Rattle.head_states.proofs.Judged.{MovesTyped, KeepsNames, FollowsTokens, expressions_further, rule_further, expressions_same, rule_same}
 use Rattle.head_states.proofs.Scopes.{MeansEqual, state_same, sound_same, passes_same, scopes_same}

@@ -1,6 +1,6 @@
 -- What a name stands for whose specification stands elsewhere.
 use Rattle.std.proofs.Common.{◌≡◌, ◌∙◌, ℕ, zero, suc, ◌+◌, Bool, true, false, List, [], ◌∷◌, map, Option, Some, None, length, refl, sym, ap, subst}
-use Rattle.std.specs.Prelude.{◌==◌, ◌&&◌, not, if◌then◌else◌, slice_get, option_map}
+use Rattle.std.specs.Prelude.{◌==◌, ◌&&◌, not, slice_get, option_map}
 use Rattle.go_grammar.specs.Trees.{Tree}
 use Rattle.go_splice.specs.Places.{carry}
 use Rattle.go_tree.specs.declared.context.Entity.{Entity}

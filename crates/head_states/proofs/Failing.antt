@@ -1,6 +1,6 @@
 -- Whether rules fail at parts that stand elsewhere.
 use Rattle.std.proofs.Common.{◌≡◌, ◌∙◌, ℕ, suc, Bool, true, false, List, [], ◌∷◌, ◌++◌, map, Option, Some, None, length, refl, sym, ap}
-use Rattle.std.specs.Prelude.{◌==◌, ◌&&◌, if◌then◌else◌, option_map, replicate}
+use Rattle.std.specs.Prelude.{◌==◌, ◌&&◌, if◌then◌else◌, replicate}
 use Rattle.go_base.specs.declared.fault.FaultCode.{FaultCode}
 use Rattle.go_base.specs.declared.fault.FaultCode.TheVariants as code
 use Rattle.go_constants.specs.declared.values.Const.{Const}

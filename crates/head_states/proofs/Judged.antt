@@ -8,7 +8,6 @@ use Rattle.go_splice.specs.Places.{carry}
 use Rattle.go_tree.specs.declared.context.Entity.{Entity}
 use Rattle.go_tree.specs.declared.context.Entity.TheVariants as entity
 use Rattle.go_types.specs.Trees.{TypeTree}
-use Rattle.go_types.specs.Relations.{Rights}
 use Rattle.go_typed.specs.Trees.{sort_of}
 use Rattle.go_typed.specs.Trees as sort
 use Rattle.go_rules.specs.declared.fault.TypeFault.{TypeFault}
@@ -22,10 +21,10 @@ use Rattle.go_stmts.specs.Assigning.{constants_failing}
 use Rattle.go_stmts.specs.Rules.{variables_failing}
 use Rattle.go_package.specs.Declarations.{Specification, is_alone}
 use Rattle.go_package.specs.Knowledge.{State}
-use Rattle.go_package.specs.Verdicts.{joined, type_hint, value_hint, part_in, faults_in, typed_type, type_faults, own_value, typed_values, values_faults, expression_faults, assigned_of, right_found, type_state, state_with, own_faults, value_state, known_parts, counted, constants_failing_in, specification_failing, specification_rule}
+use Rattle.go_package.specs.Verdicts.{joined, type_hint, value_hint, part_in, faults_in, typed_type, type_faults, own_value, typed_values, values_faults, expression_faults, assigned_of, right_found, type_state, state_with, own_faults, value_state, known_parts, counted, specification_failing, specification_rule}
 use Rattle.go_alike.specs.Scopes.{AllTokens, SaySame, IsTypedSame}
 use Rattle.go_elsewhere.specs.Elsewhere.{placed, along, KeepsLast, IsTypedElsewhere}
-use Rattle.head_states.specs.Same.{IsFurther, IsReadBy, MaybeReadBy, AllReadBy}
+use Rattle.head_states.specs.Same.{IsFurther, MaybeReadBy, AllReadBy}
 use Rattle.head_states.specs.States.{SameState}
 use Rattle.head_states.proofs.Failing.{Alike, both, joined_alike, sort_kept, constants_alike, variables_alike}
 use Rattle.head_states.proofs.Assigned.{SameAssigned, optional, type_kept, alone_kept, assigned_further}

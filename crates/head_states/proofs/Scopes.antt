@@ -1,5 +1,5 @@
 -- Scopes of specifications that are the same but for where they stand.
-use Rattle.std.proofs.Common.{◌≡◌, ◌∙◌, ℕ, zero, suc, ◌+◌, Bool, true, false, List, [], ◌∷◌, map, Option, Some, None, refl, sym, ap, subst}
+use Rattle.std.proofs.Common.{◌≡◌, ◌∙◌, ℕ, zero, suc, ◌+◌, Bool, true, false, List, [], ◌∷◌, map, Option, Some, None, refl, sym, ap}
 use Rattle.std.specs.Prelude.{◌&&◌, if◌then◌else◌, slice_get}
 use Rattle.std.specs.Str.{chars}
 use Rattle.go_tree.specs.declared.context.Entity.{Entity}
@@ -7,7 +7,6 @@ use Rattle.go_tree.specs.declared.object.Declared.{Declared}
 use Rattle.go_tree.specs.declared.object.Object.{Object}
 use Rattle.go_tree.specs.declared.object.Object.TheVariants as object
 use Rattle.go_tree.specs.Uses.{object_of}
-use Rattle.go_types.specs.Relations.{Rights}
 use Rattle.go_typed.specs.declared.form.Referent.{Referent}
 use Rattle.go_typed.specs.Packages.{referents}
 use Rattle.go_typed.specs.Trees as sort
@@ -16,11 +15,11 @@ use Rattle.go_rules.specs.Sorts.{Stands}
 use Rattle.go_rules.specs.Tables.{no_faults}
 use Rattle.go_package.specs.Bodies.{own_object}
 use Rattle.go_package.specs.Declarations.{Specification}
-use Rattle.go_package.specs.Knowledge.{is_type, Outline, State, state_of, is_sound, is_told_by, is_told, all_pass, needs_of, passes, stands_if, stands_where, rights_among, rights_of, referent_there, referent_at, need_in, scope_where}
-use Rattle.go_package.specs.Sources.{Package, text_at}
+use Rattle.go_package.specs.Knowledge.{is_type, Outline, State, state_of, is_sound, is_told_by, is_told, all_pass, needs_of, passes, stands_if, stands_where, rights_among, rights_of, referent_there, need_in, scope_where}
+use Rattle.go_package.specs.Sources.{Package}
 use Rattle.go_alike.specs.Scopes.{said, MeanSame, SaySame, StandSame}
 use Rattle.go_elsewhere.specs.Elsewhere.{along}
-use Rattle.head_states.specs.Same.{SameSpecification, SameOutline, SameOutlines}
+use Rattle.head_states.specs.Same.{SameSpecification, SameOutlines}
 use Rattle.head_states.specs.States.{SameState, SameStates}
 
 abbrev pub MeansEqual : Type 0

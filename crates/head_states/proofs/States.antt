@@ -84,10 +84,11 @@ module _ (moves : MovesTyped) (keeps : KeepsNames) (follows : FollowsTokens) (eq
     next_kept n (u ∷ us) (v ∷ vs) s =
         let d : Specification = u.specification in
         let e : Specification = v.specification in
-        let same : e.entity ≡ d.entity = s.0.specification.after.entity ∙ sym s.0.specification.before.entity in
-        (subst (λ k. SameState (state_by d.entity p xs ss n d u.column) (state_by k q ys ts n e v.column)) (sym same)
-        (subst (λ c. SameState (state_by d.entity p xs ss n d u.column) (state_by d.entity q ys ts n e c)) (sym s.0.column) (state_kept n u v d.entity s.0)),
-        next_kept (suc n) us vs s.1)
+        let same : e.entity ≡ d.entity = s.0.specification.after.entity ∙ sym s.0.specification.before.entity in (
+          subst (λ k. SameState (state_by d.entity p xs ss n d u.column) (state_by k q ys ts n e v.column)) (sym same)
+              (subst (λ c. SameState (state_by d.entity p xs ss n d u.column) (state_by d.entity q ys ts n e c)) (sym s.0.column) (state_kept n u v d.entity s.0)),
+          next_kept (suc n) us vs s.1,
+        )
 
   begun_kept : (n : ℕ) (k : Entity) → SameState (first_state p n k) (first_state q n k)
   begun_kept n entity.Type = record { right = refl; stands = ap (λ t. sort.IsType t) (type_same n); faults = refl; assigning = refl }
