@@ -3,4 +3,5 @@ pub mod Shared
 mod Names
 mod Headers
 mod Params
+mod Bodiless
 mod Outside

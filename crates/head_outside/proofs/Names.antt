@@ -34,7 +34,7 @@ names_append (event.Statement a k ∷ es) fs = names_append es fs
 names_append (event.Misplaced a k ∷ es) fs = names_append es fs
 names_append (event.SecondDefault k ∷ es) fs = names_append es fs
 
-statement_names : (b : Bool) (i j : ℕ) → declared_names (statement_events b i j) ≡ []
+pub statement_names : (b : Bool) (i j : ℕ) → declared_names (statement_events b i j) ≡ []
 statement_names true i j = refl
 statement_names false i j = refl
 

@@ -1,8 +1,10 @@
+use Rattle.head_outside.proofs.Bodiless.{bodiless_names}
 use Rattle.head_outside.proofs.Outside.{Laws, outside_kept}
 use Rattle.head_outside.proofs.laws.outside_tokens_stay.Goals as goal
 
 pub returns : goal.returns
 returns c old new h k p q e b =
+    let x = bodiless_names in
     outside_kept (record {
       orderly = c.files_are_orderly.ensures;
       order = c.names_are_in_order.ensures;
