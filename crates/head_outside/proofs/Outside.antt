@@ -15,6 +15,7 @@ use Rattle.go_tree.specs.declared.object.Object.{Object}
 use Rattle.go_tree.specs.declared.object.Object.TheVariants as object
 use Rattle.go_tree.specs.Contexts.{is_package, file_context}
 use Rattle.go_tree.specs.Events.{events}
+use Rattle.go_tree.specs.Faults.{reported}
 use Rattle.go_tree.specs.Lists.{functions}
 use Rattle.go_tree.specs.Meanings.{Meaning, meanings}
 use Rattle.go_tree.specs.Objects.{token_objects, objects_from, token_object}
@@ -42,7 +43,8 @@ use Rattle.head_needs.proofs.Kept.{both_or_none}
 use Rattle.head_needs.proofs.Looked.{AreOrdered, same_test, equal_test, place_test}
 use Rattle.head_needs.proofs.Meant.{AreOrderlyRead, OrderRead, ordered, orderly, counted}
 use Rattle.head_specifications.proofs.Pairs.{IsBare, function_bare, at_place, tree_back}
-use Rattle.head_outside.specs.Outside.{SameBodied, KeepsOutside}
+use Rattle.head_outside.specs.Outside.{KeepsOutside}
+use Rattle.head_outside.proofs.Bodiless.{bodiless_names}
 use Rattle.head_outside.proofs.Classes.{InEvents, each_in, in_either, Declares, HasNone, Class, class_of, blank_none, none_none}
 use Rattle.head_outside.proofs.Headers.{Headed, headed, InFunction, locals_in_functions}
 use Rattle.head_outside.proofs.Names.{declared_names, Like, declaring, names_placed}
@@ -139,6 +141,10 @@ first_in_order (node k i j (more p ps)) s h e = (subst InOrder (same_some p s e)
 outlined_functions : (t : Tree) → functions (parts (outline t)) ≡ map (λ d. carry (place_outside (in_bodies (parts t))) (without_body d)) (functions (parts t))
 outlined_functions (node k i j ps) = bare_functions (place_outside (in_bodies ps)) ps
 
+mapped_none : (f : ℕ → ℕ) (ns : List ℕ) → map f ns ≡ [] → ns ≡ []
+mapped_none f [] e = refl
+mapped_none f (n ∷ ns) e = absurd cc
+
 -- ---- what is taken for granted of two packages
 
 pub record Laws : Type 1 where
@@ -155,7 +161,8 @@ pub record Pair (old new : List File) : Type 0 where
   pub named : AreNamed old
   pub named_new : AreNamed new
   pub same : heads old ≡ heads new
-  pub bodied : SameBodied old new
+  pub faultless : reported (units_of old) ≡ None
+  pub faultless_new : reported (units_of new) ≡ None
 
 pub swapped : (old new : List File) → Pair old new → Pair new old
 swapped old new h = record {
@@ -164,7 +171,8 @@ swapped old new h = record {
   named = h.named_new;
   named_new = h.named;
   same = sym h.same;
-  bodied = record { bodied = λ n f g a b i t u c d. sym (h.bodied.bodied n g f b a i u t d c) };
+  faultless = h.faultless_new;
+  faultless_new = h.faultless;
 }
 
 -- ---- parameters
@@ -324,10 +332,30 @@ module _ (laws : Laws) (old new : List File) (h : Pair old new) (n t u : ℕ) (a
         ap (λ z. declared_names (events head.around z)) (tree_back a head.signature o.0 o.1)
         ∙ names_placed (λ c. a + c) head.around head.around signature plain (record { role = refl; parameters = refl; group = refl })
 
+    names_there : declared_names signature_events ≡ [] → ⊥
+    names_there e = subst (λ ns. InList d.name ns) e (in_names d signature_events in_signature)
+
+    -- a function without a body has no parameters
+    bodied : is_some (body_of y.tree) ≡ is_some (body_of x)
+    bodied = by (body_of x) (body_of y.tree) refl refl
+      where
+        by : (o r : Option Tree) → body_of x ≡ o → body_of y.tree ≡ r → is_some (body_of y.tree) ≡ is_some (body_of x)
+        by (Some c) (Some e) z v = ap (λ (m : Option Tree). is_some m) v ∙ sym (ap (λ (m : Option Tree). is_some m) z)
+        by None r z v =
+            absurd (names_there (bodiless_names old h.read h.faultless n f there p x stands.function stands.sits z stands.before stands.behind stands.whole head.signature head.begins head.around))
+        by (Some c) None z v =
+            let o = first_in_order (without_body y.tree) head_new.signature bare_new.order head_new.begins in
+            let clean : declared_names (events head.around head_new.signature) ≡ [] =
+            bodiless_names new h.read_new h.faultless_new n g there_new q y.tree stands_new.function stands_new.sits v stands_new.before stands_new.behind stands_new.whole head_new.signature head_new.begins head.around in
+            let placed : declared_names (events head.around head_new.signature) ≡ map (λ c. b + c) names =
+            ap (λ z. declared_names (events head.around z)) (tree_back b head_new.signature o.0 o.1 ∙ ap (carry (λ c. b + c)) one_signature)
+            ∙ names_placed (λ c. b + c) head.around head.around signature plain (record { role = refl; parameters = refl; group = refl }) in
+            absurd (names_there (names_old ∙ ap (map (λ c. a + c)) (mapped_none (λ c. b + c) names (sym placed ∙ clean))))
+
     like : Like head.around head_new.around
     like = record {
       role = ap declaring (head_new.operand ∙ sym head.operand);
-      parameters = head_new.parameters ∙ h.bodied.bodied n f g there there_new i x y.tree in_f y.stood ∙ sym head.parameters;
+      parameters = head_new.parameters ∙ bodied ∙ sym head.parameters;
       group = ap (λ (z : Option ℕ). is_some z) (head_new.group ∙ sym head.group);
     }
 

@@ -1,10 +1,8 @@
-use Rattle.head_outside.proofs.Bodiless.{bodiless_names}
 use Rattle.head_outside.proofs.Outside.{Laws, outside_kept}
 use Rattle.head_outside.proofs.laws.outside_tokens_stay.Goals as goal
 
 pub returns : goal.returns
-returns c old new h k p q e b =
-    let x = bodiless_names in
+returns c old new h k p q x y e =
     outside_kept (record {
       orderly = c.files_are_orderly.ensures;
       order = c.names_are_in_order.ensures;
@@ -12,4 +10,4 @@ returns c old new h k p q e b =
       locals = c.locals_follow_from_functions.ensures;
       meanings = c.names_keep_their_meanings.ensures;
       lookups = c.names_keep_their_objects.ensures;
-    }) old new (record { read = h; read_new = k; named = p; named_new = q; same = e; bodied = b })
+    }) old new (record { read = h; read_new = k; named = p; named_new = q; faultless = x; faultless_new = y; same = e })
