@@ -23,7 +23,7 @@ use Rattle.head_meanings.proofs.Meanings.{Every}
 use Rattle.head_needs.specs.Needs.{KeepsNeeds}
 use Rattle.head_needs.proofs.Kept.{units_same}
 use Rattle.head_needs.proofs.Meant.{OrderRead, ordered}
-use Rattle.head_outside.specs.Outside.{SameBodied, KeepsOutside}
+use Rattle.head_outside.specs.Outside.{KeepsOutside}
 use Rattle.head_outside.proofs.Shared.{objects_outside}
 use Rattle.head_portions.specs.Portions.{IsFaultless}
 use Rattle.head_specifications.specs.Specifications.{AreOne}
@@ -136,5 +136,8 @@ pub by_uses : (ss us : List Source) (u v : UsesView) → u ≡ uses (map unit_of
 by_uses ss us u v e f h =
     subst (λ z. KeepsAnswer ss us z v) (sym e) (subst (KeepsAnswer ss us (uses (map unit_of ss))) (sym f) (record { before = h.before; after = h.after }))
 
+pub clean : (ss : List Source) (u : UsesView) (ws : List (List ℕ)) → IsFaultless (package_of ss u) ws → reported (units_of (files_of ws ss)) ≡ None
+clean ss u ws h = ap reported (units_same ws ss h.named) ∙ h.faultless
+
 pub named : ((fs : List File) → AreRead fs → reported (units_of fs) ≡ None → functions.AreNamed fs) → (ss : List Source) (u : UsesView) (ws : List (List ℕ)) → IsFaultless (package_of ss u) ws → functions.AreNamed (files_of ws ss)
-named f ss u ws h = f (files_of ws ss) h.read (ap reported (units_same ws ss h.named) ∙ h.faultless)
+named f ss u ws h = f (files_of ws ss) h.read (clean ss u ws h)
