@@ -1,8 +1,7 @@
 -- The answers of packages with equal heads.
-use Rattle.std.proofs.Common.{◌≡◌, ◌∙◌, ℕ, zero, suc, ◌+◌, ◌<◌, Bool, true, List, [], ◌∷◌, map, Option, Some, None, refl, sym, ap, subst, arith}
-use Rattle.std.specs.Prelude.{◌&&◌, slice_get, codes, Ok}
+use Rattle.std.proofs.Common.{◌≡◌, ◌∙◌, ℕ, zero, suc, Bool, List, [], ◌∷◌, map, None, refl, sym, ap, subst, arith}
+use Rattle.std.specs.Prelude.{◌&&◌, slice_get, codes}
 use Rattle.go_tokens.specs.Spellings.{same_text}
-use Rattle.go_tree.specs.declared.context.Entity.{Entity}
 use Rattle.go_tree.specs.declared.object.Declared.{Declared}
 use Rattle.go_tree.specs.Faults.{reported}
 use Rattle.go_tree.specs.Units.{word}
@@ -10,8 +9,7 @@ use Rattle.go_tree.specs.Uses.{UsesView, uses}
 use Rattle.go_typed.specs.Packages.{referents}
 use Rattle.go_heads.specs.Functions.{AreRead}
 use Rattle.go_heads.specs.Heads.{File, heads}
-use Rattle.go_package.specs.Answer.{Environment, specifications, is_main_package, is_main, package_answer}
-use Rattle.go_package.specs.Declarations.{Specification}
+use Rattle.go_package.specs.Answer.{specifications, is_main_package, is_main}
 use Rattle.go_package.specs.Sources.{Source, Package, package_of, unit_of, tokens_there, text_at}
 use Rattle.go_portions.specs.Portions.{files_of, AreNamed}
 use Rattle.head_objects.specs.Objects as by_files

@@ -1,18 +1,18 @@
 -- Specifications of packages with equal heads are the same, with what their tokens mean and what they need.
-use Rattle.std.proofs.Common.{◌≡◌, ◌∙◌, ℕ, zero, suc, ◌+◌, ◌<◌, ◌≤◌, Bool, true, false, List, [], ◌∷◌, ◌++◌, map, length, Option, Some, None, refl, sym, ap, subst, arith}
-use Rattle.std.specs.Prelude.{if◌then◌else◌, ◌&&◌, max, nat_eq, nat_lt, slice_get}
+use Rattle.std.proofs.Common.{◌≡◌, ◌∙◌, ℕ, zero, suc, ◌+◌, ◌<◌, Bool, true, false, List, [], ◌∷◌, ◌++◌, map, length, Option, Some, None, refl, sym, ap, subst, arith}
+use Rattle.std.specs.Prelude.{if◌then◌else◌, max, nat_eq, nat_lt}
 use Rattle.std.proofs.lemmas.Bool.Decides.{nat_tests}
 use Rattle.go_grammar.specs.Trees.{Tree, parts}
 use Rattle.go_tree.specs.declared.object.Declared.{Declared}
 use Rattle.go_tree.specs.declared.object.Object.{Object}
 use Rattle.go_tree.specs.declared.object.Object.TheVariants as object
-use Rattle.go_tree.specs.Uses.{UsesView, uses, object_of}
-use Rattle.go_heads.specs.Heads.{File, in_bodies, place_outside}
+use Rattle.go_tree.specs.Uses.{uses, object_of}
+use Rattle.go_heads.specs.Heads.{File, in_bodies}
 use Rattle.go_package.specs.Bodies.{own_object}
 use Rattle.go_package.specs.Declarations.{Specification}
 use Rattle.go_package.specs.Knowledge.{Outline, following, place_of, column_of, no_specification, found_or, declaring, outline_by}
 use Rattle.go_package.specs.Sources.{Package, text_at, number_in, number_at, number_before, needed_at}
-use Rattle.go_package.specs.Verdicts.{first_name, needed_columns, needed_by_all, numbers_of}
+use Rattle.go_package.specs.Verdicts.{first_name, needed_columns, numbers_of}
 use Rattle.head_objects.specs.Objects as by_files
 use Rattle.head_objects.specs.Objects.{units_of, file_in, head_place}
 use Rattle.head_objects.proofs.Objects.{Entry, entry}
@@ -23,7 +23,7 @@ use Rattle.head_needs.specs.Needs.{KeepsNeeds}
 use Rattle.head_needs.proofs.Looked.{same_test, place_test}
 use Rattle.head_outside.specs.Outside.{KeepsOutside}
 use Rattle.head_specifications.specs.Specifications.{AllBelow, IsOne, AreOne}
-use Rattle.head_states.specs.Same.{IsFurther, SameSpecification, SameOutline, SameSpecifications, SameOutlines}
+use Rattle.head_states.specs.Same.{SameSpecification, SameOutline, SameSpecifications, SameOutlines}
 use Rattle.head_answers.proofs.Starts.{test, maybe_read, all_read}
 
 below_test : (i w : ℕ) → nat_lt i w ≡ true → i < w
@@ -218,9 +218,10 @@ module _ (p q : Package) (old new : List File) (h : Both p q old new) where
       where
         no_entry : (z : Entry) (zs : List Entry) → [] ≡ (z ∷ zs) → ⊥
         no_entry z zs e = cc
-    outlines_same (c ∷ xs) (d ∷ ys) e x y =
-        (object_same c d (first_entry (entry new d) (entry old c) (map (entry new) ys) (map (entry old) xs) e) x.0 y.0,
-        outlines_same xs ys (other_entries (entry new d) (entry old c) (map (entry new) ys) (map (entry old) xs) e) x.1 y.1)
+    outlines_same (c ∷ xs) (d ∷ ys) e x y = (
+      object_same c d (first_entry (entry new d) (entry old c) (map (entry new) ys) (map (entry old) xs) e) x.0 y.0,
+      outlines_same xs ys (other_entries (entry new d) (entry old c) (map (entry new) ys) (map (entry old) xs) e) x.1 y.1,
+    )
       where
         first_entry : (a b : Entry) (us vs : List Entry) → (a ∷ us) ≡ (b ∷ vs) → a ≡ b
         first_entry a b us vs e = cc

@@ -1,29 +1,28 @@
 -- The first tokens of files, and the tokens that trees are read by.
-use Rattle.std.proofs.Common.{◌≡◌, ◌∙◌, ℕ, zero, suc, ◌+◌, ◌-◌, ◌<◌, ◌≤◌, Bool, true, false, List, [], ◌∷◌, Option, Some, None, refl, sym, ap, subst, arith}
-use Rattle.std.specs.Prelude.{nat_lt, slice_get}
+use Rattle.std.proofs.Common.{◌≡◌, ◌∙◌, ℕ, zero, suc, ◌-◌, ◌<◌, ◌≤◌, Bool, true, false, List, [], ◌∷◌, Option, Some, None, refl, sym, ap, arith}
+use Rattle.std.specs.Prelude.{nat_lt}
 use Rattle.std.proofs.lemmas.Bool.{lt-ltb}
 use Rattle.go_tokens.specs.declared.token.TokenKind.{TokenKind}
 use Rattle.go_tokens.specs.Tokens.{kinds}
 use Rattle.go_grammar.specs.declared.kind.Kind.{Kind}
 use Rattle.go_grammar.specs.declared.kind.Kind.TheVariants as kind
 use Rattle.go_grammar.specs.declared.kind.Sort.TheVariants as declaring
-use Rattle.go_grammar.specs.declared.kind.Place.TheVariants as place
 use Rattle.go_grammar.specs.declared.kind.Category.TheVariants as category
 use Rattle.go_grammar.specs.Trees.{Tree, node, Trees, none, more, skip, first, last, parts}
 use Rattle.go_grammar.specs.Grammar.{IsFile}
 use Rattle.go_splice.specs.Lists.{InOrder, Ordered}
-use Rattle.go_splice.proofs.Order.{tree_order, row_order, derives_ordered, spells_ordered}
+use Rattle.go_splice.proofs.Order.{row_order, derives_ordered, spells_ordered}
 use Rattle.go_names.proofs.Inside.{true_false}
 use Rattle.go_heads.specs.Functions.{AreRead}
-use Rattle.go_heads.specs.Heads.{File, in_bodies, place_outside, heads}
+use Rattle.go_heads.specs.Heads.{File, in_bodies}
 use Rattle.go_heads.proofs.Bodies.{row_before}
 use Rattle.go_heads.proofs.Counting.{place_next}
 use Rattle.head_objects.specs.Objects.{file_in, head_place}
 use Rattle.head_meanings.specs.Lookups.{AtOnePlace}
 use Rattle.head_meanings.specs.Meanings.{StandsOutside}
 use Rattle.go_alike.specs.Scopes.{TokenHas, AllTokens, TokensIn}
-use Rattle.head_states.specs.Same.{IsReadBy, MaybeReadBy, AllReadBy}
-use Rattle.head_specifications.specs.Specifications.{Inside, MaybeInside, AllInside}
+use Rattle.head_states.specs.Same.{MaybeReadBy, AllReadBy}
+use Rattle.head_specifications.specs.Specifications.{MaybeInside, AllInside}
 
 -- ---- the package clause stands outside of bodies
 

@@ -1,6 +1,6 @@
 -- A function without a body declares no parameters, where no fault of names is reported: it is `func readByte() int`.
-use Rattle.std.proofs.Common.{◌≡◌, ◌∙◌, ℕ, zero, suc, ◌+◌, ◌-◌, ◌<◌, ◌≤◌, ◌⊎◌, inl, inr, ⊎_elim, Bool, true, false, List, [], ◌∷◌, ◌++◌, map, length, take, drop, Option, Some, None, refl, sym, ap, subst, arith}
-use Rattle.std.specs.Prelude.{if◌then◌else◌, ◌&&◌, not, nat_eq, nat_lt, slice_get, slice_range, codes, option_map}
+use Rattle.std.proofs.Common.{◌≡◌, ◌∙◌, ℕ, zero, suc, ◌+◌, ◌-◌, ◌<◌, ◌≤◌, ◌⊎◌, inl, inr, ⊎_elim, Bool, true, false, List, [], ◌∷◌, ◌++◌, take, drop, Option, Some, None, refl, sym, ap, subst, arith}
+use Rattle.std.specs.Prelude.{if◌then◌else◌, ◌&&◌, not, nat_eq, slice_get, slice_range, codes, option_map}
 use Rattle.std.specs.Str.{chars}
 use Rattle.std.proofs.lemmas.Bool.{lt-ltb}
 use Rattle.std.proofs.lemmas.Option.{slice_get-map}
@@ -19,29 +19,26 @@ use Rattle.go_tokens.specs.Spellings.{same_text, keywords}
 use Rattle.go_tokens.specs.Tokens.{TokenList, kinds, kind_of, text_of}
 use Rattle.go_tokens.proofs.Lists.{same_text-true}
 use Rattle.go_tokens.proofs.Spelled.{spelling}
-use Rattle.go_grammar.specs.declared.kind.Kind.{Kind}
 use Rattle.go_grammar.specs.declared.kind.Kind.TheVariants as kind
-use Rattle.go_grammar.specs.declared.kind.Place.TheVariants as place
 use Rattle.go_grammar.specs.declared.kind.Category.TheVariants as category
 use Rattle.go_grammar.specs.Rules.{Lines}
 use Rattle.go_grammar.specs.Trees as syntax
 use Rattle.go_grammar.specs.Trees.{Tree, node, Trees, none, more, skip, first, last, parts}
 use Rattle.go_grammar.specs.Grammar.{IsAt, Derives, Goes, ends_named}
 use Rattle.go_splice.specs.Lists.{InOrder, Ordered}
-use Rattle.go_splice.proofs.Order.{tree_order, row_order, derives_ordered}
+use Rattle.go_splice.proofs.Order.{tree_order, derives_ordered}
 use Rattle.go_tree.specs.declared.context.Role.TheVariants as role
 use Rattle.go_tree.specs.declared.context.Context.{Context}
 use Rattle.go_tree.specs.declared.event.Event.{Event}
 use Rattle.go_tree.specs.declared.event.Event.TheVariants as event
 use Rattle.go_tree.specs.Clauses.{declares, is_spelled, read_byte, is_read_byte, bodiless, missing_bodies, package_names, imports, outside_declarations}
-use Rattle.go_tree.specs.Contexts.{is_there, file_context, enter}
+use Rattle.go_tree.specs.Contexts.{file_context, enter}
 use Rattle.go_tree.specs.Declarations.{found}
-use Rattle.go_tree.specs.Events.{name_events, function_events, statement_events, is_more, pass, begin, events, events_of}
+use Rattle.go_tree.specs.Events.{name_events, function_events, statement_events, pass, begin, events, events_of}
 use Rattle.go_tree.specs.Failures.{Failure, is_earlier, least_from, least, or_else, failing, place_if, of_files}
 use Rattle.go_tree.specs.Faults.{clause_faults, name_faults, reported}
 use Rattle.go_tree.specs.Units as names
 use Rattle.go_tree.specs.Units.{Place, word, text_in, bytes_at}
-use Rattle.go_tree.specs.Views.{part_at}
 use Rattle.go_base.specs.declared.fault.FaultCode.{FaultCode}
 use Rattle.go_base.specs.declared.fault.FaultCode.TheVariants as code
 use Rattle.go_names.proofs.Inside.{true_false}

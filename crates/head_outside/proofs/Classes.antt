@@ -1,10 +1,7 @@
 -- What a file has to do with a token: it is a name that is looked up, or one that is declared, or neither.
-use Rattle.std.proofs.Common.{◌≡◌, ◌∙◌, ℕ, zero, suc, ◌+◌, ◌<◌, ◌≤◌, ◌⊎◌, inl, inr, Bool, true, false, List, [], ◌∷◌, ◌++◌, map, length, Option, Some, None, refl, sym, ap, subst, arith}
+use Rattle.std.proofs.Common.{◌≡◌, ◌∙◌, ℕ, suc, ◌+◌, ◌<◌, ◌⊎◌, inl, inr, Bool, true, false, List, [], ◌∷◌, ◌++◌, length, Option, Some, None, refl, sym, ap, subst, arith}
 use Rattle.std.specs.Prelude.{if◌then◌else◌, ◌&&◌, not, nat_eq, slice_get}
-use Rattle.std.proofs.lemmas.Bool.Decides.{nat_tests}
-use Rattle.go_tokens.specs.Tokens.{TokenList, kinds}
-use Rattle.go_grammar.specs.Trees.{last, parts}
-use Rattle.go_tree.specs.declared.context.Block.{Block}
+use Rattle.go_tokens.specs.Tokens.{TokenList}
 use Rattle.go_tree.specs.declared.event.Declaration.{Declaration}
 use Rattle.go_tree.specs.declared.event.Event.{Event}
 use Rattle.go_tree.specs.declared.event.Event.TheVariants as event
@@ -16,17 +13,16 @@ use Rattle.go_tree.specs.Objects.{object_by, object_at, is_declared_at, own_obje
 use Rattle.go_tree.specs.Units as names
 use Rattle.go_tree.specs.Units.{word, is_blank}
 use Rattle.go_tree.specs.Uses.{uses, object_of}
-use Rattle.go_names.specs.Orders.{AreInOrder, EachDeclared}
+use Rattle.go_names.specs.Orders.{EachDeclared}
 use Rattle.go_names.proofs.Inside.{true_false}
-use Rattle.go_heads.specs.Functions.{AreRead}
-use Rattle.go_heads.specs.Heads.{File, IsRead}
+use Rattle.go_heads.specs.Heads.{File}
 use Rattle.head_objects.specs.Objects.{units_of, file_in, file_there, text_at}
 use Rattle.head_objects.specs.Told.{file_events}
 use Rattle.head_objects.proofs.Objects.{StandFrom, stand_from}
 use Rattle.head_meanings.specs.Lookups.{HasUse}
-use Rattle.head_meanings.proofs.Lookups.{token_told, count_kinds, read_at}
+use Rattle.head_meanings.proofs.Lookups.{token_told}
 use Rattle.head_meanings.proofs.Meanings.{Every, every_append, every_new}
-use Rattle.head_needs.proofs.Looked.{same_test, equal_test}
+use Rattle.head_needs.proofs.Looked.{same_test}
 
 -- ---- events
 

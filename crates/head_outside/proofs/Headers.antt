@@ -1,16 +1,13 @@
 -- What the header of a function tells.
-use Rattle.std.proofs.Common.{◌≡◌, ◌∙◌, ℕ, zero, suc, ◌+◌, ◌-◌, ◌<◌, ◌≤◌, ◌⊎◌, inl, inr, Bool, true, false, List, [], ◌∷◌, ◌++◌, Option, Some, None, refl, sym, ap, subst, arith}
+use Rattle.std.proofs.Common.{◌≡◌, ◌∙◌, ℕ, suc, ◌<◌, ◌≤◌, Bool, true, false, List, [], ◌∷◌, ◌++◌, Some, None, refl, sym, subst, arith}
 use Rattle.std.specs.Prelude.{if◌then◌else◌, nat_lt, is_some, slice_get}
-use Rattle.std.proofs.lemmas.Bool.{lt-ltb}
 use Rattle.go_tokens.specs.declared.token.TokenKind.{TokenKind}
-use Rattle.go_tokens.specs.Tokens.{kinds}
-use Rattle.go_grammar.specs.declared.kind.Kind.{Kind}
 use Rattle.go_grammar.specs.declared.kind.Kind.TheVariants as kind
 use Rattle.go_grammar.specs.declared.kind.Place.TheVariants as place
 use Rattle.go_grammar.specs.declared.kind.Category.TheVariants as category
 use Rattle.go_grammar.specs.Trees.{Tree, node, Trees, none, more, skip, kind_of, first, last, parts}
 use Rattle.go_grammar.specs.Grammar.{IsFile, rule, Derives, ends_named}
-use Rattle.go_splice.proofs.Order.{tree_order, derives_ordered}
+use Rattle.go_splice.proofs.Order.{tree_order}
 use Rattle.go_tree.specs.declared.context.Block.{Block}
 use Rattle.go_tree.specs.declared.context.Block.TheVariants as block
 use Rattle.go_tree.specs.declared.context.Role.TheVariants as role
@@ -137,7 +134,7 @@ module _ (ts : List TokenKind) (p : ℕ → Bool) (e : ℕ) where
         whole = refl;
         shared = front_shared i j ps;
         inner = each_append (λ d. p d.name ≡ true) (events inner b) [] (each_named p (first b) (last b) (events inner b) within
-        (ordered_names (first b) (first b) (last b) (events inner b) (omega arith) (events_order inner b (derives_laid ts b category.Block h.derives.1.2.1)))) tt;
+            (ordered_names (first b) (first b) (last b) (events inner b) (omega arith) (events_order inner b (derives_laid ts b category.Block h.derives.1.2.1)))) tt;
         plain = layered.0;
         declares_none = tt;
         operand = refl;

@@ -1,10 +1,9 @@
 -- The names that a signature declares, wherever it stands and whatever stands behind it.
-use Rattle.std.proofs.Common.{◌≡◌, ◌∙◌, ℕ, zero, suc, ◌+◌, ◌<◌, Bool, true, false, List, [], ◌∷◌, ◌++◌, map, Option, Some, None, refl, sym, ap, subst}
+use Rattle.std.proofs.Common.{◌≡◌, ◌∙◌, ℕ, zero, suc, Bool, true, false, List, [], ◌∷◌, ◌++◌, map, Option, Some, None, refl, sym, ap}
 use Rattle.std.specs.Prelude.{if◌then◌else◌, ◌||◌, is_some}
 use Rattle.std.proofs.lemmas.List.{map-append}
 use Rattle.go_grammar.specs.declared.kind.Kind.{Kind}
 use Rattle.go_grammar.specs.declared.kind.Kind.TheVariants as kind
-use Rattle.go_grammar.specs.declared.kind.Sort.TheVariants as sort
 use Rattle.go_grammar.specs.Trees.{Tree, node, Trees, none, more, skip, kind_of, first}
 use Rattle.go_grammar.specs.Grammar.{is_name, is_parameter, ends_from, ends_named}
 use Rattle.go_splice.specs.Places.{carry, carries}

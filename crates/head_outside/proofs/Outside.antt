@@ -6,46 +6,42 @@ use Rattle.go_tokens.specs.Tokens.{TokenList, kinds}
 use Rattle.go_grammar.specs.Trees.{Tree, node, Trees, none, more, skip, first, last, parts}
 use Rattle.go_splice.specs.Lists.{InOrder}
 use Rattle.go_splice.specs.Places.{carry, carries}
-use Rattle.go_tree.specs.declared.context.Role.{Role}
-use Rattle.go_tree.specs.declared.context.Scope.{Scope}
 use Rattle.go_tree.specs.declared.event.Declaration.{Declaration}
 use Rattle.go_tree.specs.declared.event.Event.{Event}
 use Rattle.go_tree.specs.declared.event.Event.TheVariants as event
-use Rattle.go_tree.specs.declared.object.Object.{Object}
 use Rattle.go_tree.specs.declared.object.Object.TheVariants as object
 use Rattle.go_tree.specs.Contexts.{is_package, file_context}
 use Rattle.go_tree.specs.Events.{events}
 use Rattle.go_tree.specs.Faults.{reported}
 use Rattle.go_tree.specs.Lists.{functions}
 use Rattle.go_tree.specs.Meanings.{Meaning, meanings}
-use Rattle.go_tree.specs.Objects.{token_objects, objects_from, token_object}
+use Rattle.go_tree.specs.Objects.{token_objects, objects_from}
 use Rattle.go_tree.specs.Units.{word, is_blank}
 use Rattle.go_tree.specs.Uses.{uses, object_there, object_in, object_of}
-use Rattle.go_names.specs.Orders.{AreInOrder}
 use Rattle.go_names.proofs.Inside.{true_false}
-use Rattle.go_names.proofs.Layers.{Holding, layer, IsPlain, ArePlain}
+use Rattle.go_names.proofs.Layers.{IsPlain, ArePlain}
 use Rattle.go_heads.specs.Functions.{Alone, AreRead}
 use Rattle.go_heads.specs.Heads.{File, IsRead, head_of, heads, in_bodies, place_outside, body_of, without_body, outline}
 use Rattle.go_heads.proofs.Files.{one_outline}
-use Rattle.go_heads.proofs.Functions.{Framed, framed, same_some, alone_same}
+use Rattle.go_heads.proofs.Functions.{framed, same_some, alone_same}
 use Rattle.go_heads.proofs.Numbers.{bare_functions}
 use Rattle.go_package.specs.Bodies.{own_object}
 use Rattle.go_package.specs.Declarations.{first_part}
-use Rattle.head_objects.specs.Objects.{units_of, file_in, file_there, text_at, head_place}
+use Rattle.head_objects.specs.Objects.{units_of, file_in, file_there, text_at}
 use Rattle.head_objects.specs.Told.{file_events}
 use Rattle.head_bodies.specs.Names.{DeclaresByItself}
 use Rattle.head_bodies.proofs.Names.{NamesIn, Stands, file_stands, stands_at}
 use Rattle.head_locals.specs.Locals.{AreNamed, all_locals}
-use Rattle.head_meanings.specs.Lookups.{HasUse, IsLookedUp, AtOnePlace, KeepsLookups}
+use Rattle.head_meanings.specs.Lookups.{HasUse, AtOnePlace, KeepsLookups}
 use Rattle.head_meanings.specs.Meanings.{KeepsMeanings}
 use Rattle.head_meanings.proofs.Lookups.{read_at}
 use Rattle.head_needs.proofs.Kept.{both_or_none}
-use Rattle.head_needs.proofs.Looked.{AreOrdered, same_test, equal_test, place_test}
+use Rattle.head_needs.proofs.Looked.{same_test, equal_test, place_test}
 use Rattle.head_needs.proofs.Meant.{AreOrderlyRead, OrderRead, ordered, orderly, counted}
 use Rattle.head_specifications.proofs.Pairs.{IsBare, function_bare, at_place, tree_back}
 use Rattle.head_outside.specs.Outside.{KeepsOutside}
 use Rattle.head_outside.proofs.Bodiless.{bodiless_names}
-use Rattle.head_outside.proofs.Classes.{InEvents, each_in, in_either, Declares, HasNone, Class, class_of, blank_none, none_none}
+use Rattle.head_outside.proofs.Classes.{InEvents, each_in, in_either, Declares, Class, class_of, blank_none, none_none}
 use Rattle.head_outside.proofs.Headers.{Headed, headed, InFunction, locals_in_functions}
 use Rattle.head_outside.proofs.Names.{declared_names, Like, declaring, names_placed}
 use Rattle.head_outside.proofs.Params.{kept, InList, IsAt, in_names, kept_at, AllOf, kept_same, Front, locals_there, parameters_first, HasLocals, has_locals, local_object}

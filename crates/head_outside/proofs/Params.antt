@@ -1,12 +1,10 @@
 -- The objects of parameters: locals with the same numbers in packages with equal heads.
-use Rattle.std.proofs.Common.{◌≡◌, ◌∙◌, ℕ, zero, suc, ◌+◌, ◌-◌, ◌<◌, ◌≤◌, ◌⊎◌, inl, inr, Bool, true, false, List, [], ◌∷◌, ◌++◌, map, length, Option, Some, None, refl, sym, ap, subst, append_assoc, arith}
-use Rattle.std.specs.Prelude.{if◌then◌else◌, ◌&&◌, not, nat_eq, is_some, slice_get, option_map}
+use Rattle.std.proofs.Common.{◌≡◌, ◌∙◌, ℕ, zero, suc, ◌+◌, ◌⊎◌, inl, inr, Bool, true, false, List, [], ◌∷◌, ◌++◌, map, length, Option, Some, None, refl, sym, ap, subst, arith}
+use Rattle.std.specs.Prelude.{if◌then◌else◌, ◌&&◌, not, slice_get, option_map}
 use Rattle.std.proofs.lemmas.List.{map-append}
 use Rattle.std.proofs.lemmas.Option.{slice_get-map}
-use Rattle.go_tokens.specs.Tokens.{TokenList, kinds}
-use Rattle.go_grammar.specs.Trees.{Tree, node, Trees, none, more, skip, kind_of, first, last, parts}
-use Rattle.go_splice.specs.Lists.{InOrder}
-use Rattle.go_splice.specs.Places.{carry, carries}
+use Rattle.go_tokens.specs.Tokens.{TokenList}
+use Rattle.go_grammar.specs.Trees.{Tree, first, last, parts}
 use Rattle.go_tree.specs.declared.context.Block.{Block}
 use Rattle.go_tree.specs.declared.context.Block.TheVariants as block
 use Rattle.go_tree.specs.declared.context.Manner.TheVariants as manner
@@ -14,26 +12,22 @@ use Rattle.go_tree.specs.declared.event.Declaration.{Declaration}
 use Rattle.go_tree.specs.declared.event.Event.{Event}
 use Rattle.go_tree.specs.declared.event.Event.TheVariants as event
 use Rattle.go_tree.specs.declared.object.Declared.{Declared}
-use Rattle.go_tree.specs.declared.object.Object.{Object}
 use Rattle.go_tree.specs.declared.object.Object.TheVariants as object
 use Rattle.go_tree.specs.Contexts.{is_package, file_context}
 use Rattle.go_tree.specs.Declarations.{Found, found, found_in, is_reused, may_be_reused, is_new, new_among}
 use Rattle.go_tree.specs.Events.{events}
 use Rattle.go_tree.specs.Lists.{functions}
-use Rattle.go_tree.specs.Units.{word, is_blank, bytes_at}
+use Rattle.go_tree.specs.Units.{word, is_blank}
 use Rattle.go_tree.specs.Uses.{UsesView, declared_by, uses, local_in, local_of, object_of}
 use Rattle.go_lookup.specs.Tables.{AreCounted}
 use Rattle.go_lookup.proofs.Owned.{uses_own}
-use Rattle.go_names.specs.Moved.{moved_block, moved_declaration}
+use Rattle.go_names.specs.Moved.{moved_block}
 use Rattle.go_names.specs.Orders.{EachDeclared}
 use Rattle.go_names.specs.Scopes.{AreOrderly}
-use Rattle.go_names.proofs.Inside.{true_false}
-use Rattle.go_names.proofs.Layers.{IsPlain, ArePlain}
-use Rattle.go_heads.specs.Functions.{Alone, AreRead, alone}
-use Rattle.go_heads.specs.Heads.{File, in_bodies}
+use Rattle.go_heads.specs.Functions.{alone}
+use Rattle.go_heads.specs.Heads.{File}
 use Rattle.go_heads.proofs.Functions.{same_some}
 use Rattle.head_objects.specs.Objects.{units_of}
-use Rattle.head_objects.specs.Told.{file_events}
 use Rattle.head_objects.proofs.Objects.{new_append}
 use Rattle.head_bodies.specs.Names.{own_declarations, in_file, DeclaresByItself}
 use Rattle.head_bodies.proofs.Names.{found_append}
@@ -41,7 +35,7 @@ use Rattle.head_locals.specs.Locals.{locals_in, own_locals, local_in_file, local
 use Rattle.head_needs.proofs.Sited.{Unsourced, tree_unsourced}
 use Rattle.head_outside.proofs.Classes.{InEvents}
 use Rattle.head_outside.proofs.Headers.{Headed}
-use Rattle.head_outside.proofs.Names.{declared_names, Like, names_placed}
+use Rattle.head_outside.proofs.Names.{declared_names}
 use Rattle.head_outside.proofs.Shared.{found_by}
 
 -- ---- lists of names

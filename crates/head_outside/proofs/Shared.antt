@@ -1,5 +1,5 @@
 -- The objects of names that are declared in the package block, at one place of the heads.
-use Rattle.std.proofs.Common.{◌≡◌, ◌∙◌, ℕ, zero, suc, ◌+◌, ◌⊎◌, inl, inr, Bool, true, false, List, [], ◌∷◌, ◌++◌, map, Option, Some, None, refl, sym, ap, subst, arith}
+use Rattle.std.proofs.Common.{◌≡◌, ◌∙◌, ℕ, zero, suc, ◌+◌, ◌⊎◌, inl, inr, Bool, true, false, List, [], ◌∷◌, ◌++◌, Option, Some, None, refl, sym, ap, subst, arith}
 use Rattle.std.specs.Prelude.{if◌then◌else◌, ◌&&◌, not, nat_eq, slice_get, option_map}
 use Rattle.std.proofs.lemmas.Option.{slice_get-map}
 use Rattle.go_tokens.specs.Tokens.{TokenList, kinds}
@@ -9,7 +9,6 @@ use Rattle.go_tree.specs.declared.event.Declaration.{Declaration}
 use Rattle.go_tree.specs.declared.event.Event.{Event}
 use Rattle.go_tree.specs.declared.event.Event.TheVariants as event
 use Rattle.go_tree.specs.declared.object.Declared.{Declared}
-use Rattle.go_tree.specs.declared.object.Object.{Object}
 use Rattle.go_tree.specs.declared.object.Object.TheVariants as object
 use Rattle.go_tree.specs.Contexts.{is_package}
 use Rattle.go_tree.specs.Declarations.{Found, found, found_in, found_from, is_reused, may_be_reused, is_new, new_among, declarations}
@@ -20,7 +19,7 @@ use Rattle.go_lookup.proofs.Owned.{uses_own}
 use Rattle.go_names.specs.Scopes.{AreOrderly}
 use Rattle.go_heads.specs.Functions.{AreRead}
 use Rattle.go_heads.specs.Heads.{File, IsRead, heads, in_bodies, place_outside}
-use Rattle.go_heads.proofs.Functions.{same_some, some_none}
+use Rattle.go_heads.proofs.Functions.{same_some}
 use Rattle.head_objects.specs.Objects.{units_of, package_objects, file_in, file_there, head_place}
 use Rattle.head_objects.specs.Told.{file_events}
 use Rattle.head_objects.proofs.Declared.{file_headed}

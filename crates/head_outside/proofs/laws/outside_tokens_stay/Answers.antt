@@ -1,4 +1,4 @@
-use Rattle.head_outside.proofs.Outside.{Laws, outside_kept}
+use Rattle.head_outside.proofs.Outside.{outside_kept}
 use Rattle.head_outside.proofs.laws.outside_tokens_stay.Goals as goal
 
 pub returns : goal.returns
