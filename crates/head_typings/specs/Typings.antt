@@ -1,0 +1,40 @@
+-- The functions of two packages with equal heads, with their types.
+use Rattle.std.specs.Prelude.{◌≡◌, ℕ, zero, suc, ◌<◌, List, [], ◌∷◌, Result, Ok, Err, slice_get}
+use Rattle.go_rules.specs.declared.fault.TypeFault.{TypeFault}
+use Rattle.go_types.specs.Relations.{Rights}
+use Rattle.go_package.specs.Bodies.{Behind, Surroundings, typed_function}
+use Rattle.go_package.specs.Checked.{Typing, surroundings_of}
+use Rattle.go_package.specs.Declarations.{Specification}
+use Rattle.go_package.specs.Sources.{Source, Package, package_of}
+use Rattle.go_portions.specs.Portions.{SameBody, function_specifications}
+
+-- The right sides behind a function; those in front of it where it has a fault.
+abbrev pub rights_behind : Rights → Result Behind TypeFault → Rights
+rights_behind rights (Ok b) = b.rights
+rights_behind rights (Err f) = rights
+
+-- the right sides that so many functions of a list leave, whose first one has the number n
+abbrev pub rights_after : Package → Surroundings → Rights → ℕ → List Specification → ℕ → Rights
+rights_after p a rights n ds zero = rights
+rights_after p a rights n [] (suc k) = rights
+rights_after p a rights n (d ∷ ds) (suc k) = rights_after p a (rights_behind rights (typed_function p a rights n d)) (suc n) ds k
+
+-- The right sides in front of a function: those of the declared types of the package, and of the bodies in front.
+abbrev pub rights_before : List Source → Typing → ℕ → Rights
+rights_before ss t k = rights_after (package_of ss t.uses) (surroundings_of t.uses t.environment) t.environment.rights 0 (function_specifications (package_of ss t.uses)) k
+
+-- The functions of one number have bodies with the same texts.
+pub record KeepsBody (p q : Package) (names others : List (List ℕ)) (k : ℕ) : Type 0 where
+  pub old : Specification
+  pub new : Specification
+  pub same : SameBody p q names others k old new
+
+-- What is kept in two packages that are free of faults.
+pub record KeepsTypes (ss us : List Source) (names others : List (List ℕ)) (t z : Typing) : Type 0 where
+  pub environment : z.environment ≡ t.environment
+  pub function : (k : ℕ) → KeepsBody (package_of ss t.uses) (package_of us z.uses) names others k → rights_before us z k ≡ rights_before ss t k
+      → slice_get z.bodies.functions k ≡ slice_get t.bodies.functions k
+  pub rights : (k : ℕ) → KeepsBody (package_of ss t.uses) (package_of us z.uses) names others k → rights_before us z k ≡ rights_before ss t k
+      → rights_before us z (suc k) ≡ rights_before ss t (suc k)
+  pub front : (m : ℕ) → ((k : ℕ) → k < m → KeepsBody (package_of ss t.uses) (package_of us z.uses) names others k) → (k : ℕ) → k < m
+      → slice_get z.bodies.functions k ≡ slice_get t.bodies.functions k
