@@ -1,21 +1,18 @@
 -- The functions of packages with equal heads, with their types.
-use Rattle.std.proofs.Common.{◌≡◌, ◌∙◌, ℕ, zero, suc, ◌+◌, ◌<◌, List, Option, Some, refl, sym, ap, subst, arith}
-use Rattle.std.specs.Prelude.{Ok, slice_get}
+use Rattle.std.proofs.Common.{◌≡◌, ◌∙◌, ℕ, zero, suc, ◌+◌, ◌<◌, List, Some, sym, ap, arith}
+use Rattle.std.specs.Prelude.{slice_get}
 use Rattle.go_heads.specs.Functions.{AreRead}
-use Rattle.go_heads.specs.Heads.{File, heads}
 use Rattle.go_package.specs.Answer.{Environment, package_answer}
 use Rattle.go_package.specs.Bodies.{Behind, Surroundings, typed_function}
 use Rattle.go_package.specs.Checked.{Typing, surroundings_of}
-use Rattle.go_package.specs.Declarations.{Specification}
-use Rattle.go_package.specs.Sources.{Source, Package, package_of, unit_of}
-use Rattle.go_portions.specs.Portions.{files_of, AreNamed, SameBody, function_specifications}
+use Rattle.go_package.specs.Sources.{Source, Package, package_of}
+use Rattle.go_portions.specs.Portions.{files_of, AreNamed, function_specifications}
 use Rattle.go_tree.specs.Uses.{UsesView, uses}
 use Rattle.go_typed.specs.declared.form.Referent.{Referent}
 use Rattle.go_typed.specs.Packages.{referents}
-use Rattle.go_types.specs.Relations.{Rights}
 use Rattle.head_answers.specs.Answers.{KeepsAnswer}
 use Rattle.head_needs.proofs.Kept.{units_same}
-use Rattle.head_objects.specs.Objects.{units_of, KeepsObjects}
+use Rattle.head_objects.specs.Objects.{KeepsObjects}
 use Rattle.head_portions.specs.Portions.{IsFaultless, KeepsTypedFunctions}
 use Rattle.head_typings.specs.Typings.{rights_before, KeepsBody, KeepsTypes}
 use Rattle.head_typings.proofs.Steps.{two_answers, Answered, AtStep, at_step}
