@@ -15,6 +15,7 @@ use Rattle.head_needs.proofs.Kept.{units_same}
 use Rattle.head_objects.specs.Objects.{KeepsObjects}
 use Rattle.head_portions.specs.Portions.{IsFaultless, KeepsTypedFunctions}
 use Rattle.head_typings.specs.Typings.{rights_before, KeepsBody, KeepsTypes}
+use Rattle.head_typings.proofs.Rights.{none_after}
 use Rattle.head_typings.proofs.Steps.{two_answers, Answered, AtStep, at_step}
 
 pub is_faultless : (ss : List Source) (names : List (List ℕ)) (t : Typing) → AreNamed names ss → AreRead (files_of names ss) → Answered ss t → IsFaultless (package_of ss t.uses) names
