@@ -26,7 +26,7 @@ use Rattle.go_stmts.specs.Reading.{first_parts, entry_names, declares_sort, decl
 use Rattle.go_package.specs.Bodies.{Behind, Portion, Surroundings, scope_of, count_types, local_type, behind_read, function_over, function_with, portion_of, types_in, typed_function}
 use Rattle.go_package.specs.Declarations.{Specification}
 use Rattle.go_package.specs.Sources.{Package}
-use Rattle.head_typings.specs.Typings.{rights_behind, rights_after}
+use Rattle.head_typings.specs.Typings.{rights_behind, rights_after, AddsRights}
 
 -- ---- lists with the same front
 
@@ -61,24 +61,19 @@ front_placed (suc m) n x [] le = tt
 front_placed (suc m) zero x (y ∷ ys) le = absurd (omega (arith, le))
 front_placed (suc m) (suc n) x (y ∷ ys) le = (refl, front_placed m n x ys (omega (arith, le)))
 
-record Own (front : Rights) (k : ℕ) (all : Rights) : Type 0 where
-  own : Rights
-  count : length own ≡ k
-  is : all ≡ front ++ own
-
-front_own : (front more_of all : Rights) → SameFront (length front) (front ++ more_of) all → Own front (length more_of) all
-front_own [] rs ys h = record { own = ys; count = h; is = refl }
+front_own : (front added all : Rights) → SameFront (length front) (front ++ added) all → AddsRights front (length added) all
+front_own [] rs ys h = record { own = ys; counted = h; is = refl }
 front_own (x ∷ xs) rs [] h = absurd h
 front_own (x ∷ xs) rs (y ∷ ys) h =
     let z = front_own xs rs ys h.1 in
-    record { own = z.own; count = z.count; is = ap (λ c. c ∷ ys) h.0 ∙ ap (λ cs. x ∷ cs) z.is }
+    record { own = z.own; counted = z.counted; is = ap (λ c. c ∷ ys) h.0 ∙ ap (λ cs. x ∷ cs) z.is }
 
 no_more : (xs : Rights) → xs ++ [] ≡ xs
 no_more [] = refl
 no_more (x ∷ xs) = ap (λ ys. x ∷ ys) (no_more xs)
 
-none_own : (front all : Rights) → Own front 0 all → all ≡ front
-none_own front all h = by h.own h.count h.is
+none_own : (front all : Rights) → AddsRights front 0 all → all ≡ front
+none_own front all h = by h.own h.counted h.is
   where
     by : (own : Rights) → length own ≡ 0 → all ≡ front ++ own → all ≡ front
     by [] e f = f ∙ no_more front
@@ -242,25 +237,28 @@ read_rights : (s : Scope) (number : ℕ) (t : Tree) (r : Reading) (b : Behind) �
 read_rights s number t (read x fs f) b e =
     ap (λ (z : Behind). z.rights) (judged_there (reported fs) (record { function = function_read s number (last t) (signature_of s t) x f; rights = f.around.rights }) b e)
 
-over_rights : (a : Surroundings) (rights : Rights) (number : ℕ) (bs : List Bool) (o : Portion) (t : Tree) (b : Behind) → function_over a rights number bs o t ≡ Ok b → Own rights (count_types bs) b.rights
+over_rights : (a : Surroundings) (rights : Rights) (number : ℕ) (bs : List Bool) (o : Portion) (t : Tree) (b : Behind) → function_over a rights number bs o t ≡ Ok b → AddsRights rights (count_types bs) b.rights
 over_rights a rights number bs o t b e =
     let s : Scope = scope_of a (rights ++ replicate (count_types bs) None) o in
     let f : Frame = start s (length bs) (local_type (length rights) bs) in
     let z : Leaves (length rights) f (frame_in (reading f free t)) = reading_leaves (length rights) f free t (local_far (length rights) bs) in
     let front : SameFront (length rights) (rights ++ replicate (count_types bs) None) b.rights =
     subst (λ r. SameFront (length rights) (rights ++ replicate (count_types bs) None) r) (sym (read_rights s number t (reading f free t) b e)) z.rights in
-    subst (λ k. Own rights k b.rights) (replicate_count (count_types bs) None) (front_own rights (replicate (count_types bs) None) b.rights front)
+    subst (λ k. AddsRights rights k b.rights) (replicate_count (count_types bs) None) (front_own rights (replicate (count_types bs) None) b.rights front)
 
-with_rights : (a : Surroundings) (rights : Rights) (number : ℕ) (bs : List Bool) (o : Portion) (t : Option Tree) (b : Behind) → function_with a rights number bs o t ≡ Ok b → Own rights (count_types bs) b.rights
+with_rights : (a : Surroundings) (rights : Rights) (number : ℕ) (bs : List Bool) (o : Portion) (t : Option Tree) (b : Behind) → function_with a rights number bs o t ≡ Ok b → AddsRights rights (count_types bs) b.rights
 with_rights a rights number bs o (Some t) b e = over_rights a rights number bs o t b e
 with_rights a rights number bs o None b e = absurd cc
 
 module _ (p : Package) (a : Surroundings) where
+  pub rights_added : (rights : Rights) (n : ℕ) (d : Specification) (b : Behind) → typed_function p a rights n d ≡ Ok b → AddsRights rights (count_types (types_in p n)) b.rights
+  rights_added rights n d b e = with_rights a rights n (types_in p n) (portion_of p d) (portion_of p d).tree b e
+
   -- a function that declares no types leaves the right sides as they are
   none_behind : (rights : Rights) (n : ℕ) (d : Specification) (r : Result Behind TypeFault) → typed_function p a rights n d ≡ r → count_types (types_in p n) ≡ 0 → rights_behind rights r ≡ rights
   none_behind rights n d (Err f) e z = refl
   none_behind rights n d (Ok b) e z =
-      none_own rights b.rights (subst (λ k. Own rights k b.rights) z (with_rights a rights n (types_in p n) (portion_of p d) (portion_of p d).tree b e))
+      none_own rights b.rights (subst (λ k. AddsRights rights k b.rights) z (rights_added rights n d b e))
 
   pub none_after : (rights : Rights) (n : ℕ) (ds : List Specification) (k : ℕ) → count_types (types_in p (n + k)) ≡ 0 → rights_after p a rights n ds (suc k) ≡ rights_after p a rights n ds k
   none_after rights n [] zero e = refl

@@ -1,9 +1,9 @@
 -- The functions of packages with equal heads, with their types.
-use Rattle.std.proofs.Common.{◌≡◌, ◌∙◌, ℕ, zero, suc, ◌+◌, ◌<◌, List, Some, sym, ap, arith}
+use Rattle.std.proofs.Common.{◌≡◌, ◌∙◌, ℕ, zero, suc, ◌+◌, ◌<◌, ◌⊎◌, inl, inr, List, Some, sym, ap, arith}
 use Rattle.std.specs.Prelude.{slice_get}
 use Rattle.go_heads.specs.Functions.{AreRead}
 use Rattle.go_package.specs.Answer.{Environment, package_answer}
-use Rattle.go_package.specs.Bodies.{Behind, Surroundings, typed_function}
+use Rattle.go_package.specs.Bodies.{Behind, Surroundings, count_types, typed_function, types_in}
 use Rattle.go_package.specs.Checked.{Typing, surroundings_of}
 use Rattle.go_package.specs.Sources.{Source, Package, package_of}
 use Rattle.go_portions.specs.Portions.{files_of, AreNamed, function_specifications}
@@ -14,7 +14,7 @@ use Rattle.head_answers.specs.Answers.{KeepsAnswer}
 use Rattle.head_needs.proofs.Kept.{units_same}
 use Rattle.head_objects.specs.Objects.{KeepsObjects}
 use Rattle.head_portions.specs.Portions.{IsFaultless, KeepsTypedFunctions}
-use Rattle.head_typings.specs.Typings.{rights_before, KeepsBody, KeepsTypes}
+use Rattle.head_typings.specs.Typings.{rights_before, KeepsBody, HasNoTypes, KeepsTypes}
 use Rattle.head_typings.proofs.Rights.{none_after}
 use Rattle.head_typings.proofs.Steps.{two_answers, Answered, AtStep, at_step}
 
@@ -89,14 +89,24 @@ module _ (ss us : List Source) (names others : List (List ℕ)) (x : AreNamed na
       let new = step_new k s in
       new.next ∙ ap (λ (c : Behind). c.rights) (behind_same k s e) ∙ sym old.next
 
-  rights_in_front : (m : ℕ) → ((k : ℕ) → k < m → Same k) → Left m
+  none_left : (k : ℕ) → HasNoTypes p q k → Left k → Left (suc k)
+  none_left k s e =
+      let number : 0 + k ≡ k = omega arith in
+      none_after q b z.environment.rights 0 (function_specifications q) k (ap (λ i. count_types (types_in q i)) number ∙ s.new)
+      ∙ e ∙ sym (none_after p a t.environment.rights 0 (function_specifications p) k (ap (λ i. count_types (types_in p i)) number ∙ s.old))
+
+  either_left : (k : ℕ) → Same k ⊎ HasNoTypes p q k → Left k → Left (suc k)
+  either_left k (inl s) e = rights_same k s e
+  either_left k (inr s) e = none_left k s e
+
+  rights_in_front : (m : ℕ) → ((k : ℕ) → k < m → Same k ⊎ HasNoTypes p q k) → Left m
   rights_in_front zero f = ap (λ (e : Environment). e.rights) environment_same
-  rights_in_front (suc m) f = rights_same m (f m (omega arith)) (rights_in_front m (λ k lt. f k (omega (arith, lt))))
+  rights_in_front (suc m) f = either_left m (f m (omega arith)) (rights_in_front m (λ k lt. f k (omega (arith, lt))))
 
   pub types_kept : KeepsTypes ss us names others t z
   types_kept = record {
     environment = environment_same;
     function = function_same;
     rights = rights_same;
-    front = λ m f k lt. function_same k (f k lt) (rights_in_front k (λ i less. f i (omega (arith, less, lt))));
+    behind = λ m f s. function_same m s (rights_in_front m f);
   }

@@ -1,8 +1,8 @@
 -- The functions of two packages with equal heads, with their types.
-use Rattle.std.specs.Prelude.{◌≡◌, ℕ, zero, suc, ◌<◌, List, [], ◌∷◌, Result, Ok, Err, slice_get}
+use Rattle.std.specs.Prelude.{◌≡◌, ℕ, zero, suc, ◌<◌, ◌⊎◌, List, [], ◌∷◌, ◌++◌, length, Result, Ok, Err, slice_get}
 use Rattle.go_rules.specs.declared.fault.TypeFault.{TypeFault}
 use Rattle.go_types.specs.Relations.{Rights}
-use Rattle.go_package.specs.Bodies.{Behind, Surroundings, typed_function}
+use Rattle.go_package.specs.Bodies.{Behind, Surroundings, count_types, typed_function, types_in}
 use Rattle.go_package.specs.Checked.{Typing, surroundings_of}
 use Rattle.go_package.specs.Declarations.{Specification}
 use Rattle.go_package.specs.Sources.{Source, Package, package_of}
@@ -29,12 +29,25 @@ pub record KeepsBody (p q : Package) (names others : List (List ℕ)) (k : ℕ) 
   pub new : Specification
   pub same : SameBody p q names others k old new
 
--- What is kept in two packages that are free of faults.
+-- They declare no types in their bodies.
+pub record HasNoTypes (p q : Package) (k : ℕ) : Type 0 where
+  pub old : count_types (types_in p k) ≡ 0
+  pub new : count_types (types_in q k) ≡ 0
+
+-- So many right sides are added behind those in front.
+pub record AddsRights (front : Rights) (count : ℕ) (all : Rights) : Type 0 where
+  pub own : Rights
+  pub counted : length own ≡ count
+  pub is : all ≡ front ++ own
+
+-- What is kept in two packages that are free of faults: what the objects of the package stand for; behind the same right sides a function
+-- whose body has the same texts, with its types, and the right sides that it leaves; and so the function behind others that are kept or
+-- declare no types.
 pub record KeepsTypes (ss us : List Source) (names others : List (List ℕ)) (t z : Typing) : Type 0 where
   pub environment : z.environment ≡ t.environment
   pub function : (k : ℕ) → KeepsBody (package_of ss t.uses) (package_of us z.uses) names others k → rights_before us z k ≡ rights_before ss t k
       → slice_get z.bodies.functions k ≡ slice_get t.bodies.functions k
   pub rights : (k : ℕ) → KeepsBody (package_of ss t.uses) (package_of us z.uses) names others k → rights_before us z k ≡ rights_before ss t k
       → rights_before us z (suc k) ≡ rights_before ss t (suc k)
-  pub front : (m : ℕ) → ((k : ℕ) → k < m → KeepsBody (package_of ss t.uses) (package_of us z.uses) names others k) → (k : ℕ) → k < m
-      → slice_get z.bodies.functions k ≡ slice_get t.bodies.functions k
+  pub behind : (m : ℕ) → ((k : ℕ) → k < m → KeepsBody (package_of ss t.uses) (package_of us z.uses) names others k ⊎ HasNoTypes (package_of ss t.uses) (package_of us z.uses) k)
+      → KeepsBody (package_of ss t.uses) (package_of us z.uses) names others m → slice_get z.bodies.functions m ≡ slice_get t.bodies.functions m
