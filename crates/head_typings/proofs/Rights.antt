@@ -1,5 +1,5 @@
 -- What reading leaves of the right sides of declared types: those in front of the function's own ones stay.
-use Rattle.std.proofs.Common.{◌≡◌, ◌∙◌, ℕ, zero, suc, ◌+◌, ◌<◌, ◌≤◌, Bool, true, false, List, [], ◌∷◌, ◌++◌, length, Option, Some, None, refl, sym, ap, subst, arith}
+use Rattle.std.proofs.Common.{◌≡◌, ◌∙◌, ℕ, zero, suc, ◌+◌, ◌≤◌, Bool, true, false, List, [], ◌∷◌, ◌++◌, length, Option, Some, None, refl, sym, ap, subst, arith}
 use Rattle.std.specs.Prelude.{if◌then◌else◌, replicate, option_map, Result, Ok, Err}
 use Rattle.go_grammar.specs.declared.kind.Kind.{Kind}
 use Rattle.go_grammar.specs.declared.kind.Kind.TheVariants as kind
@@ -17,11 +17,11 @@ use Rattle.go_rules.specs.Sorts.{Stands}
 use Rattle.go_rules.specs.Tables.{Parts}
 use Rattle.go_rules.specs.TypeNodes.{part_type, entry_types}
 use Rattle.go_stmts.specs.Bodies.{start, signature_of, function_read}
-use Rattle.go_stmts.specs.Frames.{Frame, placed, with_local, with_own_right, with_right}
-use Rattle.go_stmts.specs.Laying.{told, layout, form_by, local_named, type_number}
+use Rattle.go_stmts.specs.Frames.{Frame, placed, with_local, with_own_right}
+use Rattle.go_stmts.specs.Laying.{told, layout, form_by, local_named}
 use Rattle.go_stmts.specs.Rules.{own_faults, built_by}
-use Rattle.go_stmts.specs.Reading.{Found, Reading, read, Readings, all_read, reading, readings, after, completed, closed, holding, held_faults, is_statement, is_new, left_out, left_out_faults}
-use Rattle.go_stmts.specs.Reading.{back, beginning, entering, leaving, with_type, with_parameter, with_parameters, in_function, in_switch, in_constants, source_kept, signature_results, tag_behind}
+use Rattle.go_stmts.specs.Reading.{Found, Reading, read, Readings, all_read, reading, readings, after, closed, holding, held_faults, is_statement, is_new, left_out, left_out_faults}
+use Rattle.go_stmts.specs.Reading.{back, beginning, entering, leaving, with_type, with_parameter, with_parameters, in_function, in_switch, in_constants, signature_results}
 use Rattle.go_stmts.specs.Reading.{first_parts, entry_names, declares_sort, declares_name, declares_all, part_source, right_side}
 use Rattle.go_package.specs.Bodies.{Behind, Portion, Surroundings, scope_of, count_types, local_type, behind_read, function_over, function_with, portion_of, types_in, typed_function}
 use Rattle.go_package.specs.Declarations.{Specification}
