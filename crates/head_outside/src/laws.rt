@@ -15,7 +15,8 @@ use head_meanings::laws::{names_keep_their_meanings, names_keep_their_objects};
 /// In packages with equal heads, whose names are free of faults, tokens outside of bodies at one place of the heads have the same object,
 /// whether they are looked up or declare it; a parameter is the local of the same number of its function.
 pub fn outside_tokens_stay()
-    ensures { (old new : List File) → AreRead old → AreRead new → AreNamed old → AreNamed new → reported (units_of old) ≡ None → reported (units_of new) ≡ None → heads old ≡ heads new
+    ensures { (old new : List File) → AreRead old → AreRead new → AreNamed old → AreNamed new
+        → reported (units_of old) ≡ None → reported (units_of new) ≡ None → heads old ≡ heads new
         → KeepsOutside old new }
 {
     files_are_orderly();

@@ -21,7 +21,9 @@ rights_after p a rights n (d ∷ ds) (suc k) = rights_after p a (rights_behind r
 
 -- The right sides in front of a function: those of the declared types of the package, and of the bodies in front.
 abbrev pub rights_before : List Source → Typing → ℕ → Rights
-rights_before ss t k = rights_after (package_of ss t.uses) (surroundings_of t.uses t.environment) t.environment.rights 0 (function_specifications (package_of ss t.uses)) k
+rights_before ss t k =
+    let p = package_of ss t.uses in
+    rights_after p (surroundings_of t.uses t.environment) t.environment.rights 0 (function_specifications p) k
 
 -- The functions of one number have bodies with the same texts.
 pub record KeepsBody (p q : Package) (names others : List (List ℕ)) (k : ℕ) : Type 0 where
@@ -49,5 +51,6 @@ pub record KeepsTypes (ss us : List Source) (names others : List (List ℕ)) (t 
       → slice_get z.bodies.functions k ≡ slice_get t.bodies.functions k
   pub rights : (k : ℕ) → KeepsBody (package_of ss t.uses) (package_of us z.uses) names others k → rights_before us z k ≡ rights_before ss t k
       → rights_before us z (suc k) ≡ rights_before ss t (suc k)
-  pub behind : (m : ℕ) → ((k : ℕ) → k < m → KeepsBody (package_of ss t.uses) (package_of us z.uses) names others k ⊎ HasNoTypes (package_of ss t.uses) (package_of us z.uses) k)
+  pub behind : (m : ℕ)
+      → ((k : ℕ) → k < m → KeepsBody (package_of ss t.uses) (package_of us z.uses) names others k ⊎ HasNoTypes (package_of ss t.uses) (package_of us z.uses) k)
       → KeepsBody (package_of ss t.uses) (package_of us z.uses) names others m → slice_get z.bodies.functions m ≡ slice_get t.bodies.functions m

@@ -23,8 +23,10 @@ pub fn functions_add_right_sides()
 /// In packages with equal heads, both free of faults, the objects of the package stand for the same; a function whose body has the same
 /// texts has the same types behind the same right sides, and so behind functions that have the same texts too or declare no types.
 pub fn functions_keep_their_types()
-    ensures { (ss us : List Source) (names others : List (List ℕ)) → AreNamed names ss → AreNamed others us → AreRead (files_of names ss) → AreRead (files_of others us)
-        → heads (files_of names ss) ≡ heads (files_of others us) → (t z : Typing) → sources_answer ss ≡ Ok t → sources_answer us ≡ Ok z → KeepsTypes ss us names others t z }
+    ensures { (ss us : List Source) (names others : List (List ℕ)) → AreNamed names ss → AreNamed others us
+        → AreRead (files_of names ss) → AreRead (files_of others us)
+        → heads (files_of names ss) ≡ heads (files_of others us) → (t z : Typing)
+        → sources_answer ss ≡ Ok t → sources_answer us ≡ Ok z → KeepsTypes ss us names others t z }
 {
     answers_stay();
     objects_keep_their_numbers();
