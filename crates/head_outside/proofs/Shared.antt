@@ -9,11 +9,12 @@ use Rattle.go_tree.specs.declared.event.Declaration.{Declaration}
 use Rattle.go_tree.specs.declared.event.Event.{Event}
 use Rattle.go_tree.specs.declared.event.Event.TheVariants as event
 use Rattle.go_tree.specs.declared.object.Declared.{Declared}
+use Rattle.go_tree.specs.declared.object.Object.{Object}
 use Rattle.go_tree.specs.declared.object.Object.TheVariants as object
 use Rattle.go_tree.specs.Contexts.{is_package}
 use Rattle.go_tree.specs.Declarations.{Found, found, found_in, found_from, is_reused, may_be_reused, is_new, new_among, declarations}
 use Rattle.go_tree.specs.Units.{word, is_blank, bytes_at}
-use Rattle.go_tree.specs.Uses.{declared_by, declared_in_package, uses, object_of}
+use Rattle.go_tree.specs.Uses.{UsesView, declared_by, declared_in_package, uses, object_of}
 use Rattle.go_lookup.specs.Tables.{AreCounted}
 use Rattle.go_lookup.proofs.Owned.{uses_own}
 use Rattle.go_names.specs.Scopes.{AreOrderly}
@@ -112,6 +113,10 @@ every_at Q (y ∷ xs) (suc k) x h e = every_at Q xs k x h.1 e
 pub objects_outside : (fs : List File) → AreOrdered fs → AreRead fs → Every (λ (x : Declared). StandsOutside fs x.file x.name) (package_objects fs)
 objects_outside fs order h = all_outside fs (declarations (units_of fs)) (every_new (Looked fs) (found (units_of fs)) (found (units_of fs)) (all_looked fs order h))
 
+-- tokens of two packages that both have this object
+one_object : (v w : UsesView) (n k c u e t : ℕ) (o : Option Object) → c ≡ u → k ≡ n → object_of v k c ≡ o → object_of w n e ≡ o → e ≡ t → object_of v n u ≡ object_of w n t
+one_object v w n k c u e t o one file own_v own_w same = ap (object_of v n) (sym one) ∙ sym (ap (λ j. object_of v j c) file) ∙ own_v ∙ sym own_w ∙ ap (object_of w n) same
+
 module _ (old new : List File) (h : AreRead old) (k : AreRead new) (e : heads old ≡ heads new) (order : AreOrdered new) (orderly_old : AreOrderly (units_of old)) (orderly_new : AreOrderly (units_of new))
     (counted_old : AreCounted (units_of old)) (counted_new : AreCounted (units_of new)) where
   -- the object of the same number
@@ -153,7 +158,7 @@ module _ (old new : List File) (h : AreRead old) (k : AreRead new) (e : heads ol
       let own_new : object_of (uses (units_of new)) y.other.file y.other.name ≡ Some (object.Package number.number) =
       uses_own (units_of new) orderly_new counted_new (object.Package number.number) y.other y.there in
       let own_old : object_of (uses us) n d.name ≡ Some (object.Package number.number) = uses_own us orderly_old counted_old (object.Package number.number) (declared_by x) number.there in
-      ap (object_of (uses (units_of new)) n) (sym one) ∙ sym (ap (λ j. object_of (uses (units_of new)) j y.other.name) file) ∙ own_new ∙ sym own_old ∙ ap (object_of (uses us) n) name
+      one_object (uses (units_of new)) (uses us) n y.other.file y.other.name u d.name t (Some (object.Package number.number)) one file own_new own_old name
     where
       read_there : (fs : List File) → AreRead fs → (j : ℕ) (g : File) → slice_get fs j ≡ Some g → IsRead (file_in fs j)
       read_there [] r j g s = absurd cc

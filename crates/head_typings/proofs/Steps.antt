@@ -41,6 +41,11 @@ pub record Answered (ss : List Source) (t : Typing) : Type 0 where
   pub environment : package_answer ss t.uses ≡ Ok t.environment
   pub bodies : functions_from (package_of ss t.uses) (surroundings_of t.uses t.environment) t.environment.rights 0 (those_of entity.Function (specifications 0 ss)) ≡ Ok t.bodies
 
+made : (ss : List Source) (u : UsesView) (x : Environment) (b : Functions) (t : Typing) → reported (map unit_of ss) ≡ None → u ≡ uses (map unit_of ss) → package_answer ss u ≡ Ok x
+    → functions_from (package_of ss u) (surroundings_of u x) x.rights 0 (those_of entity.Function (specifications 0 ss)) ≡ Ok b
+    → (let z : Typing = record { uses = u; environment = x; bodies = b; specifications = specifications 0 ss } in z) ≡ t → Answered ss t
+made ss u x b t clean meant known typed same = subst (Answered ss) same (record { clean = clean; meant = meant; environment = known; bodies = typed })
+
 pub answered : (ss : List Source) (t : Typing) → sources_answer ss ≡ Ok t → Answered ss t
 answered ss t e =
     let named = taken (names_answer (map unit_of ss)) (λ u. package_answer ss u >>= λ x. bodies_answer ss (specifications 0 ss) u x) t e in
@@ -50,8 +55,7 @@ answered ss t e =
     let typed = taken (functions_from (package_of ss u) (surroundings_of u x) x.rights 0 (those_of entity.Function (specifications 0 ss)))
     (λ b. Ok (record { uses = u; environment = x; bodies = b; specifications = specifications 0 ss })) t known.2 in
     let names = answer_there (reported (map unit_of ss)) (uses (map unit_of ss)) u named.1 in
-    let made : Typing = record { uses = u; environment = x; bodies = typed.0; specifications = specifications 0 ss } in
-    subst (Answered ss) (same_answer made t typed.2) (record { clean = names.0; meant = names.1; environment = known.1; bodies = typed.1 })
+    made ss u x typed.0 t names.0 names.1 known.1 typed.1 (same_answer (record { uses = u; environment = x; bodies = typed.0; specifications = specifications 0 ss }) t typed.2)
 
 module _ (p : Package) (a : Surroundings) where
   -- the first function, and those behind it
