@@ -1,0 +1,3 @@
+mod Further
+mod Inside
+pub mod Pairs

@@ -1,0 +1,6 @@
+mod Failing
+mod Assigned
+mod Judged
+mod Scopes
+mod States
+mod Answers
