@@ -9,7 +9,7 @@
 mod blocked;
 mod bounds;
 mod calls;
-mod components;
+pub mod components;
 mod declaring;
 mod groups;
 mod levels;
