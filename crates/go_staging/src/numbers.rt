@@ -1,6 +1,6 @@
 //! Numbers that say from when on objects are known.
 
-ghost use Rattle.std.specs.Prelude.{◌≡◌, ◌≤◌};
+ghost use Rattle.std.specs.Prelude.{◌≡◌, ◌<◌};
 ghost use Rattle.go_package.specs.Knowledge.{is_type};
 ghost use Rattle.go_staging.specs.Numbers as specs;
 ghost use Rattle.go_staging.specs.Numbers.{at_most, is_told_at, next_type, types_told};
