@@ -98,8 +98,7 @@ fn pass_types(
     types.count();
     pass(alloc, types, world, progress, naming, &group.members)?;
     pass(alloc, types, world, progress, naming, &group.members)?;
-    settle(progress, group);
-    Ok(())
+    settle(progress, group)
 }
 
 /// Judges the objects of a group.

@@ -1,5 +1,5 @@
 use Rattle.std.proofs.Common.{◌≡◌, length}
-use Rattle.go_in_order.proofs.Reaches.{Below}
+use Rattle.go_in_order.proofs.ReachedTypes.{Below}
 use Rattle.go_in_order.proofs.reaches.reaches_of.Given as goal
 
 abbrev pub invariant-loop-id : goal.invariant-loop-id
