@@ -84,8 +84,6 @@ number_last (r ∷ rs) x = number_last rs x
 pub one_more : (reach : List ℕ) (t : Table) (rs zs : List ℕ) (i : ℕ) (s : Shape) → IsTable t → HasShape t i s → length rs ≡ i → zs ≡ rs ++ shape_reach reach rs s ∷ [] → Below reach t.shapes rs i → Below reach t.shapes zs (i + 1)
 one_more reach t rs zs i s ok has many e below j h = on (cases_lt j i)
   where
-    x : ℕ
-    x = shape_reach reach rs s
     on : (j < i) ⊎ (i ≤ j) → Within (is_reached reach (number_at zs j)) (type_of t.shapes j)
     on (inl l) =
         let same : number_at zs j ≡ number_at rs j = ap (λ ys. number_at ys j) e ∙ number_front rs (shape_reach reach rs s) j (let k : j < length rs = omega (arith, l, many) in k) in

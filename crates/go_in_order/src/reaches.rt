@@ -60,12 +60,7 @@ pub fn reaches_of(alloc: Global, types: &Types, reach: &[usize]) -> Result<Vec<u
 }
 
 /// Whether the right side of a declared type, if it has one, has no greater number.
-fn is_right_closed(
-    reach: &[usize],
-    reaches: &[usize],
-    place: usize,
-    right: Option<TypeId>,
-) -> bool
+fn is_right_closed(reach: &[usize], reaches: &[usize], place: usize, right: Option<TypeId>) -> bool
     ensures { result ≡ is_right_closed reach.now reaches.now place right }
 {
     match right {
@@ -99,11 +94,7 @@ fn sort_reach(reaches: &[usize], stands: &Sort) -> usize
 }
 
 /// The same of each object.
-pub fn held_reaches(
-    alloc: Global,
-    reaches: &[usize],
-    all: &[Held],
-) -> Result<Vec<usize>, Memory>
+pub fn held_reaches(alloc: Global, reaches: &[usize], all: &[Held]) -> Result<Vec<usize>, Memory>
     ensures { IfOk result (λ v. v.items ≡ map (λ h. specs.sort_reach reaches.now h.stands) all.now) }
 {
     let mut found = Vec::new(alloc);

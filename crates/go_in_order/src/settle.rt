@@ -35,8 +35,7 @@ fn all_pass(all: &[Held], numbers: &[usize], sound: bool) -> bool {
 
 /// Whether the types of a group are known in full: each of them passes, and all is known in full that they name besides.
 fn are_full(all: &[Held], standings: &[Standing], group: &Group, sound: bool) -> bool {
-    all_pass(all, &group.members, sound)
-        && are_known(standings, &group.outside, Needed::InFull)
+    all_pass(all, &group.members, sound) && are_known(standings, &group.outside, Needed::InFull)
 }
 
 /// What the object of this number stands for, if there are so many.

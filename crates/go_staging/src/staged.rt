@@ -58,15 +58,7 @@ pub fn are_staged(
     )? {
         return Ok(false);
     }
-    if !are_bounds_for(
-        alloc,
-        specifications,
-        needs,
-        most,
-        &numbers.own,
-        own,
-        count,
-    )? {
+    if !are_bounds_for(alloc, specifications, needs, most, &numbers.own, own, count)? {
         return Ok(false);
     }
     let in_own = marks_of(alloc, &numbers.stands, reaches, own)?;
