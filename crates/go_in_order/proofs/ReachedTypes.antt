@@ -1,12 +1,11 @@
 -- Declared types that stand in types, by numbers of theirs.
-use Rattle.std.proofs.Common.{◌≡◌, ℕ, zero, suc, ◌+◌, ◌<◌, ◌≤◌, ◌⊎◌, inl, inr, Bool, true, false, List, [], ◌∷◌, ◌++◌, length, map, Option, Some, None, refl, ap, sym, subst, ◌∙◌, arith}
+use Rattle.std.proofs.Common.{◌≡◌, ℕ, zero, suc, ◌+◌, ◌<◌, ◌≤◌, ◌⊎◌, inl, inr, Bool, true, List, [], ◌∷◌, ◌++◌, length, map, Option, Some, None, refl, ap, sym, subst, ◌∙◌, arith}
 use Rattle.std.specs.Prelude.{slice_get, nat_le, max}
 use Rattle.std.specs.List.{AllByRecursion}
 use Rattle.std.proofs.lemmas.Bool.{leb-true, le-leb, and_parts, cases_lt}
 use Rattle.go_types.specs.declared.shape.Field.{Field}
 use Rattle.go_types.specs.declared.shape.Shape.{Shape}
 use Rattle.go_types.specs.declared.shape.Shape.TheVariants as shape
-use Rattle.go_types.specs.Relations.{Rights}
 use Rattle.go_types.specs.Trees.{TypeTree, row}
 use Rattle.go_types.specs.Tables.{Table, HasShape, IsTable, HasPartsBelow, tree_at, tree_of, type_below, type_of}
 use Rattle.go_types.proofs.NumberedTypes.{type_of_shape}
@@ -16,7 +15,7 @@ use Rattle.go_typed.specs.Views.{sort_seen}
 use Rattle.type_tests.specs.Questions.{entry}
 use Rattle.go_rights.specs.Reach.{Within, RowWithin, MaybeWithin, StandsWithin}
 use Rattle.go_rounds.proofs.Needs.{within_more}
-use Rattle.go_package.specs.Knowledge.{State, state_of}
+use Rattle.go_package.specs.Knowledge.{State}
 use Rattle.go_staging.specs.Numbers.{number_at}
 use Rattle.go_staging.specs.Marked.{is_reached, AreReached, AreClosed}
 use Rattle.go_judging.specs.declared.held.Held.{Held}

@@ -98,7 +98,8 @@ fn pass_types(
     types.count();
     pass(alloc, types, world, progress, naming, &group.members)?;
     pass(alloc, types, world, progress, naming, &group.members)?;
-    settle(progress, group)
+    settle(progress, group)?;
+    Ok(())
 }
 
 /// Judges the objects of a group.

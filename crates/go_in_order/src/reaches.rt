@@ -1,5 +1,5 @@
 //! Which declared types stand in types, by numbers of declared types: one number for each type that none of theirs is above.
-ghost use Rattle.std.specs.Prelude.{◌≡◌, IfOk, length, map};
+ghost use Rattle.std.specs.Prelude.{◌≡◌, IfOk, map};
 ghost use Rattle.go_in_order.specs.Reaches as specs;
 ghost use Rattle.go_in_order.specs.Reaches.{AreReaches, are_closed, is_right_closed, most_of, shape_reach};
 

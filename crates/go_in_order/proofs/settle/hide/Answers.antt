@@ -1,4 +1,4 @@
-use Rattle.std.proofs.Common.{◌≡◌, Some, slice_get, ap, sym, subst, ◌∙◌}
+use Rattle.std.proofs.Common.{sym, subst}
 use Rattle.go_judging.specs.World.{KnownStandings}
 use Rattle.go_in_order.proofs.settle.hide.Goals as goal
 
