@@ -133,8 +133,9 @@ idle() {
 }
 
 # So many declarations over the 256 files of a new folder, each of which names another one: constants behind the one that they name or
-# in front of it, slices or structs of the next type, types and variables that name one another, or wrong values: in front of a faulty
-# constant that all of them need, or each in front of one that it needs.
+# in front of it, slices or structs of the next type, types and variables that name one another, array types and constants of declared
+# types that are their lengths, array variables and constants that are theirs, or wrong values: in front of a faulty constant that all of
+# them need, or each in front of one that it needs. There are two declarations or three to a link of the lengths.
 #   chain SORT COUNT FOLDER
 chain() {
     mkdir "$3" && awk -v sort="$1" -v count="$2" -v folder="$3" '
@@ -148,6 +149,15 @@ chain() {
                 if (sort == "before") put(i, "const c" i " = " (i < last ? "c" (i + 1) " + 1" : "1"))
                 if (sort == "slices") put(i, "type t" i " " (i < last ? "[]t" (i + 1) : "int"))
                 if (sort == "structs") put(i, "type t" i " " (i < last ? "struct{ next t" (i + 1) " }" : "int"))
+                if (sort == "typed") {
+                    put(i, "type n" i " int")
+                    put(i + 1, "const c" i " n" i " = " (i ? "n" i "(len(a" (i - 1) "{}))" : "3"))
+                    put(i + 2, "type a" i " [c" i "]n" i)
+                }
+                if (sort == "arrays") {
+                    put(i, "const c" i " = " (i ? "len(x" (i - 1) ")" : "3"))
+                    put(i + 1, "var x" i " [c" i "]int")
+                }
             }
             for (i = 0; i < count && sort == "blocked"; i++) put(i, "var a" i ", b" i " int = \"x\", bad")
             if (sort == "blocked") put(255, "const bad = 1 + \"x\"")
@@ -223,6 +233,8 @@ table_of_chains() {
     chain_rows 'types, slices of the next one' slices 1000 10000 || return 1
     chain_rows 'types, structs of the next one' structs 1000 10000 || return 1
     chain_rows 'types and variables that name one another' mixed 2500 25000 || return 1
+    chain_rows 'array types, each as long as a constant of a declared type' typed 1000 10000 || return 1
+    chain_rows 'array variables, each as long as the one before' arrays 1000 10000 || return 1
 }
 
 # Rows for declarations with many faults.

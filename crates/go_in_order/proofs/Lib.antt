@@ -1,5 +1,5 @@
 pub mod Lists
 pub mod Growing
 pub mod RightSides
-pub mod PlainObjects
+pub mod ReachedTypes
 pub mod Again

@@ -10,9 +10,9 @@ ghost use Rattle.go_judging.specs.World.{package_in, outlines_in, Fits, Shows};
 ghost use Rattle.go_in_order.specs.Progress.{IsFoundIn};
 
 use crate::passes::pass_all;
-use crate::plain::are_plain;
 use crate::progress::{Progress, at_first};
-use crate::sides::are_held;
+use crate::reaches::{are_closed, held_reaches, reaches_of};
+use crate::sides::{are_held, sides_held};
 use go_base::Memory;
 use go_judging::held::all_read_alike;
 use go_judging::round::round;
@@ -64,14 +64,19 @@ fn is_settled(
     ensures { let p = package_in world.now in let os = outlines_in world.now in
         IfOk result (λ b. b ≡ true → (ss : List State) → Shows types.now world.now all.now ss → next_states p os ss 0 os ≡ ss → known p os (rounds p) ≡ ss) }
 {
-    let plain = are_plain(alloc, types, all)?;
+    let reaches = reaches_of(alloc, types, &numbers.reach)?;
+    let rights = sides_held(alloc, world.uses.package_objects(), all)?;
+    if !are_closed(&numbers.reach, &reaches, &rights) {
+        return Ok(false);
+    }
+    let reached = held_reaches(alloc, &reaches, all)?;
     let staged = are_staged(
         alloc,
         world.uses,
         world.specifications,
         world.needs,
         numbers,
-        &plain,
+        &reached,
     )?;
     Ok(staged)
 }

@@ -8,8 +8,9 @@
 
 pub mod in_order;
 mod passes;
-mod plain;
 mod progress;
+mod reaches;
+mod settle;
 mod sides;
 mod standing;
 

@@ -5,14 +5,15 @@ ghost use Rattle.type_tests.specs.Extends.{Extends};
 ghost use Rattle.go_judging.specs.World.{Fits};
 ghost use Rattle.go_in_order.specs.Progress.{IsFoundIn};
 
-use crate::progress::{Progress, put_held, put_standing, refresh};
+use crate::progress::{Progress, put_held, put_standing};
+use crate::settle::settle;
 use crate::sides::give;
 use crate::standing::standing_in;
 use go_base::Memory;
 use go_judging::World;
 use go_judging::held::{is_sound, is_told};
 use go_judging::judge::judge;
-use go_staging::Plan;
+use go_staging::{Group, Plan};
 use go_types::Types;
 use std::alloc::Global;
 
@@ -79,14 +80,14 @@ fn pass(
     Ok(())
 }
 
-/// Judges the types in this order, and once more where all their right sides are found.
+/// Judges types that name one another in this order, and once more where all their right sides are found.
 fn pass_types(
     alloc: Global,
     types: &mut Types,
     world: &World<'_>,
     progress: &mut Progress,
     naming: &[Vec<usize>],
-    order: &[usize],
+    group: &Group,
 ) -> Result<(), Memory>
     requires fits { Fits types.old world.now }
     requires found { IsFoundIn types.old progress.old }
@@ -95,10 +96,32 @@ fn pass_types(
     ensures found { OnOk result (IsFoundIn types.new progress.new) }
 {
     types.count();
-    pass(alloc, types, world, progress, naming, order)?;
-    pass(alloc, types, world, progress, naming, order)?;
-    types.count();
-    refresh(alloc, types, world, progress)
+    pass(alloc, types, world, progress, naming, &group.members)?;
+    pass(alloc, types, world, progress, naming, &group.members)?;
+    settle(progress, group)?;
+    Ok(())
+}
+
+/// Judges the objects of a group.
+fn pass_group(
+    alloc: Global,
+    types: &mut Types,
+    world: &World<'_>,
+    progress: &mut Progress,
+    naming: &[Vec<usize>],
+    group: &Group,
+) -> Result<(), Memory>
+    requires fits { Fits types.old world.now }
+    requires found { IsFoundIn types.old progress.old }
+    ensures table { IsTable types.old }
+    ensures extends { Extends types.old types.new }
+    ensures found { OnOk result (IsFoundIn types.new progress.new) }
+{
+    if group.are_types {
+        pass_types(alloc, types, world, progress, naming, group)
+    } else {
+        pass(alloc, types, world, progress, naming, &group.members)
+    }
 }
 
 /// Judges all objects of a plan in its order.
@@ -117,7 +140,8 @@ pub fn pass_all(
 {
     types.count();
     let naming = plan.naming.as_slice();
-    pass(alloc, types, world, progress, naming, &plan.constants)?;
-    pass_types(alloc, types, world, progress, naming, &plan.types)?;
-    pass(alloc, types, world, progress, naming, &plan.others)
+    for group in &plan.groups {
+        pass_group(alloc, types, world, progress, naming, group)?;
+    }
+    Ok(())
 }

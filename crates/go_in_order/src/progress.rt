@@ -1,5 +1,5 @@
 //! What is found so far of the objects of a package.
-ghost use Rattle.std.specs.Prelude.{◌≡◌, ℕ, IfOk, OnOk, Some, length};
+ghost use Rattle.std.specs.Prelude.{◌≡◌, ℕ, IfOk, Some, length};
 ghost use Rattle.std.specs.Option.{option_map};
 ghost use Rattle.go_stmts.specs.Frames.{placed};
 ghost use Rattle.go_types.specs.Tables.{rights_of};
@@ -47,23 +47,6 @@ pub fn at_first(
         told: standings.told,
         rights,
     })
-}
-
-/// What the objects stand for, with all that they need, by what is held of them.
-pub fn refresh(
-    alloc: Global,
-    types: &Types,
-    world: &World<'_>,
-    progress: &mut Progress,
-) -> Result<(), Memory>
-    requires fits { Fits types.now world.now }
-    requires found { IsFoundIn types.now progress.old }
-    ensures { OnOk result (IsFoundIn types.now progress.new) }
-{
-    let standings = standings_from(alloc, types, world, &progress.all)?;
-    progress.sound = standings.sound;
-    progress.told = standings.told;
-    Ok(())
 }
 
 /// Puts down what is held of an object.

@@ -17,8 +17,8 @@ fn is_known(standings: &[Standing], number: usize, need: Needed) -> bool {
     }
 }
 
-/// Whether all of them do.
-fn are_known(standings: &[Standing], numbers: &[usize], need: Needed) -> bool {
+/// Whether all of these objects do.
+pub fn are_known(standings: &[Standing], numbers: &[usize], need: Needed) -> bool {
     for number in numbers {
         if !is_known(standings, *number, need) {
             return false;

@@ -11,10 +11,12 @@ use Rattle.go_types.specs.Trees.{TypeTree, TypeRow}
 use Rattle.go_types.specs.Trees as types
 use Rattle.go_types.specs.Relations.{Rights}
 use Rattle.type_tests.specs.Questions.{entry}
+use Rattle.go_typed.specs.Trees as sort
 use Rattle.go_rules.specs.Names.{need_of}
 use Rattle.go_rules.specs.Scopes.{Needed, in_full, at_once, loosely, Hint}
+use Rattle.go_rules.specs.Sorts.{Stands}
 use Rattle.go_package.specs.Knowledge.{Outline, State, state_of, is_type, all_pass, needs_of, stands_if, stands_where, rights_among, following}
-use Rattle.go_rights.specs.Reach.{Within, RowWithin, MaybeWithin}
+use Rattle.go_rights.specs.Reach.{Within, RowWithin, MaybeWithin, StandsWithin}
 use Rattle.go_rights.specs.Names.{NameHas, EachName, EachNameIn, is_of_types, is_sequence, told_in, Ways, EachNeed, NeedsIn, ObjectSame}
 use Rattle.go_rounds.specs.Ranks.{AllBefore, NeedBefore, type_object, number_or}
 
@@ -68,6 +70,13 @@ module _ (p q : ℕ → Bool) (f : (n : ℕ) → p n ≡ true → q n ≡ true) 
   pub maybe_more : (o : Option TypeTree) → MaybeWithin p o → MaybeWithin q o
   maybe_more None w = tt
   maybe_more (Some t) w = within_more t w
+
+  pub stands_more : (x : Stands) → StandsWithin p x → StandsWithin q x
+  stands_more (sort.IsType t) w = within_more t w
+  stands_more (sort.Value t) w = within_more t w
+  stands_more (sort.Constant t c) w = within_more t w
+  stands_more (sort.Results t) w = within_more t w
+  stands_more x w = tt
 
 -- ---- objects
 

@@ -1,45 +1,30 @@
--- Stages at which the objects of a package are known: the right sides of all types before a stage, and behind it all that reads these.
-use Rattle.std.specs.Prelude.{◌≡◌, ℕ, ◌<◌, ◌≤◌, ◌⊎◌, Bool, true, false, List, length, Option, Some, None, slice_get}
+-- Stages at which the objects of a package are known: a round more finds the same, and each name is known before what it stands in, with the
+-- types that it stands for.
+use Rattle.std.specs.Prelude.{◌≡◌, ℕ, ◌<◌, ◌≤◌, Bool, true, false, nat_le, List, length, Option, Some, None, slice_get}
 use Rattle.go_grammar.specs.Trees.{Tree}
 use Rattle.go_tree.specs.declared.object.Object.{Object}
 use Rattle.go_tree.specs.declared.object.Object.TheVariants as object
 use Rattle.go_tree.specs.Uses.{object_of}
-use Rattle.go_typed.specs.Trees.{SortHas}
+use Rattle.type_tests.specs.Questions.{entry}
 use Rattle.go_rules.specs.Scopes.{Needed, in_full}
-use Rattle.go_rules.specs.Sorts.{Stands}
 use Rattle.go_package.specs.Declarations.{Specification}
-use Rattle.go_package.specs.Knowledge.{Outline, State, state_of, is_type}
+use Rattle.go_package.specs.Knowledge.{Outline, State, state_of, is_type, rights_of}
 use Rattle.go_package.specs.Sources.{Package}
 use Rattle.go_package.specs.Verdicts.{own_value, next_states}
 use Rattle.go_rights.specs.Names.{Ways, EachName}
-use Rattle.go_rights.specs.Reach.{Within}
-use Rattle.go_rounds.specs.Ranks.{Ranks, NeedBefore, NeedsBefore, type_object}
+use Rattle.go_rights.specs.Reach.{MaybeWithin, StandsWithin}
+use Rattle.go_rounds.specs.Ranks.{Ranks, reached, NeedBefore, NeedsBefore, type_object}
 
--- After so many rounds it is known for good of an object what it stands for, and its right side if it is a type, and all that is found of
--- it; and all right sides of types are known after so many.
-pub record Stages : Type 0 where
-  pub stand : ℕ → ℕ
-  pub told : ℕ → ℕ
-  pub own : ℕ → ℕ
-  pub types : ℕ
-
-abbrev pub ranks_of : Stages → Ranks
-ranks_of s = record { stand = s.stand; told = s.told; own = s.own; reach = λ t. s.types }
-
--- It stands for no declared type.
-abbrev pub IsPlain : Stands → Type 0
-IsPlain x = SortHas (Within (λ t. false)) x
-
--- The types that an object stands for are known before the round k.
-abbrev pub TypesBefore : List State → ℕ → ℕ → Option Object → Type 0
-TypesBefore found types k (Some (object.Package m)) = (types < k) ⊎ IsPlain (state_of found m).stands
-TypesBefore found types k o = Unit {0}
+-- The types that an object stands for are known before the round k with all that they reach.
+abbrev pub TypesBefore : List State → Ranks → ℕ → Option Object → Type 0
+TypesBefore found s k (Some (object.Package m)) = StandsWithin (reached s k) (state_of found m).stands
+TypesBefore found s k o = Unit {0}
 
 -- So is the object, where it is needed so, with all that it needs: f tells when.
-abbrev pub StageBefore : List Outline → List State → Stages → (ℕ → ℕ) → ℕ → Needed → Option Object → Type 0
-StageBefore os found s f k n o = NeedBefore os f s.stand k n o × TypesBefore found s.types k o
+abbrev pub StageBefore : List Outline → List State → Ranks → (ℕ → ℕ) → ℕ → Needed → Option Object → Type 0
+StageBefore os found s f k n o = NeedBefore os f s.stand k n o × TypesBefore found s k o
 
-module _ (p : Package) (os : List Outline) (found : List State) (s : Stages) where
+module _ (p : Package) (os : List Outline) (found : List State) (s : Ranks) where
   -- the names of an expression of the declaration d
   abbrev pub NamesStaged : ℕ → Specification → Option Tree → Type 0
   NamesStaged k d None = Unit {0}
@@ -74,16 +59,18 @@ module _ (p : Package) (os : List Outline) (found : List State) (s : Stages) whe
     pub later : 0 < s.told n
     pub first : s.stand n ≤ s.told n
     pub right : s.told n ≤ s.own n
-    pub of : NeedsBefore p os found (ranks_of s) (told_stages (s.told n) d) d.type_tree
-    pub limits : NeedsBefore p os found (ranks_of s) (own_stages (s.own n) d) d.type_tree
+    pub of : NeedsBefore p os found s (told_stages (s.told n) d) d.type_tree
+    pub limits : NeedsBefore p os found s (own_stages (s.own n) d) d.type_tree
 
   abbrev pub IsStagedAs : ℕ → Outline → Bool → Type 0
   IsStagedAs n o true = IsStagedType n o.specification
   IsStagedAs n o false = IsStaged n o.specification o.column
 
--- A further round finds the same, each object's names are known before it, and the right sides of all types after `types`.
-pub record AreStaged (p : Package) (os : List Outline) (found : List State) (s : Stages) : Type 0 where
+-- A further round finds the same, each object's names are known before it, and a type is known with all that it reaches where its right
+-- side is, and those of the types in it.
+pub record AreStaged (p : Package) (os : List Outline) (found : List State) (s : Ranks) : Type 0 where
   pub declared : length p.uses.package_level ≡ length os
   pub same : next_states p os found 0 os ≡ found
   pub each : (n : ℕ) (o : Outline) → slice_get os n ≡ Some o → IsStagedAs p os found s n o (is_type o.specification.entity)
-  pub reaches : (t n : ℕ) → type_object p.uses.package_level t ≡ Some n → s.told n ≤ s.types
+  pub reaches : (t n : ℕ) → type_object p.uses.package_level t ≡ Some n → s.told n ≤ s.reach t
+  pub closed : (t : ℕ) → MaybeWithin (λ u. nat_le (s.reach u) (s.reach t)) (entry (rights_of p found) t)

@@ -11,7 +11,7 @@ ghost use Rattle.go_package.specs.Sources.{Source, Package, package_of, rounds, 
 ghost use Rattle.go_package.specs.Verdicts.{known};
 ghost use Rattle.go_rights.specs.Reach.{Standing};
 ghost use Rattle.go_rounds.specs.Judged.{ValueAgrees, IsJudgedSo};
-ghost use Rattle.go_rounds.specs.Stages.{Stages, ranks_of, AreStaged};
+ghost use Rattle.go_rounds.specs.Stages.{AreStaged};
 ghost use Rattle.go_rounds.specs.Ranks.{Ranks, AreFound, AreAtMost, AllBefore, Falls, IsBound};
 
 /// A constant, a variable or a function is judged the same in two scopes whose right sides agree that its names reach, and in which these
@@ -29,10 +29,10 @@ pub fn rounds_settle()
     ensures further { (p : Package) (os : List Outline) (found : List State) (ranks : Ranks) (k : ℕ) → AreFound p os found ranks → AreAtMost ranks k → known p os (suc k) ≡ known p os k }
 {}
 
-/// Where a further round finds the same states, and the names of each object are known before it by stages, in which the right sides of all
-/// types are known before what reads them, these states are what is known after as many rounds as the greatest of the stages.
+/// Where a further round finds the same states, and the names of each object are known before it by stages, with all right sides that the
+/// types reach that they stand for, these states are what is known after as many rounds as the greatest of the stages.
 pub fn stages_settle()
-    ensures { (p : Package) (os : List Outline) (found : List State) (s : Stages) (k : ℕ) → AreStaged p os found s → AreAtMost (ranks_of s) k → known p os k ≡ found }
+    ensures { (p : Package) (os : List Outline) (found : List State) (s : Ranks) (k : ℕ) → AreStaged p os found s → AreAtMost s k → known p os k ≡ found }
 {}
 
 /// All that a declaration needs, at once or through others, has a rank below k, where one number for each declaration and way of needing

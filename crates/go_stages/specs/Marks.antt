@@ -1,5 +1,5 @@
 -- From when on objects are known.
-use Rattle.std.specs.Prelude.{ℕ, Bool, true, false, ◌&&◌, ◌||◌, nat_lt, List, slice_get, Option, Some, None}
+use Rattle.std.specs.Prelude.{ℕ, Bool, true, false, nat_lt, List, slice_get, Option, Some, None}
 use Rattle.go_tree.specs.declared.object.Object.{Object}
 use Rattle.go_tree.specs.declared.object.Object.TheVariants as object
 use Rattle.go_rules.specs.Scopes.{Needed, in_full, at_once, loosely}
@@ -16,14 +16,11 @@ abbrev pub type_need : Bool → Needed
 type_need true = loosely
 type_need false = at_once
 
-abbrev pub is_known : ℕ → ℕ → ℕ → Bool → Bool
-is_known types k from plain = nat_lt from k && (nat_lt types k || plain)
-
-abbrev pub mark_before : ℕ → ℕ → Needed → Option Mark → Bool
-mark_before types k n None = false
-mark_before types k n (Some m) = is_known types k (known_from n m) m.is_plain
+abbrev pub mark_before : ℕ → Needed → Option Mark → Bool
+mark_before k n None = false
+mark_before k n (Some m) = nat_lt (known_from n m) k
 
 -- whether what a name means is known before the stage k, where it is needed so
-abbrev pub is_before : List Mark → ℕ → ℕ → Needed → Option Object → Bool
-is_before ms types k n (Some (object.Package i)) = mark_before types k n (slice_get ms i)
-is_before ms types k n o = true
+abbrev pub is_before : List Mark → ℕ → Needed → Option Object → Bool
+is_before ms k n (Some (object.Package i)) = mark_before k n (slice_get ms i)
+is_before ms k n o = true

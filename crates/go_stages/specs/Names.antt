@@ -6,14 +6,14 @@ use Rattle.go_rights.specs.Names.{Ways}
 use Rattle.go_stages.specs.declared.marks.Mark.{Mark}
 use Rattle.go_stages.specs.Marks.{is_before}
 
--- The name at a token of a file is known in full before the stage k, by these marks and the stage after which all types are known.
-abbrev pub IsFullBefore : UsesView → ℕ → List Mark → ℕ → ℕ → ℕ → Type 0
-IsFullBefore u file ms types k i = is_before ms types k in_full (object_of u file i) ≡ true
+-- The name at a token of a file is known in full before the stage k, by these marks.
+abbrev pub IsFullBefore : UsesView → ℕ → List Mark → ℕ → ℕ → Type 0
+IsFullBefore u file ms k i = is_before ms k in_full (object_of u file i) ≡ true
 
 -- names in full in lengths, none where no type stands, and the others as the type needs them
-abbrev pub ways_before : UsesView → ℕ → List Mark → ℕ → UsesView → List Mark → ℕ → ℕ → Ways
-ways_before u file ms types v cs counted k = record {
-  named = λ n i. is_before ms types k n (object_of u file i) ≡ true;
-  counted = λ i. IsFullBefore v file cs counted k i;
+abbrev pub ways_before : UsesView → ℕ → List Mark → UsesView → List Mark → ℕ → Ways
+ways_before u file ms v cs k = record {
+  named = λ n i. is_before ms k n (object_of u file i) ≡ true;
+  counted = λ i. IsFullBefore v file cs k i;
   anywhere = λ i. ⊥;
 }

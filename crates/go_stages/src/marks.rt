@@ -3,57 +3,48 @@
 ghost use Rattle.std.specs.Prelude.{◌≡◌, slice_get};
 ghost use Rattle.go_rules.specs.Scopes.{in_full};
 ghost use Rattle.go_tree.specs.Uses.{object_of};
-ghost use Rattle.go_stages.specs.Marks.{is_before, mark_before, known_from, is_known, type_need};
+ghost use Rattle.go_stages.specs.Marks.{is_before, mark_before, known_from, type_need};
 
 use go_tree::object::Object;
 use go_tree::uses::Uses;
 
 /// From after which stage on an object is known, by the way in which it is needed: loosely, at once with what it needs so, and in full
-/// with all that it needs; and whether it stands for no declared type.
+/// with all that it needs.
 #[derive(Clone, Copy, Debug)]
 pub struct Mark {
     pub loosely: usize,
     pub at_once: usize,
     pub in_full: usize,
-    pub is_plain: bool,
 }
 
-/// What names mean, the marks of objects by their numbers, and the stage after which all declared types are known.
+/// What names mean, and the marks of objects by their numbers.
 #[derive(Clone, Copy)]
 pub struct Marks<'a> {
     pub uses: &'a Uses,
     pub marks: &'a [Mark],
-    pub types: usize,
-}
-
-/// Whether what is known after the stage `from` is known before another one, and the types that it stands for are too.
-fn is_known(types: usize, stage: usize, from: usize, is_plain: bool) -> bool
-    ensures { result ≡ is_known types stage from is_plain }
-{
-    from < stage && (types < stage || is_plain)
 }
 
 /// Whether an object of the package is known before a stage, in full.
 fn full_before(marks: &Marks<'_>, stage: usize, number: usize) -> bool
-    ensures { result ≡ mark_before marks.now.types stage in_full (slice_get marks.now.marks.now number) }
+    ensures { result ≡ mark_before stage in_full (slice_get marks.now.marks.now number) }
 {
     match marks.marks.get(number).copied() {
         None => false,
-        Some(mark) => is_known(marks.types, stage, mark.in_full, mark.is_plain),
+        Some(mark) => mark.in_full < stage,
     }
 }
 
 /// Whether an object of the package is known before a stage, at once or loosely.
 fn type_before(marks: &Marks<'_>, stage: usize, loose: bool, number: usize) -> bool
-    ensures { result ≡ mark_before marks.now.types stage (type_need loose) (slice_get marks.now.marks.now number) }
+    ensures { result ≡ mark_before stage (type_need loose) (slice_get marks.now.marks.now number) }
 {
     match marks.marks.get(number).copied() {
         None => false,
         Some(mark) => {
             if loose {
-                is_known(marks.types, stage, mark.loosely, mark.is_plain)
+                mark.loosely < stage
             } else {
-                is_known(marks.types, stage, mark.at_once, mark.is_plain)
+                mark.at_once < stage
             }
         }
     }
@@ -61,7 +52,7 @@ fn type_before(marks: &Marks<'_>, stage: usize, loose: bool, number: usize) -> b
 
 /// Whether what a name means is known before a stage, in full.
 pub fn is_full_before(marks: &Marks<'_>, file: usize, stage: usize, token: usize) -> bool
-    ensures { result ≡ is_before marks.now.marks.now marks.now.types stage in_full (object_of marks.now.uses.now file token) }
+    ensures { result ≡ is_before marks.now.marks.now stage in_full (object_of marks.now.uses.now file token) }
 {
     match marks.uses.object(file, token) {
         Some(Object::Package(number)) => full_before(marks, stage, number as usize),
@@ -77,7 +68,7 @@ pub fn is_type_before(
     loose: bool,
     token: usize,
 ) -> bool
-    ensures { result ≡ is_before marks.now.marks.now marks.now.types stage (type_need loose) (object_of marks.now.uses.now file token) }
+    ensures { result ≡ is_before marks.now.marks.now stage (type_need loose) (object_of marks.now.uses.now file token) }
 {
     match marks.uses.object(file, token) {
         Some(Object::Package(number)) => type_before(marks, stage, loose, number as usize),

@@ -12,7 +12,7 @@ use go_tree::node::Node;
 
 /// Whether a node is no name, or what it means is known before a stage.
 fn is_name_before(marks: &Marks<'_>, file: usize, stage: usize, node: &Node) -> bool
-    ensures { IsTrue result → NameHas (IsFullBefore marks.now.uses.now file marks.now.marks.now marks.now.types stage) (kind_of (view node.now)) (first (view node.now)) }
+    ensures { IsTrue result → NameHas (IsFullBefore marks.now.uses.now file marks.now.marks.now stage) (kind_of (view node.now)) (first (view node.now)) }
 {
     match node.kind() {
         Kind::Name => is_full_before(marks, file, stage, node.first() as usize),
@@ -23,14 +23,14 @@ fn is_name_before(marks: &Marks<'_>, file: usize, stage: usize, node: &Node) -> 
 /// Whether what each name of an expression means is known in full before a stage.
 #[cycle(each)]
 pub fn are_before(marks: &Marks<'_>, file: usize, stage: usize, node: &Node) -> bool
-    ensures { IsTrue result → EachName (IsFullBefore marks.now.uses.now file marks.now.marks.now marks.now.types stage) (view node.now) }
+    ensures { IsTrue result → EachName (IsFullBefore marks.now.uses.now file marks.now.marks.now stage) (view node.now) }
 {
     is_name_before(marks, file, stage, node) && are_parts_before(marks, file, stage, node.parts())
 }
 
 #[cycle(each)]
 fn are_parts_before(marks: &Marks<'_>, file: usize, stage: usize, parts: &[Option<Node>]) -> bool
-    ensures { IsTrue result → EachNameIn (IsFullBefore marks.now.uses.now file marks.now.marks.now marks.now.types stage) (views parts.now) }
+    ensures { IsTrue result → EachNameIn (IsFullBefore marks.now.uses.now file marks.now.marks.now stage) (views parts.now) }
 {
     for part in parts {
         let Some(node) = part else { continue };

@@ -68,7 +68,7 @@ fn told_loose(kind: Kind, loose: bool, parts: &[Option<Node>], is_first: bool, p
 
 /// Whether a node is no name, or what it means is known before the stage.
 fn is_name_before(marks: &TypeMarks<'_>, loose: bool, node: &Node) -> bool
-    ensures { IsTrue result → let m = marks.now in let w = ways_before m.named.uses.now m.file m.named.marks.now m.named.types m.counted.uses.now m.counted.marks.now m.counted.types m.stage in
+    ensures { IsTrue result → let m = marks.now in let w = ways_before m.named.uses.now m.file m.named.marks.now m.counted.uses.now m.counted.marks.now m.stage in
         NameHas (w.named (type_need loose)) (kind_of (view node.now)) (first (view node.now)) }
 {
     match node.kind() {
@@ -106,7 +106,7 @@ fn are_nameless(parts: &[Option<Node>]) -> bool
 
 /// Whether the names in the length of an array are known before the stage.
 fn is_length_before(marks: &TypeMarks<'_>, node: &Node) -> bool
-    ensures { IsTrue result → let m = marks.now in let w = ways_before m.named.uses.now m.file m.named.marks.now m.named.types m.counted.uses.now m.counted.marks.now m.counted.types m.stage in EachName w.counted (view node.now) }
+    ensures { IsTrue result → let m = marks.now in let w = ways_before m.named.uses.now m.file m.named.marks.now m.counted.uses.now m.counted.marks.now m.stage in EachName w.counted (view node.now) }
 {
     are_before(&marks.counted, marks.file, marks.stage, node)
 }
@@ -114,7 +114,7 @@ fn is_length_before(marks: &TypeMarks<'_>, node: &Node) -> bool
 /// Whether the names of a type are known before the stage; `loose` says whether it stands in an element of a slice or in a function type.
 #[cycle(way)]
 fn is_type_node_before(marks: &TypeMarks<'_>, loose: bool, node: &Node) -> bool
-    ensures { IsTrue result → let m = marks.now in EachWay (ways_before m.named.uses.now m.file m.named.marks.now m.named.types m.counted.uses.now m.counted.marks.now m.counted.types m.stage) loose (view node.now) }
+    ensures { IsTrue result → let m = marks.now in EachWay (ways_before m.named.uses.now m.file m.named.marks.now m.counted.uses.now m.counted.marks.now m.stage) loose (view node.now) }
 {
     is_name_before(marks, loose, node) && are_parts_before(marks, node.kind(), loose, node.parts())
 }
@@ -123,7 +123,7 @@ fn is_type_node_before(marks: &TypeMarks<'_>, loose: bool, node: &Node) -> bool
 #[cycle(way)]
 fn are_parts_before(marks: &TypeMarks<'_>, kind: Kind, loose: bool, parts: &[Option<Node>]) -> bool
     ensures { IsTrue result → let m = marks.now in
-        WaysIn (ways_before m.named.uses.now m.file m.named.marks.now m.named.types m.counted.uses.now m.counted.marks.now m.counted.types m.stage) kind loose (views parts.now) true (views parts.now) (is_of_types kind) (is_sequence kind) }
+        WaysIn (ways_before m.named.uses.now m.file m.named.marks.now m.counted.uses.now m.counted.marks.now m.stage) kind loose (views parts.now) true (views parts.now) (is_of_types kind) (is_sequence kind) }
 {
     if !is_of_types(kind) {
         return are_nameless(parts);
@@ -147,7 +147,7 @@ fn is_first_before(
     first: &Option<Node>,
 ) -> bool
     ensures { IsTrue result → let m = marks.now in
-        FirstWay (ways_before m.named.uses.now m.file m.named.marks.now m.named.types m.counted.uses.now m.counted.marks.now m.counted.types m.stage) kind loose (views parts.now) (is_sequence kind) (option_map view first.now) }
+        FirstWay (ways_before m.named.uses.now m.file m.named.marks.now m.counted.uses.now m.counted.marks.now m.stage) kind loose (views parts.now) (is_sequence kind) (option_map view first.now) }
 {
     match first {
         None => true,
@@ -172,7 +172,7 @@ fn are_others_before(
     rest: &[Option<Node>],
 ) -> bool
     ensures { IsTrue result → let m = marks.now in
-        WaysIn (ways_before m.named.uses.now m.file m.named.marks.now m.named.types m.counted.uses.now m.counted.marks.now m.counted.types m.stage) kind loose (views parts.now) false (views rest.now) true false }
+        WaysIn (ways_before m.named.uses.now m.file m.named.marks.now m.counted.uses.now m.counted.marks.now m.stage) kind loose (views parts.now) false (views rest.now) true false }
 {
     for part in rest {
         let Some(node) = part else { continue };
@@ -186,7 +186,7 @@ fn are_others_before(
 
 /// Whether what each name of the right side of a type means is known before the stage, as it is needed there.
 pub fn are_before_type(marks: &TypeMarks<'_>, node: &Node) -> bool
-    ensures { IsTrue result → let m = marks.now in EachNeed (ways_before m.named.uses.now m.file m.named.marks.now m.named.types m.counted.uses.now m.counted.marks.now m.counted.types m.stage) type_place (view node.now) }
+    ensures { IsTrue result → let m = marks.now in EachNeed (ways_before m.named.uses.now m.file m.named.marks.now m.counted.uses.now m.counted.marks.now m.stage) type_place (view node.now) }
 {
     is_type_node_before(marks, false, node)
 }

@@ -9,7 +9,7 @@ use Rattle.go_package.specs.Knowledge.{is_type, following}
 use Rattle.go_rounds.specs.Ranks.{AllBefore, number_or, type_object}
 use Rattle.go_stages.specs.declared.marks.Mark.{Mark}
 use Rattle.go_staging.specs.declared.numbers.Numbers.{Numbers}
-use Rattle.go_staging.specs.Numbers.{number_at, at_most, told_if, is_told_at, types_told}
+use Rattle.go_staging.specs.Numbers.{number_at, at_most, told_if, is_told_at, next_type, types_told}
 use Rattle.go_staging.specs.Marked.{mark_at, marks_from}
 
 -- ---- numbers of a list
@@ -38,62 +38,65 @@ behind : (o : Option ℕ) (n : ℕ) → following o ≡ Some n → Behind o n
 behind None n e = absurd cc
 behind (Some m) n e = record { it = m; there = refl; next = cc }
 
-told_here : (b : Bool) (m k : ℕ) → b ≡ true → told_if b m k ≡ true → m ≤ k
-told_here true m k t e = leb-true m k e
-told_here false m k t e = absurd cc
-
 module _ (x : Numbers) where
   abbrev told : ℕ → ℕ
   told n = number_at x.told.items n
 
-  type_by : (i : ℕ) (d : Declared) (f : ℕ → Option ℕ) (n : ℕ) → is_told_at x i d ≡ true → ((u : ℕ) → following (f u) ≡ Some n → told (n + i) ≤ x.types)
-      → (b : Bool) → is_type d.entity ≡ b → (u : ℕ) → number_or b u f ≡ Some n → told (n + i) ≤ x.types
-  type_by i d f n a later true t zero e =
+  abbrev reach : ℕ → ℕ
+  reach t = number_at x.reach.items t
+
+  type_by : (i j : ℕ) (b : Bool) (f : ℕ → Option ℕ) (n : ℕ) → told_if b (told i) (reach j) ≡ true → ((u : ℕ) → following (f u) ≡ Some n → told (n + i) ≤ reach (u + next_type b j))
+      → (t : ℕ) → number_or b t f ≡ Some n → told (n + i) ≤ reach (t + j)
+  type_by i j true f n a later zero e =
       let first : 0 ≡ n = cc in
       let same : i ≡ n + i = omega (arith, first) in
-      subst (λ m. told m ≤ x.types) same (told_here (is_type d.entity) (told i) x.types t a)
-  type_by i d f n a later true t (suc u) e = later u e
-  type_by i d f n a later false t u e = later u e
+      let at : j ≡ 0 + j = omega arith in
+      subst (λ m. told m ≤ reach (0 + j)) same (subst (λ u. told i ≤ reach u) at (leb-true (told i) (reach j) a))
+  type_by i j true f n a later (suc u) e = let at : u + suc j ≡ suc u + j = omega arith in subst (λ v. told (n + i) ≤ reach v) at (later u e)
+  type_by i j false f n a later t e = later t e
 
-  type_behind : (i n : ℕ) (o : Option ℕ) → ((m : ℕ) → o ≡ Some m → told (m + suc i) ≤ x.types) → following o ≡ Some n → told (n + i) ≤ x.types
-  type_behind i n o f e =
+  type_behind : (i k n : ℕ) (o : Option ℕ) → ((m : ℕ) → o ≡ Some m → told (m + suc i) ≤ k) → following o ≡ Some n → told (n + i) ≤ k
+  type_behind i k n o f e =
       let h = behind o n e in
       let next = h.next in
       let same : h.it + suc i ≡ n + i = omega (arith, next) in
-      subst (λ m. told m ≤ x.types) same (f h.it h.there)
+      subst (λ m. told m ≤ k) same (f h.it h.there)
 
-  type_at : (i : ℕ) (ds : List Declared) (t n : ℕ) → types_told x i ds ≡ true → type_object ds t ≡ Some n → told (n + i) ≤ x.types
-  type_at i [] t n a e = absurd cc
-  type_at i (d ∷ ds) t n a e =
-      let both = and_parts (is_told_at x i d) (types_told x (suc i) ds) a in
-      type_by i d (λ u. type_object ds u) n both.0 (λ u f. type_behind i n (type_object ds u) (λ m g. type_at (suc i) ds u m both.1 g) f) (is_type d.entity) refl t e
+  type_at : (i j : ℕ) (ds : List Declared) (t n : ℕ) → types_told x i j ds ≡ true → type_object ds t ≡ Some n → told (n + i) ≤ reach (t + j)
+  type_at i j [] t n a e = absurd cc
+  type_at i j (d ∷ ds) t n a e =
+      let b = is_type d.entity in
+      let both = and_parts (is_told_at x i j d) (types_told x (suc i) (next_type b j) ds) a in
+      type_by i j b (λ u. type_object ds u) n both.0
+      (λ u f. type_behind i (reach (u + next_type b j)) n (type_object ds u) (λ m g. type_at (suc i) (next_type b j) ds u m both.1 g) f) t e
 
-  pub type_told : (ds : List Declared) → types_told x 0 ds ≡ true → (t n : ℕ) → type_object ds t ≡ Some n → told n ≤ x.types
+  pub type_told : (ds : List Declared) → types_told x 0 0 ds ≡ true → (t n : ℕ) → type_object ds t ≡ Some n → told n ≤ reach t
   type_told ds a t n e =
       let same : n + 0 ≡ n = omega arith in
-      subst (λ m. told m ≤ x.types) same (type_at 0 ds t n a e)
+      let at : t + 0 ≡ t = omega arith in
+      subst (λ u. told n ≤ reach u) at (subst (λ m. told m ≤ reach (t + 0)) same (type_at 0 0 ds t n a e))
 
 -- ---- marks
 
 -- The mark of this number is made from a bound.
-pub record Marked (ns : List ℕ) (ps : List Bool) (i : ℕ) (bs : List Bound) (n : ℕ) (m : Mark) : Type 0 where
+pub record Marked (ns rs : List ℕ) (i : ℕ) (bs : List Bound) (n : ℕ) (m : Mark) : Type 0 where
   pub bound : Bound
   pub there : slice_get bs n ≡ Some bound
-  pub is : m ≡ mark_at ns ps (n + i) bound
+  pub is : m ≡ mark_at ns rs (n + i) bound
 
-marked_from : (ns : List ℕ) (ps : List Bool) (i : ℕ) (bs : List Bound) (n : ℕ) (m : Mark) → slice_get (marks_from ns ps i bs) n ≡ Some m → Marked ns ps i bs n m
-marked_from ns ps i [] n m e = absurd cc
-marked_from ns ps i (b ∷ bs) zero m e = let same : i ≡ 0 + i = omega arith in record { bound = b; there = refl; is = sym (some_is (mark_at ns ps i b) m e) ∙ ap (λ k. mark_at ns ps k b) same }
+marked_from : (ns rs : List ℕ) (i : ℕ) (bs : List Bound) (n : ℕ) (m : Mark) → slice_get (marks_from ns rs i bs) n ≡ Some m → Marked ns rs i bs n m
+marked_from ns rs i [] n m e = absurd cc
+marked_from ns rs i (b ∷ bs) zero m e = let same : i ≡ 0 + i = omega arith in record { bound = b; there = refl; is = sym (some_is (mark_at ns rs i b) m e) ∙ ap (λ k. mark_at ns rs k b) same }
   where
     some_is : (x y : Mark) → ◌≡◌ {A = Option Mark} (Some x) (Some y) → x ≡ y
     some_is x y e = cc
-marked_from ns ps i (b ∷ bs) (suc n) m e =
-    let h = marked_from ns ps (suc i) bs n m e in
+marked_from ns rs i (b ∷ bs) (suc n) m e =
+    let h = marked_from ns rs (suc i) bs n m e in
     let same : n + suc i ≡ suc n + i = omega arith in
-    record { bound = h.bound; there = h.there; is = h.is ∙ ap (λ k. mark_at ns ps k h.bound) same }
+    record { bound = h.bound; there = h.there; is = h.is ∙ ap (λ k. mark_at ns rs k h.bound) same }
 
-pub mark_is : (ns : List ℕ) (ps : List Bool) (bs : List Bound) (n : ℕ) (m : Mark) → slice_get (marks_from ns ps 0 bs) n ≡ Some m → (b : Bound) × (slice_get bs n ≡ Some b) × (m ≡ mark_at ns ps n b)
-mark_is ns ps bs n m e =
-    let h = marked_from ns ps 0 bs n m e in
+pub mark_is : (ns rs : List ℕ) (bs : List Bound) (n : ℕ) (m : Mark) → slice_get (marks_from ns rs 0 bs) n ≡ Some m → (b : Bound) × (slice_get bs n ≡ Some b) × (m ≡ mark_at ns rs n b)
+mark_is ns rs bs n m e =
+    let h = marked_from ns rs 0 bs n m e in
     let same : n + 0 ≡ n = omega arith in
-    (h.bound, h.there, h.is ∙ ap (λ k. mark_at ns ps k h.bound) same)
+    (h.bound, h.there, h.is ∙ ap (λ k. mark_at ns rs k h.bound) same)

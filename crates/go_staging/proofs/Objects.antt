@@ -1,21 +1,23 @@
 -- What a mark says of an object that a name means.
-use Rattle.std.proofs.Common.{◌≡◌, ℕ, zero, suc, ◌<◌, ◌⊎◌, inl, inr, Bool, true, false, List, [], ◌∷◌, length, map, Option, Some, None, refl, sym, ap, subst, ◌∙◌, arith}
-use Rattle.std.specs.Prelude.{slice_get, ◌||◌, nat_lt, unwrap_or}
+use Rattle.std.proofs.Common.{◌≡◌, ℕ, zero, suc, ◌<◌, Bool, true, false, List, [], ◌∷◌, length, map, Option, Some, None, refl, sym, ap, subst, ◌∙◌, arith}
+use Rattle.std.specs.Prelude.{slice_get, nat_lt, max}
 use Rattle.std.specs.Option.{option_map}
 use Rattle.std.proofs.lemmas.Option.{slice_get-map, same_Some}
-use Rattle.std.proofs.lemmas.Bool.{ltb-true, and_parts, or_cases}
+use Rattle.std.proofs.lemmas.Bool.{leb-true, ltb-true, lt-ltb}
 use Rattle.go_tree.specs.declared.object.Object.{Object}
 use Rattle.go_tree.specs.declared.object.Object.TheVariants as object
 use Rattle.go_needs.specs.declared.bounds.Bound.{Bound}
 use Rattle.go_needs.specs.Bounds.{AreBounds}
-use Rattle.go_package.specs.Knowledge.{Outline, State, needs_of}
-use Rattle.go_rounds.specs.Ranks.{AllBefore, NeedBefore}
+use Rattle.go_package.specs.Knowledge.{Outline, State, state_of, needs_of}
+use Rattle.go_rounds.specs.Ranks.{reached, AllBefore, NeedBefore}
 use Rattle.go_rounds.specs.Stages.{TypesBefore}
+use Rattle.go_rounds.proofs.Needs.{stands_more}
 use Rattle.go_rules.specs.Scopes.{Needed, in_full, at_once, loosely}
 use Rattle.go_stages.specs.declared.marks.Mark.{Mark}
-use Rattle.go_stages.specs.Marks.{known_from, is_known, mark_before, is_before}
-use Rattle.go_staging.specs.Numbers.{number_at}
-use Rattle.go_staging.specs.Marked.{ArePlain, plain_at, mark_at, marks_from}
+use Rattle.go_stages.specs.Marks.{known_from, mark_before, is_before}
+use Rattle.go_staging.specs.declared.numbers.Numbers.{Numbers}
+use Rattle.go_staging.specs.Numbers.{number_at, ranks_in}
+use Rattle.go_staging.specs.Marked.{is_reached, AreReached, mark_at, marks_from}
 use Rattle.go_staging.proofs.Marks.{all_before, mark_is}
 
 pub item_at : {A : Type 0} (xs : List A) (n : ℕ) → n < length xs → (x : A) × (slice_get xs n ≡ Some x)
@@ -34,48 +36,50 @@ below (y ∷ ys) (suc n) x e = let h = below ys n x e in omega (arith, h)
 same_bound : (o : Option Bound) (a b : Bound) → o ≡ Some a → o ≡ Some b → a ≡ b
 same_bound o a b e f = cc
 
-plain_true : (o : Option Bool) → unwrap_or o false ≡ true → o ≡ Some true
-plain_true None e = absurd cc
-plain_true (Some b) e = ap Some e
+-- no number of a mark is below that of the types that the object stands for
+types_low : (n : Needed) (ns rs : List ℕ) (i : ℕ) (b : Bound) (k : ℕ) → known_from n (mark_at ns rs i b) < k → number_at rs i < k
+types_low loosely ns rs i b k h = omega (arith, h)
+types_low at_once ns rs i b k h = omega (arith, h)
+types_low in_full ns rs i b k h = omega (arith, h)
 
-module _ (stands rs : List ℕ) (ps : List Bool) (bs : List Bound) (os : List Outline) (bounds : AreBounds rs bs os) (many : length bs ≡ length os) (types k : ℕ) where
+known_more : (reach : List ℕ) (r k : ℕ) → r < k → (t : ℕ) → is_reached reach r t ≡ true → nat_lt (number_at reach t) k ≡ true
+known_more reach r k h t e = let low = leb-true (number_at reach t) r e in lt-ltb (number_at reach t) k (omega (arith, low, h))
+
+module _ (stands ns rs : List ℕ) (bs : List Bound) (os : List Outline) (bounds : AreBounds ns bs os) (many : length bs ≡ length os) (k : ℕ) where
   abbrev ms : List Mark
-  ms = marks_from stands ps 0 bs
-
-  early : (m : Mark) (n : Needed) → is_known types k (known_from n m) m.is_plain ≡ true → known_from n m < k
-  early m n h = ltb-true (known_from n m) k (and_parts (nat_lt (known_from n m) k) (nat_lt types k || m.is_plain) h).0
+  ms = marks_from stands rs 0 bs
 
   outline : (i : ℕ) (b : Bound) → slice_get bs i ≡ Some b → (o : Outline) × (slice_get os i ≡ Some o)
   outline i b e = let l = below bs i b e in item_at os i (let h : i < length os = omega (arith, l, many) in h)
 
-  full_before : (i : ℕ) (b : Bound) → slice_get bs i ≡ Some b → b.in_full < k → AllBefore (number_at rs) k (i ∷ needs_of in_full (slice_get os i))
+  full_before : (i : ℕ) (b : Bound) → slice_get bs i ≡ Some b → b.in_full < k → AllBefore (number_at ns) k (i ∷ needs_of in_full (slice_get os i))
   full_before i b e l =
       let o = outline i b e in
       let w = bounds.in_full i o.0 o.1 in
       let same : w.0 ≡ b = same_bound (slice_get bs i) w.0 b w.1 e in
       let low : w.0.in_full < k = subst (λ (z : Bound). z.in_full < k) (sym same) l in
-      subst (λ x. AllBefore (number_at rs) k (i ∷ needs_of in_full x)) (sym o.1) (all_before rs w.0.in_full k (i ∷ o.0.fully) w.2 low)
+      subst (λ x. AllBefore (number_at ns) k (i ∷ needs_of in_full x)) (sym o.1) (all_before ns w.0.in_full k (i ∷ o.0.fully) w.2 low)
 
-  part_before : (i : ℕ) (b : Bound) → slice_get bs i ≡ Some b → b.at_once < k → AllBefore (number_at rs) k (i ∷ needs_of at_once (slice_get os i))
+  part_before : (i : ℕ) (b : Bound) → slice_get bs i ≡ Some b → b.at_once < k → AllBefore (number_at ns) k (i ∷ needs_of at_once (slice_get os i))
   part_before i b e l =
       let o = outline i b e in
       let w = bounds.at_once i o.0 o.1 in
       let same : w.0 ≡ b = same_bound (slice_get bs i) w.0 b w.1 e in
       let low : w.0.at_once < k = subst (λ (z : Bound). z.at_once < k) (sym same) l in
-      subst (λ x. AllBefore (number_at rs) k (i ∷ needs_of at_once x)) (sym o.1) (all_before rs w.0.at_once k (i ∷ o.0.partly) w.2 low)
+      subst (λ x. AllBefore (number_at ns) k (i ∷ needs_of at_once x)) (sym o.1) (all_before ns w.0.at_once k (i ∷ o.0.partly) w.2 low)
 
-  need_by : (n : Needed) (i : ℕ) (b : Bound) → slice_get bs i ≡ Some b → known_from n (mark_at stands ps i b) < k → NeedBefore os (number_at rs) (number_at stands) k n (Some (object.Package i))
-  need_by in_full i b e l = full_before i b e l
-  need_by at_once i b e l = part_before i b e l
-  need_by loosely i b e l = l
+  need_by : (n : Needed) (i : ℕ) (b : Bound) → slice_get bs i ≡ Some b → known_from n (mark_at stands rs i b) < k → NeedBefore os (number_at ns) (number_at stands) k n (Some (object.Package i))
+  need_by in_full i b e l = full_before i b e (let h : b.in_full < k = omega (arith, l) in h)
+  need_by at_once i b e l = part_before i b e (let h : b.at_once < k = omega (arith, l) in h)
+  need_by loosely i b e l = let h : number_at stands i < k = omega (arith, l) in h
 
-  package_need : (n : Needed) (i : ℕ) (x : Option Mark) → slice_get ms i ≡ x → mark_before types k n x ≡ true → NeedBefore os (number_at rs) (number_at stands) k n (Some (object.Package i))
+  package_need : (n : Needed) (i : ℕ) (x : Option Mark) → slice_get ms i ≡ x → mark_before k n x ≡ true → NeedBefore os (number_at ns) (number_at stands) k n (Some (object.Package i))
   package_need n i None e h = absurd cc
   package_need n i (Some m) e h =
-      let w = mark_is stands ps bs i m e in
-      need_by n i w.0 w.1 (subst (λ z. known_from n z < k) w.2 (early m n h))
+      let w = mark_is stands rs bs i m e in
+      need_by n i w.0 w.1 (subst (λ z. known_from n z < k) w.2 (ltb-true (known_from n m) k h))
 
-  pub need_before : (n : Needed) (o : Option Object) → is_before ms types k n o ≡ true → NeedBefore os (number_at rs) (number_at stands) k n o
+  pub need_before : (n : Needed) (o : Option Object) → is_before ms k n o ≡ true → NeedBefore os (number_at ns) (number_at stands) k n o
   need_before in_full None h = tt
   need_before at_once None h = tt
   need_before loosely None h = tt
@@ -90,21 +94,21 @@ module _ (stands rs : List ℕ) (ps : List Bool) (bs : List Bound) (os : List Ou
   need_before loosely (Some (object.Local f i)) h = tt
   need_before n (Some (object.Package i)) h = package_need n i (slice_get ms i) refl h
 
-  module _ (found : List State) (plain : ArePlain ps found) where
-    types_by : (i : ℕ) (n : Needed) (m : Mark) → m.is_plain ≡ plain_at ps i → is_known types k (known_from n m) m.is_plain ≡ true → TypesBefore found types k (Some (object.Package i))
-    types_by i n m s h = on (or_cases (nat_lt types k) m.is_plain (and_parts (nat_lt (known_from n m) k) (nat_lt types k || m.is_plain) h).1)
-      where
-        on : (nat_lt types k ≡ true) ⊎ (m.is_plain ≡ true) → TypesBefore found types k (Some (object.Package i))
-        on (inl e) = inl (ltb-true types k e)
-        on (inr e) = inr (plain i (plain_true (slice_get ps i) (sym s ∙ e)))
+  module _ (found : List State) (x : Numbers) (stood : AreReached x.reach.items rs found) where
+    types_by : (n : Needed) (i : ℕ) (b : Bound) → known_from n (mark_at stands rs i b) < k → TypesBefore found (ranks_in x) k (Some (object.Package i))
+    types_by n i b l =
+        let low = types_low n stands rs i b k l in
+        stands_more (is_reached x.reach.items (number_at rs i)) (reached (ranks_in x) k) (λ t e. known_more x.reach.items (number_at rs i) k low t e) (state_of found i).stands (stood i)
 
-    package_types : (n : Needed) (i : ℕ) (x : Option Mark) → slice_get ms i ≡ x → mark_before types k n x ≡ true → TypesBefore found types k (Some (object.Package i))
+    package_types : (n : Needed) (i : ℕ) (m : Option Mark) → slice_get ms i ≡ m → mark_before k n m ≡ true → TypesBefore found (ranks_in x) k (Some (object.Package i))
     package_types n i None e h = absurd cc
-    package_types n i (Some m) e h = let w = mark_is stands ps bs i m e in types_by i n m (ap (λ (z : Mark). z.is_plain) w.2) h
+    package_types n i (Some m) e h =
+        let w = mark_is stands rs bs i m e in
+        types_by n i w.0 (subst (λ z. known_from n z < k) w.2 (ltb-true (known_from n m) k h))
 
-    pub types_before : (n : Needed) (o : Option Object) → is_before ms types k n o ≡ true → TypesBefore found types k o
+    pub types_before : (n : Needed) (o : Option Object) → is_before ms k n o ≡ true → TypesBefore found (ranks_in x) k o
     types_before n None h = tt
     types_before n (Some object.Import) h = tt
-    types_before n (Some (object.Predeclared x)) h = tt
+    types_before n (Some (object.Predeclared z)) h = tt
     types_before n (Some (object.Local f i)) h = tt
     types_before n (Some (object.Package i)) h = package_types n i (slice_get ms i) refl h

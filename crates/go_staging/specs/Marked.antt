@@ -1,43 +1,50 @@
 -- Marks that say from when on objects are known, and what they show of declarations.
-use Rattle.std.specs.Prelude.{◌≡◌, ℕ, suc, ◌<◌, ◌≤◌, Bool, true, false, List, [], ◌∷◌, slice_get, Option, Some, None, unwrap_or}
+use Rattle.std.specs.Prelude.{◌≡◌, ℕ, suc, ◌<◌, ◌≤◌, Bool, true, false, nat_le, max, List, [], ◌∷◌, Option, Some, None}
 use Rattle.go_grammar.specs.Trees.{Tree}
 use Rattle.go_needs.specs.declared.bounds.Bound.{Bound}
 use Rattle.go_package.specs.Declarations.{Specification}
 use Rattle.go_package.specs.Knowledge.{Outline, State, state_of}
 use Rattle.go_package.specs.Verdicts.{own_value}
 use Rattle.go_rights.specs.Names.{EachName, EachNeed}
-use Rattle.go_rounds.specs.Stages.{IsPlain}
+use Rattle.go_rights.specs.Reach.{MaybeWithin, StandsWithin}
 use Rattle.go_rules.specs.Scopes.{type_place}
 use Rattle.go_stages.specs.declared.marks.Mark.{Mark}
 use Rattle.go_stages.specs.Names.{IsFullBefore, ways_before}
+use Rattle.go_types.specs.Relations.{Rights}
+use Rattle.type_tests.specs.Questions.{entry}
 use Rattle.go_staging.specs.declared.marked.Trial.{Trial}
 use Rattle.go_staging.specs.Numbers.{number_at}
 
--- The objects with the flag stand for no declared type.
-abbrev pub ArePlain : List Bool → List State → Type 0
-ArePlain bs ss = (n : ℕ) → slice_get bs n ≡ Some true → IsPlain (state_of ss n).stands
+-- whether a declared type has a number up to k
+abbrev pub is_reached : List ℕ → ℕ → ℕ → Bool
+is_reached reach k t = nat_le (number_at reach t) k
 
-abbrev pub plain_at : List Bool → ℕ → Bool
-plain_at bs n = unwrap_or (slice_get bs n) false
+-- The number of an object is below that of no declared type in what it stands for.
+abbrev pub AreReached : List ℕ → List ℕ → List State → Type 0
+AreReached reach rs ss = (n : ℕ) → StandsWithin (is_reached reach (number_at rs n)) (state_of ss n).stands
 
--- the mark of an object, by when it is known what it stands for, and by the bounds of what it needs
-abbrev pub mark_at : List ℕ → List Bool → ℕ → Bound → Mark
-mark_at ns bs n b = record { loosely = number_at ns n; at_once = b.at_once; in_full = b.in_full; is_plain = plain_at bs n }
+-- The number of a declared type is below that of none in its right side.
+abbrev pub AreClosed : List ℕ → Rights → Type 0
+AreClosed reach rights = (t : ℕ) → MaybeWithin (is_reached reach (number_at reach t)) (entry rights t)
+
+-- the mark of an object, by when it is known what it stands for and the types in that, and by the bounds of what it needs
+abbrev pub mark_at : List ℕ → List ℕ → ℕ → Bound → Mark
+mark_at ns rs n b = record { loosely = max (number_at ns n) (number_at rs n); at_once = max b.at_once (number_at rs n); in_full = max b.in_full (number_at rs n) }
 
 -- those of the objects from the number n on
-abbrev pub marks_from : List ℕ → List Bool → ℕ → List Bound → List Mark
-marks_from ns bs n [] = []
-marks_from ns bs n (x ∷ xs) = mark_at ns bs n x ∷ marks_from ns bs (suc n) xs
+abbrev pub marks_from : List ℕ → List ℕ → ℕ → List Bound → List Mark
+marks_from ns rs n [] = []
+marks_from ns rs n (x ∷ xs) = mark_at ns rs n x ∷ marks_from ns rs (suc n) xs
 
 -- The names of an expression are marked as known before the stage k.
 abbrev pub NamesMarked : Trial → ℕ → ℕ → Option Tree → Type 0
 NamesMarked t file k None = Unit {0}
-NamesMarked t file k (Some x) = EachName (IsFullBefore t.uses.now file t.own.now t.numbers.now.types k) x
+NamesMarked t file k (Some x) = EachName (IsFullBefore t.uses.now file t.own.now k) x
 
 -- So are those of a type, and those in the lengths of its arrays, each by marks of its own.
 abbrev pub TypeMarked : Trial → List Mark → List Mark → ℕ → ℕ → Option Tree → Type 0
 TypeMarked t named counted file k None = Unit {0}
-TypeMarked t named counted file k (Some x) = EachNeed (ways_before t.uses.now file named t.numbers.now.types t.uses.now counted t.numbers.now.types k) type_place x
+TypeMarked t named counted file k (Some x) = EachNeed (ways_before t.uses.now file named t.uses.now counted k) type_place x
 
 -- A constant, a variable or a function is found behind what it names.
 pub record IsMarked (t : Trial) (n : ℕ) (d : Specification) (c : ℕ) : Type 0 where

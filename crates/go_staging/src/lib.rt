@@ -6,14 +6,17 @@
 //! specs/Verdicts.antt of go_package), wherever they were found.
 #![tactic(auto)]
 
+pub mod groups;
 mod marked;
 mod naming;
+mod numbering;
 pub mod numbers;
 mod order;
 pub mod plan;
 mod settled;
 pub mod staged;
 
+pub use groups::Group;
 pub use numbers::Numbers;
 pub use plan::{Plan, plan_of};
 pub use staged::are_staged;

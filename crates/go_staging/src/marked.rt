@@ -32,37 +32,30 @@ pub struct Trial<'a> {
     pub counted: &'a [Mark],
 }
 
-/// Whether an object is plain.
-fn plain_at(plain: &[bool], number: usize) -> bool
-    ensures { result ≡ specs.plain_at plain.now number }
-{
-    plain.get(number).copied().unwrap_or(false)
-}
-
 /// The mark of an object.
-fn mark_at(stands: &[usize], plain: &[bool], number: usize, bound: &Bound) -> Mark
-    ensures { result ≡ specs.mark_at stands.now plain.now number bound.now }
+fn mark_at(stands: &[usize], reaches: &[usize], number: usize, bound: &Bound) -> Mark
+    ensures { result ≡ specs.mark_at stands.now reaches.now number bound.now }
 {
+    let reach = number_at(reaches, number);
     Mark {
-        loosely: number_at(stands, number),
-        at_once: bound.at_once,
-        in_full: bound.in_full,
-        is_plain: plain_at(plain, number),
+        loosely: number_at(stands, number).max(reach),
+        at_once: bound.at_once.max(reach),
+        in_full: bound.in_full.max(reach),
     }
 }
 
-/// The marks of all objects, by when it is known what they stand for, which of them are plain, and the bounds of what they need.
+/// The marks of all objects, by when it is known what they stand for and the types in that, and by the bounds of what they need.
 pub fn marks_of(
     alloc: Global,
     stands: &[usize],
-    plain: &[bool],
+    reaches: &[usize],
     bounds: &[Bound],
 ) -> Result<Vec<Mark>, AllocError>
-    ensures { IfOk result (λ v. v.items ≡ marks_from stands.now plain.now 0 bounds.now) }
+    ensures { IfOk result (λ v. v.items ≡ marks_from stands.now reaches.now 0 bounds.now) }
 {
     let mut marks = Vec::new(alloc);
     for (number, bound) in bounds.iter().enumerate() {
-        marks.push(mark_at(stands, plain, number, bound))?;
+        marks.push(mark_at(stands, reaches, number, bound))?;
     }
     Ok(marks)
 }
@@ -77,7 +70,6 @@ fn are_names_marked(trial: &Trial<'_>, file: usize, stage: usize, node: Option<&
             let marks = Marks {
                 uses: trial.uses,
                 marks: trial.own,
-                types: trial.numbers.types,
             };
             are_before(&marks, file, stage, node)
         }
@@ -99,17 +91,11 @@ fn is_type_marked(
         None => true,
         Some(node) => {
             let uses = trial.uses;
-            let types = trial.numbers.types;
             let marks = TypeMarks {
-                named: Marks {
-                    uses,
-                    marks: named,
-                    types,
-                },
+                named: Marks { uses, marks: named },
                 counted: Marks {
                     uses,
                     marks: counted,
-                    types,
                 },
                 file,
                 stage,

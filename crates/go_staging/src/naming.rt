@@ -30,33 +30,33 @@ fn add_name(uses: &Uses, file: usize, node: &Node, found: &mut Vec<usize>) -> Re
     Ok(())
 }
 
-/// Adds the objects of the package that a tree names.
+/// Adds the objects of the package that a tree names; of a type, where `at_once` says so, those alone that its right side needs.
 #[cycle(each)]
 fn add_names(
     uses: &Uses,
     file: usize,
-    is_type: bool,
+    at_once: bool,
     node: &Node,
     found: &mut Vec<usize>,
 ) -> Result<(), Memory> {
-    if is_type && is_later(node) {
+    if at_once && is_later(node) {
         return Ok(());
     }
     add_name(uses, file, node, found)?;
-    add_parts(uses, file, is_type, node.parts(), found)
+    add_parts(uses, file, at_once, node.parts(), found)
 }
 
 #[cycle(each)]
 fn add_parts(
     uses: &Uses,
     file: usize,
-    is_type: bool,
+    at_once: bool,
     parts: &[Option<Node>],
     found: &mut Vec<usize>,
 ) -> Result<(), Memory> {
     for part in parts {
         let Some(node) = part else { continue };
-        add_names(uses, file, is_type, node, found)?;
+        add_names(uses, file, at_once, node, found)?;
     }
     Ok(())
 }
@@ -65,23 +65,24 @@ fn add_parts(
 fn add_part(
     uses: &Uses,
     file: usize,
-    is_type: bool,
+    at_once: bool,
     part: Option<&Node>,
     found: &mut Vec<usize>,
 ) -> Result<(), Memory> {
     match part {
-        Some(node) => add_names(uses, file, is_type, node, found),
+        Some(node) => add_names(uses, file, at_once, node, found),
         None => Ok(()),
     }
 }
 
-/// The objects that the object of this number names.
+/// The objects that the object of this number names; of a type all of them, or those alone that its right side needs.
 fn named_by(
     alloc: Global,
     uses: &Uses,
     specifications: &[Specification<'_>],
     needs: &Needs,
     number: usize,
+    all: bool,
 ) -> Result<Vec<usize>, Memory> {
     let mut found = Vec::new(alloc);
     let Some(place) = needs.declaring(number) else {
@@ -90,12 +91,12 @@ fn named_by(
     let Some(specification) = specifications.get(place.specification) else {
         return Ok(found);
     };
-    let is_type = matches!(specification.entity, Entity::Type);
+    let at_once = !all && matches!(specification.entity, Entity::Type);
     let value = own_value(specification, place.column);
     add_part(
         uses,
         specification.file,
-        is_type,
+        at_once,
         specification.of,
         &mut found,
     )?;
@@ -103,16 +104,17 @@ fn named_by(
     Ok(found)
 }
 
-/// The objects that each object names.
+/// The objects that each object names; of types all of them, or those alone that their right sides need.
 pub fn naming(
     alloc: Global,
     uses: &Uses,
     specifications: &[Specification<'_>],
     needs: &Needs,
+    all: bool,
 ) -> Result<Vec<Vec<usize>>, Memory> {
     let mut rows = Vec::new(alloc);
     for number in 0..uses.package_objects().len() {
-        let row = named_by(alloc, uses, specifications, needs, number)?;
+        let row = named_by(alloc, uses, specifications, needs, number, all)?;
         rows.push(row)?;
     }
     Ok(rows)

@@ -1,6 +1,7 @@
 //! An order in which each object stands behind those that it names. Nothing rests on it.
 
 use go_base::Memory;
+use go_needs::components::empty_rows;
 use std::alloc::Global;
 
 /// Of each object how many names stand before it, and the objects that name it; and the objects that no name stands before any more.
@@ -9,15 +10,6 @@ struct Search {
     left: Vec<usize>,
     users: Vec<Vec<usize>>,
     order: Vec<usize>,
-}
-
-/// So many empty rows.
-fn empty_rows(alloc: Global, count: usize) -> Result<Vec<Vec<usize>>, Memory> {
-    let mut rows = Vec::new(alloc);
-    for _ in 0..count {
-        rows.push(Vec::new(alloc))?;
-    }
-    Ok(rows)
 }
 
 impl Search {

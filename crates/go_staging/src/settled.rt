@@ -15,12 +15,12 @@ use go_needs::{Bound, Needs};
 use go_tree::object::Declared;
 use std::alloc::Global;
 
-/// Whether no number is greater, and the right sides of all types are known where the numbers say so.
+/// Whether no number of an object is greater, and the right side of each type is known where those are that it reaches.
 pub fn are_within(numbers: &Numbers, objects: &[Declared], most: usize) -> bool
     ensures stands { result ≡ true → at_most most numbers.now.stands.items ≡ true }
     ensures told { result ≡ true → at_most most numbers.now.told.items ≡ true }
     ensures own { result ≡ true → at_most most numbers.now.own.items ≡ true }
-    ensures types { result ≡ true → types_told numbers.now 0 objects.now ≡ true }
+    ensures types { result ≡ true → types_told numbers.now 0 0 objects.now ≡ true }
 {
     are_at_most(most, &numbers.stands)
         && are_at_most(most, &numbers.told)

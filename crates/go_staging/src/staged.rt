@@ -3,13 +3,13 @@
 ghost use Rattle.std.specs.Prelude.{◌≡◌, true, List, IfOk, length};
 ghost use Rattle.go_declarations.specs.Views.{seen_all};
 ghost use Rattle.go_needs.specs.Tells.{TellsNeeds};
-ghost use Rattle.go_package.specs.Knowledge.{State, outlines};
+ghost use Rattle.go_package.specs.Knowledge.{State, outlines, rights_of};
 ghost use Rattle.go_package.specs.Sources.{Package, rounds};
 ghost use Rattle.go_package.specs.Verdicts.{known, next_states};
-ghost use Rattle.go_staging.specs.Marked.{ArePlain};
+ghost use Rattle.go_staging.specs.Marked.{AreReached, AreClosed};
 
 use crate::marked::{Trial, are_behind, marks_of};
-use crate::numbers::{Numbers, bounds_for};
+use crate::numbers::Numbers;
 use crate::settled::{are_bounds_for, are_within};
 use go_base::Memory;
 use go_declarations::Specification;
@@ -18,8 +18,8 @@ use go_rounds::laws::stages_settle;
 use go_tree::uses::Uses;
 use std::alloc::Global;
 
-/// Whether each object is found behind what it names, by these numbers, where `plain` says which objects stand for no declared type.
-/// Then states that a round finds again are those of all rounds.
+/// Whether each object is found behind what it names, by these numbers, where `reaches` has for each object a number that is below none
+/// of those of the declared types in what it stands for. Then states that a round finds again are those of all rounds.
 ///
 /// # Errors
 ///
@@ -30,9 +30,10 @@ pub fn are_staged(
     specifications: &[Specification<'_>],
     needs: &Needs,
     numbers: &Numbers,
-    plain: &[bool],
+    reaches: &[usize],
 ) -> Result<bool, Memory>
-    ensures { IfOk result (λ b. b ≡ true → (p : Package) (found : List State) → TellsNeeds needs.now p (seen_all specifications.now) → p.uses ≡ uses.now → ArePlain plain.now found
+    ensures { IfOk result (λ b. b ≡ true → (p : Package) (found : List State) → TellsNeeds needs.now p (seen_all specifications.now) → p.uses ≡ uses.now
+        → AreReached numbers.now.reach.items reaches.now found → AreClosed numbers.now.reach.items (rights_of p found)
         → next_states p (outlines p (seen_all specifications.now)) found 0 (outlines p (seen_all specifications.now)) ≡ found → known p (outlines p (seen_all specifications.now)) (rounds p) ≡ found) }
 {
     stages_settle();
@@ -44,34 +45,25 @@ pub fn are_staged(
     if !are_within(numbers, objects, most) {
         return Ok(false);
     }
-    let told = bounds_for(alloc, objects, &numbers.told, numbers.types)?;
-    let own = bounds_for(alloc, objects, &numbers.own, most_of_types(numbers))?;
+    let told = numbers.told_bounds.as_slice();
+    let own = numbers.own_bounds.as_slice();
     if !are_bounds_for(
         alloc,
         specifications,
         needs,
         most,
         &numbers.told,
-        &told,
+        told,
         count,
     )? {
         return Ok(false);
     }
-    if !are_bounds_for(
-        alloc,
-        specifications,
-        needs,
-        most,
-        &numbers.own,
-        &own,
-        count,
-    )? {
+    if !are_bounds_for(alloc, specifications, needs, most, &numbers.own, own, count)? {
         return Ok(false);
     }
-    let all = vec![in alloc; true; count]?;
-    let in_own = marks_of(alloc, &numbers.stands, plain, &own)?;
-    let in_told = marks_of(alloc, &numbers.stands, &all, &told)?;
-    let in_lengths = marks_of(alloc, &numbers.stands, plain, &told)?;
+    let in_own = marks_of(alloc, &numbers.stands, reaches, own)?;
+    let in_told = marks_of(alloc, &numbers.stands, &[], told)?;
+    let in_lengths = marks_of(alloc, &numbers.stands, reaches, told)?;
     let trial = Trial {
         uses,
         numbers,
@@ -80,9 +72,4 @@ pub fn are_staged(
         counted: &in_lengths,
     };
     Ok(are_behind(&trial, specifications, needs, count))
-}
-
-/// The greatest number of a type.
-fn most_of_types(numbers: &Numbers) -> usize {
-    numbers.types.saturating_mul(2)
 }

@@ -8,9 +8,11 @@ pass-requires-2-clause-fits c = fits_more c.args.types.now c.pass.new.types c.co
 pub returns-in_err-pass-2-clause-extends : goal.returns-in_err-pass-2-clause-extends
 returns-in_err-pass-2-clause-extends c = extends_both c.args.types.now c.pass.new.types c.pass-2.new.types c.pass.ensures.extends c.pass-2.ensures.extends
 
-pub refresh-requires-clause-fits : goal.refresh-requires-clause-fits
-refresh-requires-clause-fits c =
-    fits_more c.pass.new.types c.pass-2.new.types c.pass-2.ensures.table c.pass-2.ensures.extends c.args.world.now (fits_more c.args.types.now c.pass.new.types c.count.ensures.table c.pass.ensures.extends c.args.world.now c.requires.fits)
+pub returns-in_err-settle-clause-extends : goal.returns-in_err-settle-clause-extends
+returns-in_err-settle-clause-extends c = extends_both c.args.types.now c.pass.new.types c.pass-2.new.types c.pass.ensures.extends c.pass-2.ensures.extends
 
 pub returns-clause-extends : goal.returns-clause-extends
 returns-clause-extends c = extends_both c.args.types.now c.pass.new.types c.pass-2.new.types c.pass.ensures.extends c.pass-2.ensures.extends
+
+pub returns-clause-found : goal.returns-clause-found
+returns-clause-found c = c.in_ok-settle.ensures c.pass-2.new.types c.in_ok-pass-2.ensures.found

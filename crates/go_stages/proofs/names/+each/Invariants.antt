@@ -14,5 +14,5 @@ decreases-are_parts_before l = 2 * heights (views l.parts.now)
 
 abbrev pub invariant-are_parts_before-loop-part : goal.invariant-are_parts_before-loop-part
 invariant-are_parts_before-loop-part l =
-    let P = IsFullBefore l.marks.uses.now l.file l.marks.marks.now l.marks.types l.stage in
+    let P = IsFullBefore l.marks.uses.now l.file l.marks.marks.now l.stage in
     EachNameIn P (views (drop l.part-index l.parts)) → EachNameIn P (views l.parts)

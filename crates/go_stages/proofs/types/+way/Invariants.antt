@@ -21,5 +21,5 @@ decreases-are_others_before l = 4 * heights (views l.rest.now)
 abbrev pub invariant-are_others_before-loop-part : goal.invariant-are_others_before-loop-part
 invariant-are_others_before-loop-part l =
     let m = l.marks in
-    let w = ways_before m.named.uses.now m.file m.named.marks.now m.named.types m.counted.uses.now m.counted.marks.now m.counted.types m.stage in
+    let w = ways_before m.named.uses.now m.file m.named.marks.now m.counted.uses.now m.counted.marks.now m.stage in
     WaysIn w l.kind l.loose (views l.parts) false (views (drop l.part-index l.rest)) true false → WaysIn w l.kind l.loose (views l.parts) false (views l.rest) true false

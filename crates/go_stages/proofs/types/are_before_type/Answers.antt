@@ -7,5 +7,5 @@ use Rattle.go_stages.proofs.types.are_before_type.Goals as goal
 pub returns : goal.returns
 returns c =
     let m = c.args.marks.now in
-    let w = ways_before m.named.uses.now m.file m.named.marks.now m.named.types m.counted.uses.now m.counted.marks.now m.counted.types m.stage in
+    let w = ways_before m.named.uses.now m.file m.named.marks.now m.counted.uses.now m.counted.marks.now m.stage in
     λ h. each_need w type_place (view c.args.node.now) (c.is_type_node_before.ensures h)

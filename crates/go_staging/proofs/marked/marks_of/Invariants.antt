@@ -3,4 +3,4 @@ use Rattle.go_staging.specs.Marked.{marks_from}
 use Rattle.go_staging.proofs.marked.marks_of.Given as goal
 
 abbrev pub invariant-loop-number : goal.invariant-loop-number
-invariant-loop-number l = l.marks.items ++ marks_from l.stands l.plain l.number (drop l.number l.bounds) ≡ marks_from l.stands l.plain 0 l.bounds
+invariant-loop-number l = l.marks.items ++ marks_from l.stands l.reaches l.number (drop l.number l.bounds) ≡ marks_from l.stands l.reaches 0 l.bounds
