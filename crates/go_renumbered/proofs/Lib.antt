@@ -1,0 +1,5 @@
+mod Parts
+mod Sorts
+mod Settling
+mod Indexes
+mod Operators
