@@ -3,3 +3,5 @@ mod Sorts
 mod Settling
 mod Indexes
 mod Operators
+mod Conversions
+mod Calls
