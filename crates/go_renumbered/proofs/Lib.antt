@@ -5,3 +5,5 @@ mod Indexes
 mod Operators
 mod Conversions
 mod Calls
+mod Literals
+mod TypeNodes
