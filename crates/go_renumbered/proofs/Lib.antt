@@ -7,3 +7,8 @@ mod Conversions
 mod Calls
 mod Literals
 mod TypeNodes
+mod LaidOut
+mod Names
+mod Nodes
+mod Hints
+mod Typing
