@@ -1,5 +1,5 @@
 -- The rules on calls with other numbers of declared types.
-use Rattle.std.proofs.Common.{◌≡◌, ◌∙◌, ℕ, Bool, true, false, List, [], ◌∷◌, map, length, Option, Some, None, refl, ap}
+use Rattle.std.proofs.Common.{◌≡◌, ◌∙◌, ℕ, Bool, true, false, List, [], ◌∷◌, map, Option, Some, None, refl, ap}
 use Rattle.std.specs.List.{list_all}
 use Rattle.std.specs.Prelude.{is_some}
 use Rattle.go_tree.specs.declared.object.Predeclared.{Predeclared}
@@ -7,13 +7,13 @@ use Rattle.go_tree.specs.declared.object.Predeclared.TheVariants as predeclared
 use Rattle.go_types.specs.Trees.{TypeTree, TypeRow, none, more}
 use Rattle.go_types.specs.Relations.{Rights}
 use Rattle.type_tests.specs.Renaming.{renamed, renamed_row, IsOneToOne, AreRenamed}
-use Rattle.type_tests.specs.Tests.{underlying_of, both_identical}
+use Rattle.type_tests.specs.Tests.{underlying_of}
 use Rattle.go_typed.specs.Trees.{typed, sort_of, label_of}
 use Rattle.go_typed.specs.Trees as sort
-use Rattle.go_rules.specs.Calls.{parameters_of, results_of, row_length, all_unassignable, function_call_failing, called, function_call_sort, all_as, printed, all_printed, length_failing, sizes_failing, make_failing, each_unassignable, append_failing_in, append_failing, copies, copy_failing, panic_failing, builtin_failing, array_count, constant_length, length_value, length_sort, made_sort, appended_sort, builtin_sort, appended_takes, builtin_takes, one_conversion, call_failing, converted_sort, call_sort, function_takes, call_takes, conversion_take}
-use Rattle.go_rules.specs.Indexes.{value_or_unknown, text_length}
+use Rattle.go_rules.specs.Calls.{parameters_of, results_of, all_unassignable, function_call_failing, called, function_call_sort, all_as, printed, all_printed, length_failing, sizes_failing, make_failing, each_unassignable, append_failing_in, append_failing, copies, copy_failing, panic_failing, builtin_failing, constant_length, length_value, length_sort, made_sort, appended_sort, builtin_sort, appended_takes, builtin_takes, one_conversion, call_failing, converted_sort, call_sort, function_takes, call_takes, conversion_take}
+use Rattle.go_rules.specs.Indexes.{value_or_unknown}
 use Rattle.go_rules.specs.Settling.{Part, Take, stay, default, as_type}
-use Rattle.go_rules.specs.Sorts.{Stands, own_type, named_type, constant_of, is_whole, element_of, underlying_in, form_of_value, slice_element, array_length, int}
+use Rattle.go_rules.specs.Sorts.{Stands, own_type, named_type, is_whole, element_of, underlying_in, form_of_value, slice_element, int}
 use Rattle.go_renumbered.specs.Renumbered.{stands_renamed, part_renamed}
 use Rattle.go_renumbered.proofs.Conversions.{conversion_kept, conversion_sort_kept, conversion_take_kept}
 use Rattle.go_renumbered.proofs.Indexes.{some_same, value_or_same, disordered_kept, bound_kept}

@@ -11,8 +11,8 @@ use Rattle.go_typed.specs.Trees.{typed, sort_of}
 use Rattle.go_typed.specs.Trees as sort
 use Rattle.go_rules.specs.declared.family.Family.TheVariants as family
 use Rattle.go_rules.specs.declared.family.OpenKind.{OpenKind}
-use Rattle.go_rules.specs.Calls.{keeps_value, becomes_text, is_integer_type, is_text_type, converts_number, converts_bytes, converts, converts_value, operands_unless, open_conversion, value_conversion, kept_conversion, conversion_failing, text_of, constant_or_value, conversion_sort, conversion_take}
-use Rattle.go_rules.specs.Settling.{Part, Take, default, as_type}
+use Rattle.go_rules.specs.Calls.{keeps_value, becomes_text, is_integer_type, is_text_type, converts, converts_value, operands_unless, open_conversion, value_conversion, kept_conversion, conversion_failing, text_of, constant_or_value, conversion_sort, conversion_take}
+use Rattle.go_rules.specs.Settling.{Part, default, as_type}
 use Rattle.go_rules.specs.Sorts.{Stands, is_family, family_of_type, constant_of, open_kind, is_constant, is_nil, is_whole, value_type}
 use Rattle.go_renumbered.specs.Renumbered.{stands_renamed, part_renamed}
 use Rattle.go_renumbered.proofs.Parts.{branches}

@@ -1,5 +1,5 @@
 -- What parts are told, with other numbers of declared types.
-use Rattle.std.proofs.Common.{◌≡◌, ◌∙◌, ℕ, List, [], ◌∷◌, Option, Some, None, refl, ap, cond}
+use Rattle.std.proofs.Common.{◌≡◌, ◌∙◌, ℕ, [], ◌∷◌, Option, Some, None, refl, ap, cond}
 use Rattle.go_grammar.specs.declared.kind.Kind.{Kind}
 use Rattle.go_grammar.specs.declared.kind.Kind.TheVariants as kind
 use Rattle.go_grammar.specs.Grammar.{ends_named, is_name}
@@ -8,7 +8,7 @@ use Rattle.go_types.specs.Trees.{TypeTree, array, slice, structure}
 use Rattle.go_types.specs.Relations.{Rights}
 use Rattle.go_typed.specs.Trees.{typed}
 use Rattle.type_tests.specs.Renaming.{renamed, IsOneToOne, AreRenamed}
-use Rattle.go_rules.specs.Scopes.{Scope, Hint, value, type_place, loose, loose_inside, declares}
+use Rattle.go_rules.specs.Scopes.{Scope, Hint, value, type_place, loose, declares}
 use Rattle.go_rules.specs.Tables.{Parts, in_parentheses, as_type_place, element_in, element_told, told_type, is_make, argument_told, call_told, composite_told, keyed_told, skips_first, sequence_told, names_told, parameter_told, hint}
 use Rattle.go_rules.specs.TypeNodes.{part_type}
 use Rattle.type_tests.specs.Tests.{underlying_of}

@@ -1,13 +1,13 @@
 -- The rules on selectors, index and slice expressions with other numbers of declared types.
-use Rattle.std.proofs.Common.{◌≡◌, ◌∙◌, ℕ, zero, suc, ◌+◌, Bool, List, [], ◌++◌, Option, Some, None, refl, ap, cond}
+use Rattle.std.proofs.Common.{◌≡◌, ◌∙◌, ℕ, zero, suc, ◌+◌, List, Option, Some, None, refl, ap, cond}
 use Rattle.std.specs.Prelude.{is_some}
 use Rattle.std.specs.Option.{option_map}
 use Rattle.go_types.specs.Trees.{TypeTree, structure, TypeRow, none, more}
 use Rattle.go_types.specs.Relations.{Rights}
-use Rattle.type_tests.specs.Renaming.{renamed, renamed_row, IsOneToOne, AreRenamed}
+use Rattle.type_tests.specs.Renaming.{renamed_row, IsOneToOne, AreRenamed}
 use Rattle.go_typed.specs.Trees.{typed}
 use Rattle.go_typed.specs.Trees as sort
-use Rattle.go_rules.specs.Indexes.{field_number, type_at, field_type, numbered_type, named_field, selector_failing, value_or_unknown, selector_sort, outside, bound_failing, optional_bound, disordered, text_length, index_failing_in, index_failing, index_sort, whole_or_absent, bounds_failing, slice_failing, slice_sort}
+use Rattle.go_rules.specs.Indexes.{field_number, type_at, field_type, numbered_type, named_field, selector_failing, value_or_unknown, selector_sort, bound_failing, optional_bound, disordered, text_length, index_failing_in, index_failing, index_sort, whole_or_absent, bounds_failing, slice_failing, slice_sort}
 use Rattle.go_rules.specs.Settling.{Part}
 use Rattle.go_rules.specs.Sorts.{Stands, constant_of, is_text, form_of_value, value_type, element_of, slice_element, array_length, byte, int}
 use Rattle.go_renumbered.specs.Renumbered.{stands_renamed, part_renamed}

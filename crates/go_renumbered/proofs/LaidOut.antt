@@ -1,13 +1,11 @@
 -- How parts are laid out, and what is made of them by their places, with other numbers of declared types.
-use Rattle.std.proofs.Common.{◌≡◌, ◌∙◌, ℕ, Bool, true, false, List, [], ◌∷◌, ◌++◌, Option, Some, None, refl, sym, ap, cond}
+use Rattle.std.proofs.Common.{◌≡◌, ◌∙◌, ℕ, List, [], ◌∷◌, ◌++◌, Option, Some, None, refl, sym, ap, cond}
 use Rattle.std.proofs.lemmas.List.{map-append}
 use Rattle.go_grammar.specs.declared.kind.Kind.{Kind}
 use Rattle.go_grammar.specs.declared.kind.Kind.TheVariants as kind
 use Rattle.go_types.specs.Trees.{TypeTree}
 use Rattle.go_typed.specs.declared.form.Form.TheVariants as form
 use Rattle.go_typed.specs.Trees.{typed, list_of}
-use Rattle.go_typed.specs.Trees as sort
-use Rattle.type_tests.specs.Renaming.{renamed}
 use Rattle.go_rules.specs.Scopes.{Hint, element}
 use Rattle.go_rules.specs.Settling.{Part}
 use Rattle.go_rules.specs.Tables.{Parts, is_held, held, all_held, leaf, is_type, cut, first_cut, is_make_call, call_parts, has_no_low, bounds_of, bracketed_parts, is_package, selector_parts, behind_first, layout, present, on_one, on_two, on_first, on_bracketed, on_optional, told_type, literal_type, on_literal}

@@ -1,6 +1,5 @@
 -- The rules on composite literals with other numbers of declared types.
-use Rattle.std.proofs.Common.{◌≡◌, ◌∙◌, ℕ, zero, suc, List, [], ◌∷◌, ◌++◌, map, length, Option, Some, None, refl, ap, cond}
-use Rattle.std.specs.List.{list_all, list_any}
+use Rattle.std.proofs.Common.{◌≡◌, ◌∙◌, ℕ, zero, suc, List, [], ◌∷◌, map, Option, Some, None, refl, ap}
 use Rattle.go_types.specs.Trees.{TypeTree, array, slice, structure, TypeRow}
 use Rattle.go_types.specs.Relations.{Rights}
 use Rattle.type_tests.specs.Renaming.{renamed, renamed_row, IsOneToOne, AreRenamed}
@@ -8,7 +7,7 @@ use Rattle.go_typed.specs.Trees.{typed, Typeds, parts_of}
 use Rattle.go_typed.specs.Trees as sort
 use Rattle.go_rules.specs.Calls.{row_length, all_as}
 use Rattle.go_rules.specs.Literals.{key_of, is_keyed, has_keys, is_below, first_part, nth_part, at_optional, too_many, elements_failing, keyed_type, given_to_field, keyed_unassignable, keyed_failing, ordered_failing, fields_failing, literal_failing_in, literal_failing, as_optional, fields_take, literal_takes_in, literal_takes, literal_sort}
-use Rattle.go_rules.specs.Settling.{Part, Take, stay, as_type}
+use Rattle.go_rules.specs.Settling.{Part, stay, as_type}
 use Rattle.go_rules.specs.Sorts.{underlying_in}
 use Rattle.go_renumbered.specs.Renumbered.{stands_renamed, part_renamed}
 use Rattle.go_renumbered.proofs.Calls.{all_as_same, each_take, all_unassignable_kept, each_unassignable_kept}

@@ -1,5 +1,5 @@
 -- Names in scopes with other numbers of declared types.
-use Rattle.std.proofs.Common.{◌≡◌, ◌∙◌, ℕ, List, [], ◌∷◌, Option, Some, None, refl, sym, ap}
+use Rattle.std.proofs.Common.{◌≡◌, ◌∙◌, ℕ, [], ◌∷◌, Option, Some, None, refl, sym, ap}
 use Rattle.go_grammar.specs.declared.kind.Kind.{Kind}
 use Rattle.go_grammar.specs.declared.kind.Kind.TheVariants as kind
 use Rattle.go_tree.specs.declared.object.Object.{Object}
@@ -7,7 +7,7 @@ use Rattle.go_tree.specs.declared.object.Object.TheVariants as object
 use Rattle.go_typed.specs.declared.form.Form.{Form}
 use Rattle.go_typed.specs.Trees as sort
 use Rattle.go_rules.specs.Names.{object_sort, need_of, name_sort, object_form, declared_form, form_or_type, name_form}
-use Rattle.go_rules.specs.Scopes.{Needed, in_full, at_once, Scope, Hint, loose, loose_inside, declares, free}
+use Rattle.go_rules.specs.Scopes.{Needed, in_full, at_once, Scope, Hint, loose, declares, free}
 use Rattle.go_rules.specs.Sorts.{Stands}
 use Rattle.go_rules.specs.Tables.{Parts, in_length, part_scope}
 use Rattle.go_renumbered.specs.Renumbered.{stands_renamed, hint_renamed, RenamedScopes}

@@ -1,5 +1,5 @@
 -- Nodes with other numbers of declared types.
-use Rattle.std.proofs.Common.{◌≡◌, ◌∙◌, ℕ, ◌-◌, Bool, true, false, List, [], ◌∷◌, map, Option, Some, None, refl, ap}
+use Rattle.std.proofs.Common.{◌≡◌, ◌∙◌, ℕ, ◌-◌, Bool, true, false, List, [], ◌∷◌, Option, Some, None, refl, ap}
 use Rattle.std.specs.Prelude.{◌&&◌, ◌||◌, not, unwrap_or}
 use Rattle.std.specs.List.{list_any}
 use Rattle.go_grammar.specs.declared.kind.Kind.{Kind}
@@ -21,8 +21,8 @@ use Rattle.go_rules.specs.Operators.{unary_failing, unary_sort, unary_take, oper
 use Rattle.go_rules.specs.Scopes.{Scope, Hint, member}
 use Rattle.go_rules.specs.Settling.{Part, Take, stay, given}
 use Rattle.go_rules.specs.Sorts.{Stands, is_constant, form_of_value}
-use Rattle.go_rules.specs.Tables.{Parts, layout, on_one, on_two, on_first, on_bracketed, on_optional, callee_form, field_count, key_in_struct, key_form, selector_form, bracketed_form, form_by, on_literal, selector_rule, failing, sort_by, takes, all_given, is_variable_name, is_call, varies_in, calls_in, label, is_lost, is_judged, placing, own_faults, is_sound, made, built_by, built_on, built, found}
-use Rattle.go_rules.specs.TypeNodes.{part_type, type_sort, sequence_failing, sequence_type, signature_type, structure_of, fields_from}
+use Rattle.go_rules.specs.Tables.{Parts, layout, on_one, on_optional, callee_form, field_count, key_in_struct, key_form, selector_form, bracketed_form, form_by, selector_rule, failing, sort_by, takes, all_given, is_variable_name, is_call, varies_in, calls_in, label, is_lost, is_judged, placing, own_faults, is_sound, made, built_by, built_on, built, found}
+use Rattle.go_rules.specs.TypeNodes.{part_type, type_sort, sequence_failing, sequence_type, signature_type}
 use Rattle.go_renumbered.specs.Renumbered.{stands_renamed, part_renamed, hint_renamed, RenamedScopes}
 use Rattle.go_renumbered.proofs.Calls.{call_kept, call_sort_kept, call_takes_kept}
 use Rattle.go_renumbered.proofs.Indexes.{number_same, selector_kept, selector_sort_kept, index_kept, index_sort_kept, slice_kept, slice_sort_kept}
@@ -31,7 +31,7 @@ use Rattle.go_renumbered.proofs.Literals.{literal_kept, literal_takes_kept, lite
 use Rattle.go_renumbered.proofs.Names.{name_sort_kept, name_form_kept}
 use Rattle.go_renumbered.proofs.Operators.{takes_renamed, unary_take_kept, unary_kept, unary_sort_kept, operation_kept, operation_sort_kept, operation_takes_kept}
 use Rattle.go_renumbered.proofs.Parts.{optional, every, parts, row_kept, some_kept}
-use Rattle.go_renumbered.proofs.Settling.{take_renamed, sort_kept, given_kept, place_kept}
+use Rattle.go_renumbered.proofs.Settling.{sort_kept, given_kept, place_kept}
 use Rattle.go_renumbered.proofs.Sorts.{maybe, constant_same, unknown_same, row_length_same, und, form_same}
 use Rattle.go_renumbered.proofs.TypeNodes.{type_kept, type_sort_kept, sequence_kept, sequence_type_kept, signature_kept, struct_kept}
 

@@ -9,7 +9,7 @@ use Rattle.go_grammar.specs.declared.kind.Comparison.{Comparison}
 use Rattle.go_grammar.specs.declared.kind.Operator.{Operator}
 use Rattle.go_grammar.specs.declared.kind.Operator.TheVariants as operator
 use Rattle.go_grammar.specs.declared.kind.Sign.{Sign}
-use Rattle.go_types.specs.Trees.{TypeTree, boolean, text, integer}
+use Rattle.go_types.specs.Trees.{TypeTree, integer}
 use Rattle.go_types.specs.Relations.{Rights}
 use Rattle.type_tests.specs.Identity.{is_identical}
 use Rattle.type_tests.specs.Renaming.{renamed, IsOneToOne, AreRenamed}
@@ -18,13 +18,13 @@ use Rattle.go_typed.specs.Trees.{typed, sort_of}
 use Rattle.go_typed.specs.Trees as sort
 use Rattle.go_rules.specs.declared.family.OpenKind.{OpenKind}
 use Rattle.go_rules.specs.declared.family.OpenKind.TheVariants as untyped_kind
-use Rattle.go_rules.specs.Operators.{Common, in_type, in_kind, common_kind, kind_common, one_typed, open_kinds, common_by, common, family_in, refused, open_value, value_in, constant_in, result_in, in_range, out_of_range, complement_mask, own_by, own, unary_value, unary_failing_in, unary_failing, unary_sort_in, unary_sort, unary_take, zero_divisor, binary_value, binary_failing_in, binary_failing, binary_sort_in, binary_sort, binary_take_in, binary_take}
+use Rattle.go_rules.specs.Operators.{Common, in_type, in_kind, common_kind, kind_common, one_typed, open_kinds, common_by, common, family_in, refused, open_value, result_in, in_range, out_of_range, complement_mask, own_by, own, unary_value, unary_failing_in, unary_failing, unary_sort_in, unary_sort, unary_take, zero_divisor, binary_value, binary_failing_in, binary_failing, binary_sort_in, binary_sort, binary_take_in, binary_take}
 use Rattle.go_rules.specs.Operators.{is_count, shift_failing_in, shift_failing, shift_sort_in, shift_sort, shifted_take, nil_common, typed_compared, compared_in, incomparable, unfit, compared_refuse, compared_failing_in, compared_failing, compared_sort, compared_take_in, compared_take, is_shift, operation_failing, operation_sort, operation_takes}
 use Rattle.go_rules.specs.Settling.{Part, Take, stay, default, as_type}
-use Rattle.go_rules.specs.Sorts.{Stands, open_kind, own_type, constant_of, is_constant, is_nil, default_type, form_of_value, suits, uint}
+use Rattle.go_rules.specs.Sorts.{Stands, open_kind, own_type, is_constant, is_nil, default_type, form_of_value, suits, uint}
 use Rattle.go_renumbered.specs.Renumbered.{stands_renamed, part_renamed}
 use Rattle.go_renumbered.proofs.Parts.{branches}
-use Rattle.go_renumbered.proofs.Sorts.{maybe, open_same, constant_same, own_same, nil_same, default_same, family_type_same, identical_same, assignable_same, comparable_same, form_same, whole_same, type_family_same, type_nil_same, suits_same, represents_same}
+use Rattle.go_renumbered.proofs.Sorts.{maybe, open_same, constant_same, own_same, nil_same, default_same, identical_same, assignable_same, comparable_same, form_same, whole_same, type_family_same, type_nil_same, suits_same, represents_same}
 use Rattle.go_renumbered.proofs.Settling.{take_renamed, unrepresented_kept, default_unrepresented}
 
 module _ (name : ℕ → ℕ) where

@@ -1,10 +1,8 @@
 -- What is asked of types and of what nodes stand for, with other numbers of declared types.
-use Rattle.std.proofs.Common.{◌≡◌, ◌∙◌, ℕ, Bool, Option, Some, None, refl, sym, ap}
+use Rattle.std.proofs.Common.{◌≡◌, ◌∙◌, ℕ, Option, Some, None, refl, sym, ap}
 use Rattle.std.specs.Option.{option_map}
-use Rattle.go_ints.specs.declared.kinds.Kind.TheVariants as integer_kind
 use Rattle.go_constants.specs.declared.values.Const.{Const}
-use Rattle.go_tree.specs.declared.object.Predeclared.TheVariants as predeclared
-use Rattle.go_types.specs.Trees.{TypeTree, boolean, text, integer, array, slice, structure, function, declared, TypeRow, none, more}
+use Rattle.go_types.specs.Trees.{TypeTree, boolean, array, slice, function, TypeRow, none, more}
 use Rattle.go_types.specs.Relations.{Rights}
 use Rattle.type_tests.specs.Identity.{is_identical}
 use Rattle.type_tests.specs.Renaming.{renamed, renamed_row, IsOneToOne, AreRenamed}

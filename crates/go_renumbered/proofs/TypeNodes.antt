@@ -1,7 +1,7 @@
 -- Types with other numbers of declared types.
 use Rattle.std.proofs.Common.{◌≡◌, ◌∙◌, ℕ, Bool, true, false, List, [], ◌∷◌, ◌++◌, map, Option, Some, None, refl, ap, cond}
 use Rattle.std.specs.Option.{option_map}
-use Rattle.go_types.specs.Trees.{TypeTree, array, slice, structure, TypeRow, row}
+use Rattle.go_types.specs.Trees.{TypeTree, array, slice, structure, row}
 use Rattle.go_types.specs.Relations.{Rights}
 use Rattle.type_tests.specs.Renaming.{renamed, renamed_row, IsOneToOne, AreRenamed}
 use Rattle.type_tests.proofs.Renaming.{scalars_renamed}
