@@ -1,14 +1,15 @@
-mod Parts
-mod Sorts
-mod Settling
-mod Indexes
-mod Operators
-mod Conversions
-mod Calls
-mod Literals
-mod TypeNodes
-mod LaidOut
-mod Names
-mod Nodes
-mod Hints
-mod Typing
+pub mod Parts
+pub mod Sorts
+pub mod Settling
+pub mod Indexes
+pub mod Operators
+pub mod Conversions
+pub mod Calls
+pub mod Literals
+pub mod TypeNodes
+pub mod LaidOut
+pub mod Names
+pub mod Nodes
+pub mod Hints
+pub mod Typing
+pub mod Reached
