@@ -16,12 +16,12 @@ use Rattle.go_renumbered.proofs.Sorts.{maybe, named_same, type_same, package_sam
 module _ (name : ℕ → ℕ) where
   -- ---- how parts are laid out
 
-  held_kept : (x : Option Part) → held (optional name x) ≡ parts name (held x)
+  pub held_kept : (x : Option Part) → held (optional name x) ≡ parts name (held x)
   held_kept None = refl
   held_kept (Some (typed f i j l ps)) =
       ap (λ xs. cond (is_held f) xs (Some (part_renamed name (typed f i j l ps)) ∷ [])) (list_kept name ps) ∙ branches (parts name) (is_held f) (list_of ps) (Some (typed f i j l ps) ∷ [])
 
-  all_held_kept : (xs : Parts) → all_held (parts name xs) ≡ parts name (all_held xs)
+  pub all_held_kept : (xs : Parts) → all_held (parts name xs) ≡ parts name (all_held xs)
   all_held_kept [] = refl
   all_held_kept (x ∷ xs) =
       ap (λ ys. ys ++ all_held (parts name xs)) (held_kept x) ∙ ap (λ ys. parts name (held x) ++ ys) (all_held_kept xs) ∙ sym (map-append (optional name) (held x) (all_held xs))
@@ -32,7 +32,7 @@ module _ (name : ℕ → ℕ) where
       let x = typed f i j l ps in
       ap (λ b. cond b (Some (leaf (part_renamed name x))) (Some (part_renamed name x))) (type_same name l.sort) ∙ branches (optional name) (is_type l.sort) (Some (leaf x)) (Some x)
 
-  first_cut_kept : (xs : Parts) → first_cut (parts name xs) ≡ parts name (first_cut xs)
+  pub first_cut_kept : (xs : Parts) → first_cut (parts name xs) ≡ parts name (first_cut xs)
   first_cut_kept [] = refl
   first_cut_kept (x ∷ xs) = ap (λ y. y ∷ parts name xs) (cut_kept x)
 
@@ -71,7 +71,7 @@ module _ (name : ℕ → ℕ) where
       ap (λ b. cond b [] (Some (part_renamed name x) ∷ [])) (package_same name l.sort) ∙ branches (parts name) (is_package l.sort) [] (Some x ∷ [])
   selector_parts_kept (Some x ∷ y ∷ ys) = refl
 
-  behind_kept : (xs : Parts) → behind_first (parts name xs) ≡ parts name (behind_first xs)
+  pub behind_kept : (xs : Parts) → behind_first (parts name xs) ≡ parts name (behind_first xs)
   behind_kept [] = refl
   behind_kept (x ∷ xs) = refl
 

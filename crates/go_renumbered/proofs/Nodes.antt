@@ -78,7 +78,7 @@ module _ (name : ℕ → ℕ) where
 
   -- ---- a node
 
-  judged_kept : (ys : Parts) → is_judged (parts name ys) ≡ is_judged ys
+  pub judged_kept : (ys : Parts) → is_judged (parts name ys) ≡ is_judged ys
   judged_kept ys = ap not (some_kept name is_lost is_lost lost_kept ys)
     where
       lost_kept : (x : Option Part) → is_lost (optional name x) ≡ is_lost x
@@ -92,7 +92,7 @@ module _ (name : ℕ → ℕ) where
   given_all_kept (k ∷ ks) (Some y ∷ ys) =
       ap (λ z. Some z ∷ all_given (takes_renamed name ks) (parts name ys)) (given_kept name k y) ∙ ap (λ zs. Some (part_renamed name (given k y)) ∷ zs) (given_all_kept ks ys)
 
-  variable_same : (f : Form) (x : Stands) → is_variable_name f (now x) ≡ is_variable_name f x
+  pub variable_same : (f : Form) (x : Stands) → is_variable_name f (now x) ≡ is_variable_name f x
   variable_same (form.Local n) (sort.Value t) = refl
   variable_same (form.Object (referent.Variable n)) x = refl
   variable_same f x = refl
@@ -117,7 +117,7 @@ module _ (name : ℕ → ℕ) where
       constant_kept : is_constant (now x) ≡ is_constant x
       constant_kept = let e = constant_same name x in cc
 
-  made_kept : (f : Form) (i j : ℕ) (x : Stands) (ys zs : Parts) → made f i j (now x) (parts name ys) (parts name zs) ≡ part_renamed name (made f i j x ys zs)
+  pub made_kept : (f : Form) (i j : ℕ) (x : Stands) (ys zs : Parts) → made f i j (now x) (parts name ys) (parts name zs) ≡ part_renamed name (made f i j x ys zs)
   made_kept f i j x ys zs = ap (λ l. typed f i j l (row (parts name zs))) (label_kept f x ys) ∙ ap (typed f i j (label_mapped (renamed name) (label f x ys))) (row_kept name zs)
 
   module _ (s t : Scope) (c : RenamedScopes name s t) where

@@ -1,0 +1,13 @@
+//! Laws of statements under other numbers of declared types. These functions do nothing: their contracts are what holds.
+ghost use Rattle.std.specs.Prelude.{◌≡◌, ℕ};
+ghost use Rattle.go_rules.specs.Settling.{Part};
+ghost use Rattle.go_stmts.specs.Ending.{terminates, breaks};
+ghost use Rattle.go_stmts.specs.Targets.{is_statement_call};
+ghost use Rattle.go_renumbered.specs.Renumbered.{part_renamed};
+
+/// Whether a statement is terminating, and what may be a statement, doesn't depend on the numbers of declared types.
+pub fn endings_have_no_types()
+    ensures terminating { (name : ℕ → ℕ) (x : Part) → terminates (part_renamed name x) ≡ terminates x }
+    ensures breaking { (name : ℕ → ℕ) (x : Part) → breaks (part_renamed name x) ≡ breaks x }
+    ensures called { (name : ℕ → ℕ) (x : Part) → is_statement_call (part_renamed name x) ≡ is_statement_call x }
+{}
