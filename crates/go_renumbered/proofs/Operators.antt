@@ -288,7 +288,7 @@ module _ (name : ℕ → ℕ) (one : IsOneToOne name) (old new : Rights) (same :
       let h = compared_refuse_same c (typed f a b k ps) (typed g p q l qs) in
       cc
 
-  compared_failing_same : (o : Comparison) (i j : ℕ) (x y : Part) → compared_failing new o i j (part_renamed name x) (part_renamed name y) ≡ compared_failing old o i j x y
+  pub compared_failing_same : (o : Comparison) (i j : ℕ) (x y : Part) → compared_failing new o i j (part_renamed name x) (part_renamed name y) ≡ compared_failing old o i j x y
   compared_failing_same o i j (typed f a b k ps) (typed g p q l qs) =
       let x = typed f a b k ps in
       let y = typed g p q l qs in

@@ -1,3 +1,5 @@
 pub mod Ending
 pub mod Assigning
 pub mod Framed
+pub mod Arranging
+pub mod Placing

@@ -1,7 +1,8 @@
 -- What is known between two statements, with other numbers of declared types.
-use Rattle.std.specs.Prelude.{◌≡◌, ℕ, nat_lt, map, length}
+use Rattle.std.specs.Prelude.{◌≡◌, ℕ, Bool, map, is_some, slice_get}
 use Rattle.std.specs.Option.{option_map}
 use Rattle.go_tree.specs.declared.object.Object.{Object}
+use Rattle.go_types.specs.Relations.{Rights}
 use Rattle.type_tests.specs.Renaming.{renamed, IsOneToOne, AreRenamed}
 use Rattle.go_rules.specs.Scopes.{Needed}
 use Rattle.go_stmts.specs.Frames.{Frame, Locals}
@@ -11,12 +12,16 @@ use Rattle.go_renumbered.specs.Renumbered.{stands_renamed, part_renamed}
 abbrev pub locals_renamed : (ℕ → ℕ) → Locals → Locals
 locals_renamed name ls = map (λ o. option_map (stands_renamed name) o) ls
 
+-- whether there is a place for the right side of this number
+abbrev pub has_place : Rights → ℕ → Bool
+has_place rights n = is_some (slice_get rights n)
+
 -- The tokens say and mean the same. What is declared stands for the same with the declared types renamed, one to one, right sides at
 -- the new numbers are the old ones, renamed, and local types have their new numbers, with a place for a right side where they had one.
 pub record RenamedFrames (name : ℕ → ℕ) (f g : Frame) : Type 0 where
   pub one_to_one : IsOneToOne name
   pub rights : AreRenamed name f.around.rights g.around.rights
-  pub room : (n : ℕ) → nat_lt (name (f.types n)) (length g.around.rights) ≡ nat_lt (f.types n) (length f.around.rights)
+  pub room : (n : ℕ) → has_place g.around.rights (name (f.types n)) ≡ has_place f.around.rights (f.types n)
   pub iota : g.around.iota ≡ f.around.iota
   pub texts : (i : ℕ) → g.around.texts i ≡ f.around.texts i
   pub characters : (i : ℕ) → g.around.characters i ≡ f.around.characters i
