@@ -73,7 +73,7 @@ module _ (name : ℕ → ℕ) where
   first_kept [] = refl
   first_kept (o ∷ os) = refl
 
-  entries_kept : (xs : Parts) → entry_types (parts name xs) ≡ all_maybe (entry_types xs)
+  pub entries_kept : (xs : Parts) → entry_types (parts name xs) ≡ all_maybe (entry_types xs)
   entries_kept [] = refl
   entries_kept (None ∷ xs) = entries_kept xs
   entries_kept (Some x ∷ xs) =
@@ -98,7 +98,7 @@ module _ (name : ℕ → ℕ) where
       ∙ ap (λ t. cond (is_result_list f) (all_maybe (entry_types (list_of ps))) (t ∷ [])) (named_same name l.sort)
       ∙ branches all_maybe (is_result_list f) (entry_types (list_of ps)) (named_type l.sort ∷ [])
 
-  parts_in_kept : (x : Option Part) → parts_in (optional name x) ≡ parts name (parts_in x)
+  pub parts_in_kept : (x : Option Part) → parts_in (optional name x) ≡ parts name (parts_in x)
   parts_in_kept None = refl
   parts_in_kept (Some (typed f i j l ps)) = list_kept name ps
 

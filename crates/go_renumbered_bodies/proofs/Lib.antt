@@ -6,3 +6,4 @@ pub mod Placing
 pub mod Judging
 pub mod Taking
 pub mod Holding
+pub mod Entering
