@@ -7,3 +7,4 @@ pub mod Judging
 pub mod Taking
 pub mod Holding
 pub mod Entering
+pub mod Reading

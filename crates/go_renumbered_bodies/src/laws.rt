@@ -4,8 +4,8 @@ ghost use Rattle.go_grammar.specs.Trees.{Tree};
 ghost use Rattle.go_rules.specs.Scopes.{Hint};
 ghost use Rattle.go_rules.specs.Settling.{Part};
 ghost use Rattle.go_stmts.specs.Frames.{Frame};
-ghost use Rattle.go_stmts.specs.Reading.{holding, held_faults};
-ghost use Rattle.go_renumbered_bodies.specs.Frames.{RenamedFrames};
+ghost use Rattle.go_stmts.specs.Reading.{holding, held_faults, reading};
+ghost use Rattle.go_renumbered_bodies.specs.Frames.{RenamedFrames, RenamedReadings};
 ghost use Rattle.go_stmts.specs.Ending.{terminates, breaks};
 ghost use Rattle.go_stmts.specs.Targets.{is_statement_call};
 ghost use Rattle.go_renumbered.specs.Renumbered.{part_renamed, hint_renamed};
@@ -21,4 +21,10 @@ pub fn endings_have_no_types()
 pub fn held_parts_are_typed_the_same()
     ensures typed { (name : ℕ → ℕ) (f g : Frame) → RenamedFrames name f g → (h : Hint) (x : Tree) → holding g (hint_renamed name h) x ≡ part_renamed name (holding f h x) }
     ensures failing { (name : ℕ → ℕ) (f g : Frame) → RenamedFrames name f g → (h : Hint) (x : Tree) → held_faults g (hint_renamed name h) x ≡ held_faults f h x }
+{}
+
+/// Statements, declarations and bodies are read the same, with their types renamed, the same rules fail in them, and so it is known behind
+/// them.
+pub fn renumbered_statements_are_read_the_same()
+    ensures { (name : ℕ → ℕ) (f g : Frame) (h : Hint) (x : Tree) → RenamedFrames name f g → RenamedReadings name (reading f h x) (reading g (hint_renamed name h) x) }
 {}
