@@ -11,15 +11,13 @@ use Rattle.go_grammar.specs.Grammar.{count}
 use Rattle.go_types.specs.Trees.{TypeTree}
 use Rattle.go_typed.specs.declared.form.Form.{Form}
 use Rattle.go_typed.specs.declared.form.Form.TheVariants as form
-use Rattle.go_typed.specs.Trees.{typed, Typeds, list_of, form_of, parts_of}
-use Rattle.go_typed.specs.Trees as sort
+use Rattle.go_typed.specs.Trees.{typed, Typeds, list_of}
 use Rattle.go_rules.specs.Names.{declared_form}
 use Rattle.go_rules.specs.Scopes.{Hint, value, several}
 use Rattle.go_rules.specs.Settling.{Part}
-use Rattle.go_rules.specs.Sorts.{Stands}
-use Rattle.go_rules.specs.Tables.{Parts, is_held, held, all_held, first_cut, made, behind_first}
+use Rattle.go_rules.specs.Tables.{Parts, held, all_held, first_cut, made, behind_first}
 use Rattle.go_stmts.specs.Frames.{Frame, Locals, declared_type}
-use Rattle.go_stmts.specs.Laying.{alone_or_value, behind_names, specification_told, first_then, told, new_or_known, new_form, with_form, new_name, local_named, type_number, type_sort, type_name, held_count, first_count, typed_or_not, is_values, specification_parts, names_count, specified_names, all_names, is_group, specifications, header_parts, if_parts, switch_parts, loop_header, for_parts, without_absent, layout, target_count, loop_form, first_loop_form, form_by}
+use Rattle.go_stmts.specs.Laying.{alone_or_value, behind_names, specification_told, first_then, told, new_or_known, new_form, new_name, local_named, type_number, type_sort, type_name, held_count, first_count, typed_or_not, is_values, specification_parts, names_count, specified_names, all_names, is_group, specifications, header_parts, if_parts, switch_parts, loop_header, for_parts, without_absent, layout, target_count, loop_form, first_loop_form, form_by}
 use Rattle.go_renumbered.specs.Renumbered.{stands_renamed, part_renamed, hint_renamed}
 use Rattle.go_renumbered.proofs.LaidOut.{held_kept, all_held_kept, first_cut_kept, behind_kept}
 use Rattle.go_renumbered.proofs.Nodes.{made_kept}

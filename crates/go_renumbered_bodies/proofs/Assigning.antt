@@ -1,7 +1,6 @@
 -- Values that are given to variables, with other numbers of declared types.
-use Rattle.std.proofs.Common.{◌≡◌, ◌∙◌, ℕ, suc, List, [], ◌∷◌, ◌++◌, map, length, Option, Some, None, refl, ap, cond, arith}
+use Rattle.std.proofs.Common.{◌≡◌, ◌∙◌, ℕ, suc, List, [], ◌∷◌, map, length, Option, Some, None, refl, ap, cond, arith}
 use Rattle.std.specs.Option.{option_map}
-use Rattle.go_base.specs.declared.fault.FaultCode.{FaultCode}
 use Rattle.go_types.specs.Trees.{TypeTree, TypeRow, none, more}
 use Rattle.go_types.specs.Relations.{Rights}
 use Rattle.type_tests.specs.Renaming.{renamed, renamed_row, IsOneToOne, AreRenamed}
@@ -9,12 +8,12 @@ use Rattle.type_tests.specs.Tests.{underlying_of}
 use Rattle.go_typed.specs.Trees.{typed, sort_of}
 use Rattle.go_typed.specs.Trees as sort
 use Rattle.go_rules.specs.Calls.{results_of}
-use Rattle.go_rules.specs.Settling.{Part, default, as_type}
+use Rattle.go_rules.specs.Settling.{Part, default}
 use Rattle.go_rules.specs.Sorts.{Stands, value_type, is_constant}
 use Rattle.go_stmts.specs.Assigning.{Wanted, types_in, called_results, whole_results, at_nil, unassigned, all_unassigned, result_unassigned, results_unassigned, call_assigned, assignment_by, assignment_failing, constant_failing, constants_failing, Taking, takes, stands, type_or_default, first_known, variable, value_types_by, names_take, values_take, declared_names, constant_in, constants_take}
 use Rattle.go_renumbered.specs.Renumbered.{stands_renamed, part_renamed}
 use Rattle.go_renumbered.proofs.Parts.{every, count_kept, branches}
-use Rattle.go_renumbered.proofs.Settling.{take_renamed, sort_kept, at_part_kept, undefaulted_kept, unassignable_kept}
+use Rattle.go_renumbered.proofs.Settling.{take_renamed, undefaulted_kept, unassignable_kept}
 use Rattle.go_renumbered.proofs.Sorts.{maybe, constant_same, nil_same, value_same, results_same, und, assignable_same}
 
 pub mapped_length : {A B : Type 0} (f : A → B) (xs : List A) → length (map f xs) ≡ length xs

@@ -1,20 +1,18 @@
 -- Variables, calls that are statements, and terminating statements, with other numbers of declared types.
-use Rattle.std.proofs.Common.{◌≡◌, ◌∙◌, ℕ, Bool, true, false, List, [], ◌∷◌, Option, Some, None, refl, ap}
-use Rattle.std.specs.Prelude.{◌&&◌, ◌||◌, not}
-use Rattle.std.specs.List.{list_any, list_all}
-use Rattle.go_types.specs.Trees.{TypeTree, array, slice}
+use Rattle.std.proofs.Common.{◌≡◌, ◌∙◌, ℕ, Bool, false, List, [], ◌∷◌, Option, Some, None, refl, ap}
+use Rattle.std.specs.Prelude.{◌&&◌, not}
+use Rattle.go_types.specs.Trees.{TypeTree, slice}
 use Rattle.go_types.specs.Relations.{Rights}
-use Rattle.type_tests.specs.Renaming.{renamed, IsOneToOne, AreRenamed}
+use Rattle.type_tests.specs.Renaming.{IsOneToOne, AreRenamed}
 use Rattle.go_typed.specs.declared.form.Form.{Form}
 use Rattle.go_typed.specs.declared.form.Form.TheVariants as form
-use Rattle.go_tree.specs.declared.object.Predeclared.TheVariants as predeclared
 use Rattle.go_typed.specs.Trees.{typed, Typeds, form_of, sort_of, list_of, parts_of}
 use Rattle.go_typed.specs.Trees as sort
 use Rattle.go_rules.specs.Names.{is_blank}
 use Rattle.go_rules.specs.Settling.{Part}
 use Rattle.go_rules.specs.Sorts.{Stands, form_of_value}
-use Rattle.go_rules.specs.Tables.{Parts, is_call, on_one, on_first}
-use Rattle.go_stmts.specs.Ending.{breaks, any_breaks, last_flag, is_fallthrough_part, last_falls, is_default_clause, part_breaks, loop_ends, branches_end, clauses_end, ends, terminates, which_terminate}
+use Rattle.go_rules.specs.Tables.{Parts, is_call, on_first}
+use Rattle.go_stmts.specs.Ending.{breaks, any_breaks, is_fallthrough_part, last_falls, is_default_clause, part_breaks, loop_ends, clauses_end, ends, terminates, which_terminate}
 use Rattle.go_stmts.specs.Targets.{varies_by, through, is_variable, first_varies, is_target, bare, first_bare, is_panic, acts, callee_passes, is_statement_call, is_panic_call}
 use Rattle.go_renumbered.specs.Renumbered.{stands_renamed, part_renamed}
 use Rattle.go_renumbered.proofs.LaidOut.{one_kept, first_kept}

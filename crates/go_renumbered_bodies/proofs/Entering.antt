@@ -1,5 +1,5 @@
 -- What is known before and behind statements, with other numbers of declared types.
-use Rattle.std.proofs.Common.{◌≡◌, ◌∙◌, ℕ, Bool, true, false, List, [], ◌∷◌, map, length, Option, Some, None, refl, sym, ap, cond, subst}
+use Rattle.std.proofs.Common.{◌≡◌, ◌∙◌, ℕ, List, [], ◌∷◌, map, length, Option, Some, None, refl, sym, ap, cond, subst}
 use Rattle.std.specs.Option.{option_map}
 use Rattle.go_grammar.specs.declared.kind.Kind.{Kind}
 use Rattle.go_grammar.specs.declared.kind.Kind.TheVariants as kind
@@ -16,15 +16,14 @@ use Rattle.go_rules.specs.Settling.{Part}
 use Rattle.go_rules.specs.Sorts.{Stands, open_kind, default_type, retyped}
 use Rattle.go_rules.specs.Tables.{Parts}
 use Rattle.go_rules.specs.TypeNodes.{part_type, parts_in, entry_types, is_parameter}
-use Rattle.go_stmts.specs.Frames.{Frame, rights_of, with_local, with_own_right, with_iota}
+use Rattle.go_stmts.specs.Frames.{Frame, with_local, with_own_right}
 use Rattle.go_stmts.specs.Laying.{local_named, type_number}
-use Rattle.go_stmts.specs.Reading.{opened, tag_in, tag_of, last_of_list, tag_behind, name_in, first_name, entry_name, entry_names, with_parameter, with_parameters, head, first_parts, signature_results, behind_signature, in_function, in_switch, source_kept, in_constants, entering, with_type, beginning, declares_sort, is_new, declares_name, declares_all, part_source, right_side, back, leaving}
+use Rattle.go_stmts.specs.Reading.{opened, tag_in, tag_of, last_of_list, tag_behind, name_in, first_name, entry_name, entry_names, with_parameter, with_parameters, head, first_parts, signature_results, behind_signature, in_function, in_switch, in_constants, entering, with_type, beginning, declares_sort, is_new, declares_name, declares_all, part_source, right_side, back, leaving}
 use Rattle.go_renumbered.specs.Renumbered.{stands_renamed, part_renamed}
 use Rattle.go_renumbered.proofs.Parts.{optional, parts, list_kept}
-use Rattle.go_renumbered.proofs.Settling.{sort_kept}
 use Rattle.go_renumbered.proofs.Sorts.{maybe, default_same, retyped_same}
 use Rattle.go_renumbered.proofs.TypeNodes.{type_kept, entries_kept, parts_in_kept}
-use Rattle.go_renumbered_bodies.specs.Frames.{locals_renamed, RenamedFrames}
+use Rattle.go_renumbered_bodies.specs.Frames.{RenamedFrames}
 use Rattle.go_renumbered_bodies.proofs.Assigning.{mapped_length, results_types}
 use Rattle.go_renumbered_bodies.proofs.Framed.{renewed_so, local_renamed, iota_renamed}
 use Rattle.go_renumbered_bodies.proofs.Placing.{own_right_renamed}

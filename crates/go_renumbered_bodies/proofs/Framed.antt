@@ -1,6 +1,5 @@
 -- Scopes and frames with other numbers of declared types.
-use Rattle.std.proofs.Common.{◌≡◌, ◌∙◌, ℕ, zero, suc, List, [], ◌∷◌, map, length, Option, Some, None, refl, sym, ap, subst}
-use Rattle.std.specs.Prelude.{nat_lt}
+use Rattle.std.proofs.Common.{◌≡◌, ◌∙◌, ℕ, zero, suc, List, [], ◌∷◌, map, Option, Some, None, refl, sym, ap, subst}
 use Rattle.std.specs.Option.{option_map}
 use Rattle.go_grammar.specs.Trees.{Tree}
 use Rattle.go_tree.specs.declared.object.Object.{Object}
@@ -9,7 +8,6 @@ use Rattle.go_tree.specs.declared.object.Predeclared.{Predeclared}
 use Rattle.go_tree.specs.declared.object.Predeclared.TheVariants as predeclared
 use Rattle.go_types.specs.Trees.{TypeTree}
 use Rattle.go_typed.specs.declared.form.Form.TheVariants as form
-use Rattle.go_typed.specs.Trees as sort
 use Rattle.type_tests.specs.Renaming.{renamed}
 use Rattle.go_rules.specs.Names.{predeclared_sort, object_sort, object_form, declared_form}
 use Rattle.go_rules.specs.Scopes.{Needed, Scope}

@@ -1,6 +1,6 @@
 -- The rules of statements with other numbers of declared types.
-use Rattle.std.proofs.Common.{◌≡◌, ◌∙◌, ℕ, zero, suc, ◌-◌, Bool, true, false, List, [], ◌∷◌, ◌++◌, map, length, Option, Some, None, refl, sym, ap, cond}
-use Rattle.std.specs.Prelude.{take, drop, replicate, is_some, not, ◌&&◌, ◌||◌}
+use Rattle.std.proofs.Common.{◌≡◌, ◌∙◌, ℕ, zero, suc, Bool, true, false, List, [], ◌∷◌, ◌++◌, map, Option, Some, None, refl, ap, cond}
+use Rattle.std.specs.Prelude.{take, drop, replicate}
 use Rattle.std.specs.Option.{option_map}
 use Rattle.go_base.specs.declared.fault.FaultCode.TheVariants as code
 use Rattle.go_grammar.specs.declared.kind.Arithmetic.{Arithmetic}
@@ -20,21 +20,20 @@ use Rattle.go_typed.specs.Trees as sort
 use Rattle.go_rules.specs.declared.fault.TypeFault.{TypeFault}
 use Rattle.go_rules.specs.Operators.{compared_failing, operation_failing}
 use Rattle.go_rules.specs.Settling.{Part, at_part}
-use Rattle.go_rules.specs.Sorts.{Stands, own_type, is_truth, is_text, element_of, form_of_value, is_unknown, int, rune}
-use Rattle.go_rules.specs.Tables.{Parts, present, on_one, on_two}
+use Rattle.go_rules.specs.Sorts.{Stands, is_truth, is_text, element_of, form_of_value, int, rune}
+use Rattle.go_rules.specs.Tables.{Parts, present, on_one}
 use Rattle.go_rules.specs.TypeNodes.{part_type}
-use Rattle.go_stmts.specs.Assigning.{Wanted, assignment_failing, at_nil}
-use Rattle.go_stmts.specs.Ending.{terminates}
-use Rattle.go_stmts.specs.Frames.{Frame, Locals, rights_of, declared_type, with_own_right}
-use Rattle.go_stmts.specs.Laying.{local_named, type_number}
+use Rattle.go_stmts.specs.Assigning.{assignment_failing, at_nil}
+use Rattle.go_stmts.specs.Frames.{Frame, Locals, rights_of, with_own_right}
+use Rattle.go_stmts.specs.Laying.{local_named}
 use Rattle.go_stmts.specs.Rules.{each, not_a_target, not_a_variable, target_type, assign_failing, form_type, known_type, define_failing, step_failing, type_there, values_there, variables_failing, constants_counted, is_late, late_limits, all_late_limits, first_fault, type_failing, condition_failing, second_condition, tag_failing, second_tag, tag_at, case_failing, element_types, range_types, element_unassigned, elements_unassigned, range_assigned, targets_failing, range_failing, loop_failing, has_results, function_failing, names_in, split_at, failing}
-use Rattle.go_stmts.specs.Targets.{is_target, is_statement_call}
+use Rattle.go_stmts.specs.Targets.{is_statement_call}
 use Rattle.go_renumbered.specs.Renumbered.{stands_renamed, part_renamed}
 use Rattle.go_renumbered.proofs.LaidOut.{one_kept, two_kept}
 use Rattle.go_renumbered.proofs.Nodes.{made_kept}
 use Rattle.go_renumbered.proofs.Operators.{operation_kept, compared_failing_same}
 use Rattle.go_renumbered.proofs.Parts.{branches, optional, every, parts, inner, count_kept, present_kept}
-use Rattle.go_renumbered.proofs.Settling.{sort_kept, at_part_kept, undefaulted_kept}
+use Rattle.go_renumbered.proofs.Settling.{at_part_kept, undefaulted_kept}
 use Rattle.go_renumbered.proofs.Sorts.{maybe, own_same, unknown_same, nil_same, element_same, family_same, whole_same, text_same, form_same, assignable_same}
 use Rattle.go_renumbered.proofs.TypeNodes.{type_kept}
 use Rattle.go_renumbered_bodies.specs.Frames.{locals_renamed, RenamedFrames}

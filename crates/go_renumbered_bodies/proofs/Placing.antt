@@ -1,12 +1,12 @@
 -- Right sides that are given to local types, with other numbers of declared types.
-use Rattle.std.proofs.Common.{◌≡◌, ◌∙◌, ℕ, zero, suc, Bool, true, false, List, [], ◌∷◌, length, Option, Some, None, refl, sym, ap, subst}
+use Rattle.std.proofs.Common.{◌≡◌, ◌∙◌, ℕ, zero, suc, Bool, true, false, [], ◌∷◌, Option, Some, None, refl, sym, ap, subst}
 use Rattle.std.specs.Prelude.{nat_eq}
 use Rattle.std.specs.Option.{option_map}
 use Rattle.std.proofs.lemmas.Bool.{eqb-true, eq-eqb}
 use Rattle.go_types.specs.Trees.{TypeTree}
 use Rattle.go_types.specs.Relations.{Rights}
 use Rattle.type_tests.specs.Questions.{entry}
-use Rattle.type_tests.specs.Renaming.{renamed, IsOneToOne, AreRenamed}
+use Rattle.type_tests.specs.Renaming.{IsOneToOne, AreRenamed}
 use Rattle.go_stmts.specs.Frames.{Frame, placed, with_own_right}
 use Rattle.go_renumbered.proofs.Sorts.{maybe}
 use Rattle.go_renumbered_bodies.specs.Frames.{has_place, RenamedFrames}

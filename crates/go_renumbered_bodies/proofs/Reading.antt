@@ -4,7 +4,6 @@ use Rattle.go_grammar.specs.declared.kind.Kind.{Kind}
 use Rattle.go_grammar.specs.declared.kind.Kind.TheVariants as kind
 use Rattle.go_grammar.specs.declared.kind.Sort.TheVariants as declaring
 use Rattle.go_grammar.specs.Trees.{Tree, node, Trees, none, more, skip, kind_of}
-use Rattle.go_typed.specs.declared.form.Form.{Form}
 use Rattle.go_rules.specs.declared.fault.TypeFault.{TypeFault}
 use Rattle.go_rules.specs.Scopes.{Hint, value}
 use Rattle.go_rules.specs.Settling.{Part}
@@ -46,9 +45,11 @@ module _ (name : ℕ → ℕ) where
       let eo = own_same f g c k i j xs in
       let us = own_faults f k (form_by k xs) i j (layout f k i xs) in
       let x = built_by f k (form_by k xs) i j (layout f k i xs) us in
-      let ex = node_same f g c k i j xs us (own_faults g k (form_by k (parts name xs)) i j (layout g k i (parts name xs))) eo in
-      (ex, ap (λ z. fs ++ z ∷ []) eo,
-      subst (λ z. RenamedFrames name (leaving k i ps x (back a f)) (leaving k i ps z (back b g))) (sym ex) (leaving_renamed name (back a f) (back b g) (back_renamed name a b f g d c) k i ps x))
+      let ex = node_same f g c k i j xs us (own_faults g k (form_by k (parts name xs)) i j (layout g k i (parts name xs))) eo in (
+        ex,
+        ap (λ z. fs ++ z ∷ []) eo,
+        subst (λ z. RenamedFrames name (leaving k i ps x (back a f)) (leaving k i ps z (back b g))) (sym ex) (leaving_renamed name (back a f) (back b g) (back_renamed name a b f g d c) k i ps x),
+      )
 
   closed_kept : (a b : Frame) → RenamedFrames name a b → (k : Kind) (i j : ℕ) (ps : Trees) (r s : Readings) → RenamedAll r s → RenamedReadings name (closed a k i j ps r) (closed b k i j ps s)
   closed_kept a b d k i j ps (all_read xs fs f) (all_read ys gs g) e =

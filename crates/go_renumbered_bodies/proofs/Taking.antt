@@ -1,5 +1,5 @@
 -- What the parts of statements take, with other numbers of declared types.
-use Rattle.std.proofs.Common.{◌≡◌, ◌∙◌, ℕ, suc, ◌-◌, Bool, List, [], ◌∷◌, ◌++◌, map, length, Option, Some, None, refl, sym, ap, cond}
+use Rattle.std.proofs.Common.{◌≡◌, ◌∙◌, ℕ, ◌-◌, List, [], ◌∷◌, ◌++◌, map, length, Option, Some, None, refl, sym, ap, cond}
 use Rattle.std.specs.Prelude.{take, drop, replicate, ◌==◌}
 use Rattle.std.proofs.lemmas.List.{map-append}
 use Rattle.go_grammar.specs.declared.kind.Arithmetic.{Arithmetic}
@@ -7,7 +7,7 @@ use Rattle.go_grammar.specs.declared.kind.Kind.{Kind}
 use Rattle.go_grammar.specs.declared.kind.Kind.TheVariants as kind
 use Rattle.go_grammar.specs.declared.kind.Sort.TheVariants as declaring
 use Rattle.go_grammar.specs.declared.kind.Operator.TheVariants as operator
-use Rattle.go_types.specs.Trees.{TypeTree, boolean}
+use Rattle.go_types.specs.Trees.{TypeTree}
 use Rattle.go_types.specs.Relations.{Rights}
 use Rattle.type_tests.specs.Renaming.{renamed}
 use Rattle.go_typed.specs.declared.form.Form.{Form}
@@ -17,19 +17,19 @@ use Rattle.go_typed.specs.Trees as sort
 use Rattle.go_rules.specs.declared.fault.TypeFault.{TypeFault}
 use Rattle.go_rules.specs.Operators.{operation_takes}
 use Rattle.go_rules.specs.Settling.{Part, Take, default, as_type}
-use Rattle.go_rules.specs.Sorts.{Stands, own_type}
-use Rattle.go_rules.specs.Tables.{Parts, present, made, on_two, is_judged}
+use Rattle.go_rules.specs.Sorts.{own_type}
+use Rattle.go_rules.specs.Tables.{Parts, present, made}
 use Rattle.go_stmts.specs.Assigning.{Wanted, Taking, takes, stands, rests, type_or_default, declared_names, values_take, constants_take}
-use Rattle.go_stmts.specs.Frames.{Frame, rights_of}
+use Rattle.go_stmts.specs.Frames.{Frame}
 use Rattle.go_stmts.specs.Rules.{target_type, known_type, type_there, values_there, names_in, split_at, rest, assign_takes, define_takes, variables_take, type_or_rest, specified_constants, returned, type_stands, elements_stand, last_part, range_stands, range_types, loop_takes, taking, judges, own_faults, failing, given_part, given_optional, all_given, built_by}
-use Rattle.go_renumbered.specs.Renumbered.{stands_renamed, part_renamed}
+use Rattle.go_renumbered.specs.Renumbered.{part_renamed}
 use Rattle.go_renumbered.proofs.LaidOut.{two_kept}
 use Rattle.go_renumbered.proofs.Nodes.{made_kept, judged_kept}
 use Rattle.go_renumbered.proofs.Operators.{takes_renamed, operation_takes_kept}
 use Rattle.go_renumbered.proofs.Parts.{branches, optional, every, parts, count_kept, present_kept}
-use Rattle.go_renumbered.proofs.Settling.{take_renamed, sort_kept, given_kept}
+use Rattle.go_renumbered.proofs.Settling.{take_renamed, given_kept}
 use Rattle.go_renumbered.proofs.Sorts.{maybe, own_same}
-use Rattle.go_renumbered_bodies.specs.Frames.{locals_renamed, RenamedFrames}
+use Rattle.go_renumbered_bodies.specs.Frames.{RenamedFrames}
 use Rattle.go_renumbered_bodies.proofs.Arranging.{taken_mapped}
 use Rattle.go_renumbered_bodies.proofs.Assigning.{mapped_length, wanted_renamed, types_renamed, some_types, taking_renamed, takings_renamed, type_or_default_same, values_take_same, constants_take_same, declared_names_same}
 use Rattle.go_renumbered_bodies.proofs.Judging.{repeated_mapped, target_types, known_types, type_there_same, values_there_same, front_kept, back_kept, range_types_same, failing_kept}
