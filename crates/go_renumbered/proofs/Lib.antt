@@ -1,0 +1,15 @@
+pub mod Parts
+pub mod Sorts
+pub mod Settling
+pub mod Indexes
+pub mod Operators
+pub mod Conversions
+pub mod Calls
+pub mod Literals
+pub mod TypeNodes
+pub mod LaidOut
+pub mod Names
+pub mod Nodes
+pub mod Hints
+pub mod Typing
+pub mod Reached

@@ -1,0 +1,10 @@
+pub mod Ending
+pub mod Assigning
+pub mod Framed
+pub mod Arranging
+pub mod Placing
+pub mod Judging
+pub mod Taking
+pub mod Holding
+pub mod Entering
+pub mod Reading
