@@ -67,7 +67,7 @@ module _ (name : ℕ → ℕ) where
   entry_name_same : (x : Part) → entry_name (part_renamed name x) ≡ entry_name x
   entry_name_same (typed f i j l ps) = ap (λ o. cond (is_parameter f) o (local_of f)) (ap first_name (list_kept name ps) ∙ first_name_same (list_of ps))
 
-  entry_names_same : (xs : Parts) → entry_names (parts name xs) ≡ entry_names xs
+  pub entry_names_same : (xs : Parts) → entry_names (parts name xs) ≡ entry_names xs
   entry_names_same [] = refl
   entry_names_same (None ∷ xs) = entry_names_same xs
   entry_names_same (Some x ∷ xs) = let e = entry_name_same x in let f = entry_names_same xs in cc
@@ -76,7 +76,7 @@ module _ (name : ℕ → ℕ) where
   head_kept [] = refl
   head_kept (x ∷ xs) = refl
 
-  first_parts_kept : (x : Option Part) → first_parts (optional name x) ≡ parts name (first_parts x)
+  pub first_parts_kept : (x : Option Part) → first_parts (optional name x) ≡ parts name (first_parts x)
   first_parts_kept None = refl
   first_parts_kept (Some (typed f i j l ps)) = ap (λ xs. parts_in (head xs)) (list_kept name ps) ∙ ap parts_in (head_kept (list_of ps)) ∙ parts_in_kept name (head (list_of ps))
 
