@@ -1,3 +1,3 @@
-mod Steps
-mod Rights
-mod Typings
+pub mod Rights
+pub mod Steps
+pub mod Typings

@@ -38,14 +38,14 @@ module _ (ss us : List Source) (names others : List (List ℕ)) (x : AreNamed na
   abbrev named : UsesView → List Referent
   named u = referents u.package_level
 
-  environment_same : z.environment ≡ t.environment
+  pub environment_same : z.environment ≡ t.environment
   environment_same = two_answers (package_answer us z.uses) t.environment z.environment (answer.before t.environment before.environment) after.environment
 
   referents_same : named z.uses ≡ named t.uses
   referents_same =
       ap named (after.meant ∙ ap uses (sym (units_same others us y))) ∙ objects.referents ∙ sym (ap named (before.meant ∙ ap uses (sym (units_same names ss x))))
 
-  surroundings_same : b ≡ a
+  pub surroundings_same : b ≡ a
   surroundings_same =
       ap (λ (e : Environment). surroundings_of z.uses e) environment_same ∙ ap (λ rs. by rs) referents_same
     where
@@ -58,10 +58,10 @@ module _ (ss us : List Source) (names others : List (List ℕ)) (x : AreNamed na
   abbrev Left : ℕ → Type 0
   Left k = rights_before us z k ≡ rights_before ss t k
 
-  step_old : (k : ℕ) (s : Same k) → AtStep p a t.environment.rights 0 (function_specifications p) t.bodies k s.old
+  pub step_old : (k : ℕ) (s : Same k) → AtStep p a t.environment.rights 0 (function_specifications p) t.bodies k s.old
   step_old k s = at_step p a t.environment.rights 0 (function_specifications p) t.bodies k s.old before.bodies s.same.old_specified
 
-  step_new : (k : ℕ) (s : Same k) → AtStep q b z.environment.rights 0 (function_specifications q) z.bodies k s.new
+  pub step_new : (k : ℕ) (s : Same k) → AtStep q b z.environment.rights 0 (function_specifications q) z.bodies k s.new
   step_new k s = at_step q b z.environment.rights 0 (function_specifications q) z.bodies k s.new after.bodies s.same.new_specified
 
   behind_same : (k : ℕ) (s : Same k) → Left k → AtStep.behind (step_new k s) ≡ AtStep.behind (step_old k s)

@@ -1,0 +1,18 @@
+use Rattle.go_package.specs.Sources.{package_of}
+use Rattle.go_portions.specs.Portions.{files_of}
+use Rattle.head_typings.proofs.Steps.{answered}
+use Rattle.head_typings.proofs.Typings.{is_faultless}
+use Rattle.head_renumbered.proofs.Numbers.{one_function}
+use Rattle.head_renumbered.proofs.laws.functions_keep_their_types_but_for_numbers.Goals as goal
+
+pub returns : goal.returns
+returns c ss us names others x y h k e t z before after below number body =
+    let old = answered ss t before in
+    let new = answered us z after in
+    let clean = is_faultless ss names t x h old in
+    let clean_new = is_faultless us others z y k new in
+    one_function ss us names others x y t z old new
+    (c.answers_stay.ensures ss us t.uses z.uses names others clean clean_new e)
+    (c.objects_keep_their_numbers.ensures (files_of names ss) (files_of others us) h k e)
+    (c.typed_functions_stay.ensures (package_of ss t.uses) (package_of us z.uses) names others clean clean_new e)
+    below number body
