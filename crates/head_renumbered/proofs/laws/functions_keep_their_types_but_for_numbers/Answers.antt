@@ -6,7 +6,7 @@ use Rattle.head_renumbered.proofs.Numbers.{one_function}
 use Rattle.head_renumbered.proofs.laws.functions_keep_their_types_but_for_numbers.Goals as goal
 
 pub returns : goal.returns
-returns c ss us names others x y h k e t z before after below number body =
+returns c ss us names others x y h k e t z before after number body =
     let old = answered ss t before in
     let new = answered us z after in
     let clean = is_faultless ss names t x h old in
@@ -15,4 +15,5 @@ returns c ss us names others x y h k e t z before after below number body =
     (c.answers_stay.ensures ss us t.uses z.uses names others clean clean_new e)
     (c.objects_keep_their_numbers.ensures (files_of names ss) (files_of others us) h k e)
     (c.typed_functions_stay.ensures (package_of ss t.uses) (package_of us z.uses) names others clean clean_new e)
-    below number body
+    (c.objects_name_types_of_the_package.ensures ss names x h t.uses t.environment old.meant old.environment)
+    number body

@@ -1,0 +1,7 @@
+mod Told
+mod Entities
+mod Numbers
+mod Typed
+mod Assigned
+mod Rounds
+mod Below
