@@ -73,7 +73,7 @@ fn final_of(sort: &Sort) -> Final
         Sort::Value(ty) => Final::Type(*ty),
         Sort::Constant(ty, _) => Final::Type(*ty),
         Sort::Open(untyped) => Final::Kind(untyped_kind(*untyped)),
-        Sort::OpenConstant(value) => Final::Kind(const_kind(value)),
+        Sort::OpenConstant(value) => Final::Kind(const_kind(value.get())),
         _ => Final::Nothing,
     }
 }
@@ -114,8 +114,8 @@ fn value_of(sort: &Sort) -> Option<&Const>
     ensures { option_map (λ c. c.now) result ≡ value_of (sort_view sort.now) }
 {
     match sort {
-        Sort::Constant(_, value) => Some(value),
-        Sort::OpenConstant(value) => Some(value),
+        Sort::Constant(_, value) => Some(value.get()),
+        Sort::OpenConstant(value) => Some(value.get()),
         _ => None,
     }
 }

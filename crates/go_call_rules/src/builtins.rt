@@ -4,7 +4,7 @@ ghost use Rattle.std.specs.Option.{option_map};
 ghost use Rattle.go_base.specs.Gives.{Gives};
 ghost use Rattle.go_types.specs.Tables.{type_of, rights_of};
 ghost use Rattle.go_typed.specs.Views.{seen, sort_seen, Known, KnownSort};
-ghost use Rattle.go_rules.specs.Faults.{least, judged};
+ghost use Rattle.go_rules.specs.Faults.{least, judged, refusal_of};
 ghost use Rattle.go_rules.specs.Seen.{AreBasics, one_fault};
 ghost use Rattle.go_rules.specs.Sorts.{slice_element, form_of_value, own_type, int};
 ghost use Rattle.go_rules.specs.Indexes.{value_or_unknown};
@@ -21,10 +21,11 @@ use go_base::FaultCode;
 use go_rules::assign::printed;
 use go_rules::nodes::sort_of;
 use go_rules::sorts::own_type;
-use go_rules::{Basics, Place, TypeFault};
+use go_rules::{Basics, Place, TypeError, TypeFault};
 use go_tree::object::Predeclared;
 use go_typed::{Sort, TypedNode};
 use go_types::{Shape, TypeId, Types};
+use std::alloc::Global;
 use type_tests::{identical, underlying};
 
 /// The type of the elements of a slice.
@@ -190,26 +191,31 @@ fn append(types: &Types, place: Place, nodes: &[&TypedNode]) -> Result<Sort, Typ
 }
 
 /// A call of a predeclared function (Go specification, "Built-in functions").
+///
+/// # Errors
+///
+/// The fault, or want of memory.
 pub(crate) fn builtin(
+    alloc: Global,
     types: &Types,
     basics: Basics,
     place: Place,
     function: Predeclared,
     nodes: &[&TypedNode],
-) -> Result<Sort, TypeFault>
+) -> Result<Sort, TypeError>
     requires basics { AreBasics types.now basics }
     requires nodes { AllShownKnown (length types.now.shapes) nodes.now }
     ensures exact { let rights = rights_of types.now in let xs = shown types.now nodes.now in
-        Gives (sort_seen types.now) one_fault result (judged (least (builtin_failing rights place.first place.last function xs)) (builtin_sort rights function xs)) }
+        Gives (sort_seen types.now) refusal_of result (judged (least (builtin_failing rights place.first place.last function xs)) (builtin_sort rights function xs)) }
     ensures known { IfOk result (KnownSort (length types.now.shapes)) }
 {
     match function {
-        Predeclared::Len => length_of(types, basics, place, true, nodes),
-        Predeclared::Cap => length_of(types, basics, place, false, nodes),
-        Predeclared::Make => make(types, basics, place, nodes),
-        Predeclared::Append => append(types, place, nodes),
-        Predeclared::Copy => copy(types, basics, place, nodes),
-        Predeclared::Panic => panic(types, basics, place, nodes),
-        _ => Err(place.fault(FaultCode::Operands)),
+        Predeclared::Len => length_of(alloc, types, basics, place, true, nodes),
+        Predeclared::Cap => length_of(alloc, types, basics, place, false, nodes),
+        Predeclared::Make => Ok(make(types, basics, place, nodes)?),
+        Predeclared::Append => Ok(append(types, place, nodes)?),
+        Predeclared::Copy => Ok(copy(types, basics, place, nodes)?),
+        Predeclared::Panic => Ok(panic(types, basics, place, nodes)?),
+        _ => Err(TypeError::Fault(place.fault(FaultCode::Operands))),
     }
 }

@@ -59,7 +59,7 @@ fn called(
 {
     match callee {
         Sort::Type(to) => conversion_call(alloc, types, basics, place, *to, nodes),
-        Sort::Builtin(function) => Ok(builtin(types, basics, place, *function, nodes)?),
+        Sort::Builtin(function) => builtin(alloc, types, basics, place, *function, nodes),
         Sort::Println => Ok(print_call(types, basics, place, nodes)?),
         _ => Ok(function_call(types, place, callee, nodes)?),
     }

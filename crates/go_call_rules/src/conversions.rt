@@ -18,7 +18,7 @@ use go_rules::conversion::{becomes_text, conversion, keeps_value};
 use go_rules::nodes::sort_of;
 use go_rules::sorts::constant_of;
 use go_rules::{Basics, Place, TypeError};
-use go_typed::{Sort, TypedNode};
+use go_typed::{SharedConst, Sort, TypedNode};
 use go_types::{TypeId, Types};
 use std::alloc::Global;
 
@@ -47,13 +47,21 @@ fn text_of(alloc: Global, constant: Option<&Const>) -> Result<SharedBytes, Memor
 }
 
 /// A constant of a type, or else a value.
-fn constant_or_value(types: &Types, to: TypeId, constant: Option<&Const>) -> Result<Sort, Memory>
+fn constant_or_value(
+    alloc: Global,
+    types: &Types,
+    to: TypeId,
+    constant: Option<&Const>,
+) -> Result<Sort, Memory>
     requires { to < length types.now.shapes }
     ensures tree { IfOk result (λ s. sort_seen types.now s ≡ constant_or_value (type_of types.now.shapes to) (option_map (λ c. c.now) constant.entry)) }
     ensures known { IfOk result (KnownSort (length types.now.shapes)) }
 {
     match constant {
-        Some(constant) => Ok(Sort::Constant(to, constant.shared()?)),
+        Some(constant) => {
+            let constant = SharedConst::of(alloc, constant.shared()?)?;
+            Ok(Sort::Constant(to, constant))
+        }
         None => Ok(Sort::Value(to)),
     }
 }
@@ -68,10 +76,11 @@ fn converted(alloc: Global, types: &Types, to: TypeId, operand: &Sort) -> Result
 {
     let constant = constant_of(types, operand);
     if keeps_value(types, to, constant) {
-        return constant_or_value(types, to, constant);
+        return constant_or_value(alloc, types, to, constant);
     }
     if becomes_text(types, to, constant) {
-        return Ok(Sort::Constant(to, Const::Text(text_of(alloc, constant)?)));
+        let text = Const::Text(text_of(alloc, constant)?);
+        return Ok(Sort::Constant(to, SharedConst::of(alloc, text)?));
     }
     Ok(Sort::Value(to))
 }

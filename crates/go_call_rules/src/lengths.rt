@@ -4,21 +4,22 @@ ghost use Rattle.go_base.specs.Gives.{Gives};
 ghost use Rattle.go_types.specs.Tables.{rights_of};
 ghost use Rattle.go_typed.specs.Trees.{sort_of, label_of};
 ghost use Rattle.go_typed.specs.Views.{seen, sort_seen, Known, KnownSort};
-ghost use Rattle.go_rules.specs.Faults.{least, judged};
-ghost use Rattle.go_rules.specs.Seen.{AreBasics, one_fault};
+ghost use Rattle.go_rules.specs.Faults.{least, judged, refusal_of};
+ghost use Rattle.go_rules.specs.Seen.{AreBasics};
 ghost use Rattle.go_rules.specs.Sorts.{is_text};
 ghost use Rattle.go_rules.specs.Calls.{has_elements, constant_length, length_value, length_failing, length_sort};
 ghost use Rattle.go_call_rules.specs.Shown.{shown, AllShownKnown};
 
 use crate::arguments::one;
-use go_base::FaultCode;
+use go_base::{FaultCode, Memory};
 use go_constants::Const;
 use go_rules::index::{array_length, element, text_length};
 use go_rules::nodes::sort_of;
 use go_rules::sorts::{constant_of, family, is_family};
-use go_rules::{Basics, Family, Place, TypeFault};
-use go_typed::{Sort, TypedNode};
+use go_rules::{Basics, Family, Place, TypeError};
+use go_typed::{SharedConst, Sort, TypedNode};
 use go_types::Types;
+use std::alloc::Global;
 
 /// Whether it is a string.
 pub(crate) fn is_text(types: &Types, sort: &Sort) -> bool
@@ -59,58 +60,67 @@ fn constant_length(types: &Types, node: &TypedNode) -> Option<u64>
     }
 }
 
-fn length_value(types: &Types, basics: Basics, known: Option<u64>) -> Sort
+/// What `len` or `cap` stands for by the length that is constant, where there is one.
+fn length_value(
+    alloc: Global,
+    types: &Types,
+    basics: Basics,
+    known: Option<u64>,
+) -> Result<Sort, Memory>
     requires { AreBasics types.now basics }
-    ensures tree { sort_seen types.now result ≡ length_value known }
-    ensures known { KnownSort (length types.now.shapes) result }
+    ensures tree { IfOk result (λ s. sort_seen types.now s ≡ length_value known) }
+    ensures known { IfOk result (KnownSort (length types.now.shapes)) }
 {
     match known {
         Some(known) => {
             let value = i128::from(known);
-            Sort::Constant(basics.int, Const::Int { value, rune: false })
+            let constant = SharedConst::of(alloc, Const::Int { value, rune: false })?;
+            Ok(Sort::Constant(basics.int, constant))
         }
-        None => Sort::Value(basics.int),
+        None => Ok(Sort::Value(basics.int)),
     }
 }
 
 /// `len` or `cap` of one argument.
 fn length_of_operand(
+    alloc: Global,
     types: &Types,
     basics: Basics,
     place: Place,
     texts: bool,
     operand: &TypedNode,
-) -> Result<Sort, TypeFault>
+) -> Result<Sort, TypeError>
     requires basics { AreBasics types.now basics }
     requires operand { Known (length types.now.shapes) operand.now }
     ensures exact { let rights = rights_of types.now in let xs = seen types.now operand.now ∷ [] in
-        Gives (sort_seen types.now) one_fault result (judged (least (length_failing rights place.first place.last texts xs)) (length_sort rights xs)) }
+        Gives (sort_seen types.now) refusal_of result (judged (least (length_failing rights place.first place.last texts xs)) (length_sort rights xs)) }
     ensures known { IfOk result (KnownSort (length types.now.shapes)) }
 {
     let sort = sort_of(types, operand);
     if (texts && is_text(types, sort)) || has_elements(types, sort) {
-        Ok(length_value(types, basics, constant_length(types, operand)))
+        Ok(length_value(alloc, types, basics, constant_length(types, operand))?)
     } else {
-        Err(place.fault(FaultCode::Operands))
+        Err(TypeError::Fault(place.fault(FaultCode::Operands)))
     }
 }
 
 /// `len`, or `cap`, which strings don't have (Go specification, "Length and capacity").
 pub(crate) fn length_of(
+    alloc: Global,
     types: &Types,
     basics: Basics,
     place: Place,
     texts: bool,
     nodes: &[&TypedNode],
-) -> Result<Sort, TypeFault>
+) -> Result<Sort, TypeError>
     requires basics { AreBasics types.now basics }
     requires nodes { AllShownKnown (length types.now.shapes) nodes.now }
     ensures exact { let rights = rights_of types.now in let xs = shown types.now nodes.now in
-        Gives (sort_seen types.now) one_fault result (judged (least (length_failing rights place.first place.last texts xs)) (length_sort rights xs)) }
+        Gives (sort_seen types.now) refusal_of result (judged (least (length_failing rights place.first place.last texts xs)) (length_sort rights xs)) }
     ensures known { IfOk result (KnownSort (length types.now.shapes)) }
 {
     match one(types, nodes) {
-        Some(operand) => length_of_operand(types, basics, place, texts, operand),
-        None => Err(place.fault(FaultCode::Count)),
+        Some(operand) => length_of_operand(alloc, types, basics, place, texts, operand),
+        None => Err(TypeError::Fault(place.fault(FaultCode::Count))),
     }
 }

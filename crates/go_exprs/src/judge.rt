@@ -170,9 +170,9 @@ pub fn judge(
 {
     types.count();
     match kind {
-        Kind::Name => Ok(name_sort(types, scope, hint, place.first)?),
-        Kind::Integer => Ok(literals::integer(types, place, scope.text(place.first))?),
-        Kind::Rune => Ok(literals::rune(types, scope.text(place.first))),
+        Kind::Name => Ok(name_sort(alloc, types, scope, hint, place.first)?),
+        Kind::Integer => literals::integer(alloc, types, place, scope.text(place.first)),
+        Kind::Rune => Ok(literals::rune(alloc, types, scope.text(place.first))?),
         Kind::Text => Ok(literals::text(alloc, types, scope.text(place.first))?),
         Kind::Parenthesized => only_part(types, parts),
         Kind::ParenthesizedType => only_part(types, parts),

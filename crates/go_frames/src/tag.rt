@@ -31,7 +31,7 @@ fn tag_in(types: &Types, basics: Basics, sort: &Sort) -> Result<Sort, Memory>
             Ok(Sort::Value(of))
         }
         Sort::OpenConstant(constant) => {
-            let of = default_type(types, basics, const_kind(&constant));
+            let of = default_type(types, basics, const_kind(constant.get()));
             Ok(Sort::Constant(of, constant))
         }
         _ => Ok(Sort::Unknown),

@@ -81,7 +81,7 @@ fn hold_parts(
     ensures known { IfOk result (λ v. AllKnown (length types.new.shapes) v.items) }
 {
     types.count();
-    let mut parts = Vec::new(alloc);
+    let mut parts = Vec::with_capacity(alloc, written.len())?;
     for place in written {
         let Some(node) = place else {
             parts.push(None)?;

@@ -34,7 +34,7 @@ abbrev pub meaning_view : Meaning → meanings.Meaning
 meaning_view m = entry_view m.entry.now
 
 abbrev pub asked_view : Asked → rules.Asked
-asked_view a = record { file = a.file; name = word a.tokens.now a.lookup.name; place = bytes_at a.file a.tokens.now a.lookup.name; whole = whole_of a.file a.tokens.now a.lookup.name a.lookup.role; selected = selected_of a.tokens.now a.lookup.role; meaning = option_map meaning_view a.meaning; it = a.lookup }
+asked_view a = record { file = a.file; name = word a.tokens.now a.lookup.now.name; place = bytes_at a.file a.tokens.now a.lookup.now.name; whole = whole_of a.file a.tokens.now a.lookup.now.name a.lookup.now.role; selected = selected_of a.tokens.now a.lookup.now.role; meaning = option_map meaning_view a.meaning; it = a.lookup.now }
 
 abbrev pub numbers_view : Numbers → meanings.Numbers
 numbers_view k = record { shared = k.shared; functions = k.functions; local = k.local }

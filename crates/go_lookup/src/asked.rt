@@ -28,7 +28,7 @@ pub struct Asked<'a> {
     pub tokens: &'a Tokens,
     /// What it is declared as there.
     pub meaning: Option<Meaning<'a>>,
-    pub lookup: Use,
+    pub lookup: &'a Use,
 }
 
 impl<'a> Asked<'a> {
@@ -82,14 +82,19 @@ fn selected_of(tokens: &Tokens, role: Role) -> &[u8]
 }
 
 /// A name that is looked up, which means this.
-fn ask<'a>(file: u32, tokens: &'a Tokens, lookup: &Use, meaning: Option<Meaning<'a>>) -> Asked<'a>
-    ensures { (ms : List meanings.Meaning) → option_map meaning_view meaning.entry ≡ meaning_at ms file lookup.now.name (word tokens.entry.now lookup.now.name) → asked_view result ≡ asked ms file tokens.entry.now lookup.now }
+fn ask<'a>(
+    file: u32,
+    tokens: &'a Tokens,
+    lookup: &'a Use,
+    meaning: Option<Meaning<'a>>,
+) -> Asked<'a>
+    ensures { (ms : List meanings.Meaning) → option_map meaning_view meaning.entry ≡ meaning_at ms file lookup.entry.now.name (word tokens.entry.now lookup.entry.now.name) → asked_view result ≡ asked ms file tokens.entry.now lookup.entry.now }
 {
     Asked {
         file,
         tokens,
         meaning,
-        lookup: *lookup,
+        lookup,
     }
 }
 
@@ -97,10 +102,10 @@ fn ask<'a>(file: u32, tokens: &'a Tokens, lookup: &Use, meaning: Option<Meaning<
 fn asked_by<'a>(
     file: u32,
     tokens: &'a Tokens,
-    event: &Event,
+    event: &'a Event,
     meaning: Option<Meaning<'a>>,
 ) -> Option<Asked<'a>>
-    ensures { (ms : List meanings.Meaning) (asks : List rules.Asked) → IsNamed ms file tokens.entry.now event.now meaning.entry → asked_event ms file tokens.entry.now event.now asks ≡ option_to_list (option_map asked_view result) ++ asks }
+    ensures { (ms : List meanings.Meaning) (asks : List rules.Asked) → IsNamed ms file tokens.entry.now event.entry.now meaning.entry → asked_event ms file tokens.entry.now event.entry.now asks ≡ option_to_list (option_map asked_view result) ++ asks }
 {
     let Event::Use(lookup) = event else {
         return None;
@@ -115,10 +120,10 @@ fn asked_by<'a>(
 pub fn push_asked<'a>(
     out: &mut Vec<Asked<'a>>,
     file: u32,
-    unit: &Unit<'a>,
+    unit: &'a Unit<'a>,
     told: &[Option<Meaning<'a>>],
 ) -> Result<(), AllocError>
-    ensures { OnOk result ((ms : List meanings.Meaning) → AreNamed ms file unit.now.tokens.now unit.now.events.items told.now → map asked_view out.new.items ≡ map asked_view out.old.items ++ unit_asked ms file (unit_view unit.now)) }
+    ensures { OnOk result ((ms : List meanings.Meaning) → AreNamed ms file unit.entry.now.tokens.now unit.entry.now.events.items told.now → map asked_view out.new.items ≡ map asked_view out.old.items ++ unit_asked ms file (unit_view unit.entry.now)) }
 {
     for (number, event) in unit.events.iter().enumerate() {
         if let Some(asked) = asked_by(file, unit.tokens, event, told_at(told, number)) {

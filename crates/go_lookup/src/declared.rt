@@ -6,7 +6,8 @@ ghost use Rattle.go_lookup.specs.Views.{found_view};
 
 use crate::found::Found;
 use go_tree::context::{Block, Entity};
-use go_tree::object::{Declared, Object};
+use go_tree::meant::Meant;
+use go_tree::object::Declared;
 use go_tree::uses::Uses;
 use std::alloc::{AllocError, Global};
 
@@ -90,7 +91,7 @@ pub fn function_locals(
 /// Want of memory.
 pub fn uses_of(
     alloc: Global,
-    objects: Vec<Vec<Option<Object>>>,
+    objects: Vec<Vec<Meant>>,
     declared: &[Found<'_>],
 ) -> Result<Uses, AllocError>
     requires { IsComplete (uses_by (map (λ v. v.items) objects.items) (map found_view declared.now)) }

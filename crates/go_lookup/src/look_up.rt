@@ -15,7 +15,7 @@ use crate::sweep::event_meanings;
 use crate::table::{owners_of, token_objects};
 use crate::unit::Unit;
 use go_base::Memory;
-use go_tree::object::Object;
+use go_tree::meant::Meant;
 use std::alloc::Global;
 
 /// What the names of a package mean.
@@ -24,21 +24,21 @@ pub struct LookedUp<'a> {
     /// The names that are looked up, in order, with their meanings.
     pub asked: Vec<Asked<'a>>,
     /// The objects of the tokens of each file.
-    pub objects: Vec<Vec<Option<Object>>>,
+    pub objects: Vec<Vec<Meant>>,
 }
 
 /// What the names of the files mean, where the package has these meanings.
 fn look_up_files<'a>(
     alloc: Global,
     sorted: &Sorted<'a>,
-    units: &[Unit<'a>],
+    units: &'a [Unit<'a>],
 ) -> Result<LookedUp<'a>, Memory>
     requires few { length units.now ≤ 256 }
     requires sorted { IsSorted sorted.now }
     requires locals { (n : ℕ) → AreSwept 0 (locals_of n (all_of sorted.now)) × AreNested (locals_of n (all_of sorted.now)) }
     requires orderly { AreOrderly (units_view units.now) }
-    ensures asked { IfOk result (λ r. map asked_view r.asked.items ≡ asked_from (all_of sorted.now) 0 (units_view units.now)) }
-    ensures objects { IfOk result (λ r. map (λ v. v.items) r.objects.items ≡ objects_from (all_of sorted.now) 0 (units_view units.now)) }
+    ensures asked { IfOk result (λ r. map asked_view r.asked.items ≡ asked_from (all_of sorted.now) 0 (units_view units.entry.now)) }
+    ensures objects { IfOk result (λ r. map (λ v. v.items) r.objects.items ≡ objects_from (all_of sorted.now) 0 (units_view units.entry.now)) }
 {
     let owners = owners_of(alloc, &sorted.all)?;
     let mut asked = Vec::new(alloc);
@@ -56,13 +56,13 @@ fn look_up_files<'a>(
 fn asked_in_files<'a>(
     alloc: Global,
     sorted: &Sorted<'a>,
-    units: &[Unit<'a>],
+    units: &'a [Unit<'a>],
 ) -> Result<Vec<Asked<'a>>, Memory>
     requires few { length units.now ≤ 256 }
     requires sorted { IsSorted sorted.now }
     requires locals { (n : ℕ) → AreSwept 0 (locals_of n (all_of sorted.now)) × AreNested (locals_of n (all_of sorted.now)) }
     requires orderly { AreOrderly (units_view units.now) }
-    ensures { IfOk result (λ v. map asked_view v.items ≡ asked_from (all_of sorted.now) 0 (units_view units.now)) }
+    ensures { IfOk result (λ v. map asked_view v.items ≡ asked_from (all_of sorted.now) 0 (units_view units.entry.now)) }
 {
     let mut asked = Vec::new(alloc);
     for (number, unit) in units.iter().enumerate() {
@@ -81,13 +81,13 @@ fn asked_in_files<'a>(
 /// Want of memory.
 pub fn names_asked<'a>(
     alloc: Global,
-    units: &[Unit<'a>],
+    units: &'a [Unit<'a>],
     entries: &'a [Entry<'a>],
 ) -> Result<Vec<Asked<'a>>, Memory>
     requires few { length units.now ≤ 256 }
     requires orderly { AreOrderly (units_view units.now) }
     requires entries { map entry_view entries.now ≡ meanings (units_view units.now) }
-    ensures { IfOk result (λ v. map asked_view v.items ≡ asked_from (meanings (units_view units.now)) 0 (units_view units.now)) }
+    ensures { IfOk result (λ v. map asked_view v.items ≡ asked_from (meanings (units_view units.entry.now)) 0 (units_view units.entry.now)) }
 {
     let sorted = by_block(alloc, meanings(alloc, entries)?)?;
     asked_in_files(alloc, &sorted, units)
@@ -100,14 +100,14 @@ pub fn names_asked<'a>(
 /// Want of memory.
 pub fn look_up<'a>(
     alloc: Global,
-    units: &[Unit<'a>],
+    units: &'a [Unit<'a>],
     entries: &'a [Entry<'a>],
 ) -> Result<LookedUp<'a>, Memory>
     requires few { length units.now ≤ 256 }
     requires orderly { AreOrderly (units_view units.now) }
     requires entries { map entry_view entries.now ≡ meanings (units_view units.now) }
-    ensures asked { IfOk result (λ r. map asked_view r.asked.items ≡ asked_from (meanings (units_view units.now)) 0 (units_view units.now)) }
-    ensures objects { IfOk result (λ r. map (λ v. v.items) r.objects.items ≡ objects (units_view units.now)) }
+    ensures asked { IfOk result (λ r. map asked_view r.asked.items ≡ asked_from (meanings (units_view units.entry.now)) 0 (units_view units.entry.now)) }
+    ensures objects { IfOk result (λ r. map (λ v. v.items) r.objects.items ≡ objects (units_view units.entry.now)) }
 {
     let sorted = by_block(alloc, meanings(alloc, entries)?)?;
     look_up_files(alloc, &sorted, units)

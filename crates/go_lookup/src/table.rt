@@ -1,6 +1,6 @@
 //! The objects of the tokens of each file.
 
-ghost use Rattle.std.specs.Prelude.{◌≡◌, ℕ, List, IfOk, None, length, map, replicate, set};
+ghost use Rattle.std.specs.Prelude.{◌≡◌, ℕ, List, IfOk, OnOk, None, length, map, replicate, set};
 ghost use Rattle.std.specs.Option.{option_map};
 ghost use Rattle.go_tree.specs.Meanings.{meaning_at};
 ghost use Rattle.go_tree.specs.Objects.{object_at, own_object};
@@ -12,8 +12,10 @@ ghost use Rattle.go_lookup.specs.Sorted.{IsNamed, AreNamed};
 use crate::meaning::{Meaning, object_by};
 use crate::sweep::told_at;
 use crate::unit::{Unit, is_blank, word};
+use go_base::Memory;
 use go_tokens::tokens::Tokens;
 use go_tree::event::Event;
+use go_tree::meant::Meant;
 use go_tree::object::Object;
 use std::alloc::{AllocError, Global};
 use std::collections::HashMap;
@@ -62,14 +64,14 @@ fn own_object(
 }
 
 /// As many tokens without an object.
-fn no_objects(alloc: Global, count: u32) -> Result<Vec<Option<Object>>, AllocError>
+fn no_objects(alloc: Global, count: u32) -> Result<Vec<Meant>, AllocError>
     ensures { IfOk result (λ v. v.items ≡ replicate count None) }
 {
-    vec![in alloc; None; count as usize]
+    vec![in alloc; Meant::nothing(); count as usize]
 }
 
 /// Writes the object of a token, if there is such a token.
-fn put(objects: &mut Vec<Option<Object>>, token: u32, object: Option<Object>)
+fn put(objects: &mut Vec<Meant>, token: u32, object: Meant)
     ensures { objects.new.items ≡ set objects.old.items token object }
 {
     if (token as usize) < objects.len() {
@@ -79,30 +81,32 @@ fn put(objects: &mut Vec<Option<Object>>, token: u32, object: Option<Object>)
 
 /// Writes the object of the token that the event is about, whose name means this.
 fn put_event(
-    objects: &mut Vec<Option<Object>>,
+    objects: &mut Vec<Meant>,
     owners: &Owners,
     file: u32,
     tokens: &Tokens,
     event: &Event,
     meaning: Option<Meaning<'_>>,
-)
-    ensures { (ms : List meanings.Meaning) → Owns owners.now ms → IsNamed ms file tokens.now event.now meaning.entry → objects.new.items ≡ over_event ms file tokens.now event.now objects.old.items }
+) -> Result<(), Memory>
+    ensures { OnOk result ((ms : List meanings.Meaning) → Owns owners.now ms → IsNamed ms file tokens.now event.now meaning.entry → objects.new.items ≡ over_event ms file tokens.now event.now objects.old.items) }
 {
     match event {
         Event::Use(lookup) => {
             let name = word(tokens, lookup.name);
-            put(objects, lookup.name, named_object(name, meaning));
+            put(
+                objects,
+                lookup.name,
+                Meant::of(named_object(name, meaning))?,
+            );
         }
         Event::Declaration(d) => {
             let name = word(tokens, d.name);
-            put(
-                objects,
-                d.name,
-                own_object(owners, file, d.name, name, meaning),
-            );
+            let object = own_object(owners, file, d.name, name, meaning);
+            put(objects, d.name, Meant::of(object)?);
         }
         _ => {}
     }
+    Ok(())
 }
 
 /// The objects of the tokens of a file, whose events' names mean what is told; of several events at one token the first counts.
@@ -112,7 +116,7 @@ pub fn token_objects(
     file: u32,
     unit: &Unit<'_>,
     told: &[Option<Meaning<'_>>],
-) -> Result<Vec<Option<Object>>, AllocError>
+) -> Result<Vec<Meant>, Memory>
     ensures { IfOk result (λ v. (ms : List meanings.Meaning) → Owns owners.now ms → AreNamed ms file (unit_view unit.now).tokens (unit_view unit.now).events told.now → v.items ≡ unit_objects ms file (unit_view unit.now)) }
 {
     let mut out = no_objects(alloc, unit.tokens.count())?;
@@ -124,7 +128,7 @@ pub fn token_objects(
             unit.tokens,
             &unit.events[number],
             told_at(told, number),
-        );
+        )?;
     }
     Ok(out)
 }

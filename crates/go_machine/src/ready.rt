@@ -78,8 +78,8 @@ pub fn constant_of(node: &TypedNode) -> Result<Value, Memory>
     ensures { IfOk result (λ v. (p : PackageView) → view v ≡ constant_in (sort_seen p.types (out-TypedNode node.now).label.sort)) }
 {
     match &node.label.sort {
-        Sort::Constant(_, constant) => Value::of_constant(constant),
-        Sort::OpenConstant(constant) => Value::of_constant(constant),
+        Sort::Constant(_, constant) => Value::of_constant(constant.get()),
+        Sort::OpenConstant(constant) => Value::of_constant(constant.get()),
         _ => Ok(Value::NilFunction),
     }
 }

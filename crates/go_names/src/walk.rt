@@ -24,6 +24,7 @@ pub fn events(alloc: Global, file: &Node) -> Result<Vec<Event>, AllocError>
 {
     let mut out = Vec::new(alloc);
     walk(&file_context(file.last()), file, &mut out)?;
+    out.shrink_to_fit();
     Ok(out)
 }
 

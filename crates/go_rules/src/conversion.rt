@@ -157,7 +157,11 @@ fn value_type(types: &Types, basics: Basics, sort: &Sort) -> Option<TypeId>
         Sort::Value(of) => Some(*of),
         Sort::Constant(of, _) => Some(*of),
         Sort::Open(kind) => Some(default_type(types, basics, untyped_kind(*kind))),
-        Sort::OpenConstant(constant) => Some(default_type(types, basics, const_kind(constant))),
+        Sort::OpenConstant(constant) => Some(default_type(
+            types,
+            basics,
+            const_kind(constant.get()),
+        )),
         _ => None,
     }
 }

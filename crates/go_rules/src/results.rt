@@ -5,17 +5,17 @@ ghost use Rattle.go_constants.specs.Folding.{folded};
 ghost use Rattle.go_types.specs.Tables.{type_of, rights_of};
 ghost use Rattle.go_typed.specs.Views.{sort_seen, KnownSort};
 ghost use Rattle.go_rules.specs.Faults.{least, judged, refusal_of};
-ghost use Rattle.go_rules.specs.Seen.{one_fault, common_seen, KnownJoint};
+ghost use Rattle.go_rules.specs.Seen.{common_seen, KnownJoint};
 ghost use Rattle.go_rules.specs.Sorts.{constant_of};
 ghost use Rattle.go_rules.specs.Operators.{open_value, value_in, constant_in, result_in, out_of_range, folded_both};
 
 use crate::family::OpenKind;
-use crate::fault::{Place, TypeError, TypeFault};
+use crate::fault::{Place, TypeError};
 use crate::operators::Joint;
 use crate::sorts::{constant_of, represents};
 use go_base::FaultCode;
 use go_constants::{Const, ConstFault, ConstOp, fold};
-use go_typed::{Sort, Untyped};
+use go_typed::{SharedConst, Sort, Untyped};
 use go_types::Types;
 use std::alloc::Global;
 
@@ -45,23 +45,28 @@ pub fn value_in(types: &Types, joint: Joint) -> Sort
 }
 
 /// A constant, where its type has the value.
+///
+/// # Errors
+///
+/// The fault, or want of memory.
 pub fn constant_in(
+    alloc: Global,
     types: &Types,
     place: Place,
     joint: Joint,
     value: Const,
-) -> Result<Sort, TypeFault>
+) -> Result<Sort, TypeError>
     requires { KnownJoint (length types.now.shapes) joint }
-    ensures exact { let c = common_seen types.now joint in Gives (sort_seen types.now) one_fault result (judged (least (out_of_range (rights_of types.now) place.first place.last c (Some (Ok value)))) (constant_in c value)) }
+    ensures exact { let c = common_seen types.now joint in Gives (sort_seen types.now) refusal_of result (judged (least (out_of_range (rights_of types.now) place.first place.last c (Some (Ok value)))) (constant_in c value)) }
     ensures known { IfOk result (KnownSort (length types.now.shapes)) }
 {
     match joint {
         Joint::Type(of) => if represents(types, of, &value) {
-            Ok(Sort::Constant(of, value))
+            Ok(Sort::Constant(of, SharedConst::of(alloc, value)?))
         } else {
-            Err(place.fault(FaultCode::Representable))
+            Err(TypeError::Fault(place.fault(FaultCode::Representable)))
         },
-        Joint::Kind(_) => Ok(Sort::OpenConstant(value)),
+        Joint::Kind(_) => Ok(Sort::OpenConstant(SharedConst::of(alloc, value)?)),
     }
 }
 
@@ -81,7 +86,7 @@ pub fn computed(
     ensures known { IfOk result (KnownSort (length types.now.shapes)) }
 {
     match fold(alloc, op, left, right) {
-        Ok(value) => Ok(constant_in(types, place, joint, value)?),
+        Ok(value) => constant_in(alloc, types, place, joint, value),
         Err(ConstFault::TooWide) => Err(TypeError::Fault(place.fault(FaultCode::Representable))),
         Err(ConstFault::Memory) => Err(TypeError::Memory),
         Err(_) => Ok(Sort::Unknown),

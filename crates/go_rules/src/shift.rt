@@ -51,7 +51,7 @@ pub fn is_count(types: &Types, sort: &Sort) -> bool
 {
     match sort {
         Sort::Open(_) => false,
-        Sort::Constant(_, constant) => is_whole(types, sort) && !is_negative(Some(constant)),
+        Sort::Constant(_, constant) => is_whole(types, sort) && !is_negative(Some(constant.get())),
         _ => is_whole(types, sort),
     }
 }

@@ -66,7 +66,7 @@ pub fn open_kind(_types: &Types, sort: &Sort) -> Option<OpenKind>
         Sort::Open(Untyped::Boolean) => Some(OpenKind::Boolean),
         Sort::Open(Untyped::Integer) => Some(OpenKind::Integer),
         Sort::Open(Untyped::Rune) => Some(OpenKind::Rune),
-        Sort::OpenConstant(constant) => Some(const_kind(constant)),
+        Sort::OpenConstant(constant) => Some(const_kind(constant.get())),
         _ => None,
     }
 }
@@ -96,8 +96,8 @@ pub fn constant_of<'a>(_types: &Types, sort: &'a Sort) -> Option<&'a Const>
     ensures { option_map (λ c. c.now) result ≡ constant_of (sort_seen _types.now sort.now) }
 {
     match sort {
-        Sort::Constant(_, constant) => Some(constant),
-        Sort::OpenConstant(constant) => Some(constant),
+        Sort::Constant(_, constant) => Some(constant.get()),
+        Sort::OpenConstant(constant) => Some(constant.get()),
         _ => None,
     }
 }
@@ -146,7 +146,7 @@ pub fn family(types: &Types, sort: &Sort) -> Option<Family>
         Sort::Constant(of, _) => type_family(types, *of),
         Sort::Open(Untyped::Boolean) => Some(Family::Booleans),
         Sort::Open(_) => Some(Family::Integers),
-        Sort::OpenConstant(constant) => Some(const_family(constant)),
+        Sort::OpenConstant(constant) => Some(const_family(constant.get())),
         _ => None,
     }
 }

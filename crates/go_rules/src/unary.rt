@@ -102,7 +102,7 @@ fn signed(
     match sign {
         Sign::Plus => {
             let value = constant.shared()?;
-            Ok(constant_in(types, place, joint, value)?)
+            constant_in(alloc, types, place, joint, value)
         }
         Sign::Minus => {
             let zero = Const::Int {

@@ -38,7 +38,11 @@ fn value_type(types: &Types, basics: Basics, sort: &Sort) -> Option<TypeId>
         Sort::Value(of) => Some(*of),
         Sort::Constant(of, _) => Some(*of),
         Sort::Open(untyped) => Some(default_type(types, basics, untyped_kind(*untyped))),
-        Sort::OpenConstant(constant) => Some(default_type(types, basics, const_kind(constant))),
+        Sort::OpenConstant(constant) => Some(default_type(
+            types,
+            basics,
+            const_kind(constant.get()),
+        )),
         _ => None,
     }
 }

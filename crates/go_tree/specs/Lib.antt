@@ -15,6 +15,7 @@ pub mod Lookups
 pub mod Meanings
 pub mod Needs
 pub mod Objects
+pub mod Packed
 pub mod Predeclared
 pub mod Redeclared
 pub mod Repeated

@@ -6,6 +6,7 @@ ghost use Rattle.go_tree.specs.declared.object.Declared.{Declared};
 ghost use Rattle.go_tree.specs.declared.object.Object.{Object};
 ghost use Rattle.go_tree.specs.Uses.{object_of, object_in, local_of, declared_as, has_declaration, may_mean, are_in_order, IsComplete};
 
+use crate::meant::Meant;
 use crate::object::{Declared, Object};
 use std::marker::Model;
 
@@ -16,7 +17,7 @@ use std::marker::Model;
 /// files and places, and a local is meant in its scope alone.
 #[derive(Debug, Drop)]
 pub struct Uses {
-    objects: Vec<Vec<Option<Object>>>,
+    objects: Vec<Vec<Meant>>,
     package_level: Vec<Declared>,
     locals: Vec<Vec<Declared>>,
 }
@@ -35,7 +36,7 @@ impl Model for Uses {
 impl Uses {
     /// The objects of the tokens of each file, those of the package, and the locals of each function.
     pub fn new(
-        objects: Vec<Vec<Option<Object>>>,
+        objects: Vec<Vec<Meant>>,
         package_level: Vec<Declared>,
         locals: Vec<Vec<Declared>>,
     ) -> Uses
@@ -119,9 +120,9 @@ impl Uses {
 }
 
 /// The object of a token, in a table by file and token.
-fn object_in(objects: &[Vec<Option<Object>>], file: usize, token: usize) -> Option<Object>
+fn object_in(objects: &[Vec<Meant>], file: usize, token: usize) -> Option<Object>
     ensures { result ≡ object_in (slice_get (map (λ v. v.items) objects.now) file) token }
 {
     let tokens = objects.get(file)?;
-    *tokens.get(token)?
+    tokens.get(token)?.object()
 }

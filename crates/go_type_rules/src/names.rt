@@ -4,7 +4,7 @@ ghost use Rattle.std.specs.Option.{option_map};
 ghost use Rattle.go_tree.specs.Uses.{object_of};
 ghost use Rattle.go_types.specs.Tables.{HasPartsBelow, WasDeclared, tree_of, type_of};
 ghost use Rattle.type_tests.specs.Extends.{Grows};
-ghost use Rattle.go_typed.specs.Trees.{IsType};
+ghost use Rattle.go_typed.specs.Trees.{IsType, OpenConstant};
 ghost use Rattle.go_typed.specs.Views.{sort_seen, KnownSort};
 ghost use Rattle.go_rules.specs.Hints.{hint_seen};
 ghost use Rattle.go_rules.specs.Names.{predeclared_sort, object_sort, need_of, name_sort};
@@ -17,8 +17,9 @@ use go_constants::Const;
 use go_ints::Kind;
 use go_rules::Hint;
 use go_tree::object::{Object, Predeclared};
-use go_typed::Sort;
+use go_typed::{SharedConst, Sort};
 use go_types::{Shape, Types};
+use std::alloc::Global;
 use type_tests::intern;
 
 /// The type of a shape, as what a node stands for.
@@ -32,12 +33,26 @@ pub fn shape_sort(types: &mut Types, shape: &Shape) -> Result<Sort, Memory>
     Ok(Sort::Type(intern(types, shape)?))
 }
 
+/// An untyped constant.
+fn open_constant(alloc: Global, types: &Types, constant: Const) -> Result<Sort, Memory>
+    ensures tree { IfOk result (λ s. sort_seen types.now s ≡ OpenConstant constant) }
+    ensures known { IfOk result (KnownSort (length types.now.shapes)) }
+{
+    let _types = types;
+    Ok(Sort::OpenConstant(SharedConst::of(alloc, constant)?))
+}
+
 /// What a predeclared name stands for (Go specification, "Predeclared identifiers").
 ///
 /// # Errors
 ///
 /// Want of memory.
-pub fn predeclared_sort(types: &mut Types, iota: u32, name: Predeclared) -> Result<Sort, Memory>
+pub fn predeclared_sort(
+    alloc: Global,
+    types: &mut Types,
+    iota: u32,
+    name: Predeclared,
+) -> Result<Sort, Memory>
     ensures grows { Grows types.old types.new }
     ensures sort { IfOk result (λ s. sort_seen types.new s ≡ predeclared_sort iota name) }
     ensures known { IfOk result (KnownSort (length types.new.shapes)) }
@@ -58,12 +73,16 @@ pub fn predeclared_sort(types: &mut Types, iota: u32, name: Predeclared) -> Resu
         Predeclared::Uint64 => shape_sort(types, &Shape::Int(Kind::Uint64)),
         Predeclared::Byte => shape_sort(types, &Shape::Int(Kind::Uint8)),
         Predeclared::Rune => shape_sort(types, &Shape::Int(Kind::Int32)),
-        Predeclared::True => Ok(Sort::OpenConstant(Const::Bool(true))),
-        Predeclared::False => Ok(Sort::OpenConstant(Const::Bool(false))),
-        Predeclared::Iota => Ok(Sort::OpenConstant(Const::Int {
-            value: i128::from(iota),
-            rune: false,
-        })),
+        Predeclared::True => open_constant(alloc, types, Const::Bool(true)),
+        Predeclared::False => open_constant(alloc, types, Const::Bool(false)),
+        Predeclared::Iota => open_constant(
+            alloc,
+            types,
+            Const::Int {
+                value: i128::from(iota),
+                rune: false,
+            },
+        ),
         Predeclared::Nil => Ok(Sort::Nil),
         Predeclared::Append
         | Predeclared::Cap
@@ -113,6 +132,7 @@ fn shared(types: &Types, sort: Option<&Sort>) -> Result<Sort, Memory>
 ///
 /// Want of memory.
 pub fn object_sort(
+    alloc: Global,
     types: &mut Types,
     scope: &Scope<'_>,
     need: Needed,
@@ -127,7 +147,12 @@ pub fn object_sort(
     match object {
         None => Ok(Sort::Blank),
         Some(Object::Import) => Ok(Sort::Package),
-        Some(Object::Predeclared(name)) => predeclared_sort(types, scope.locals.iota(), name),
+        Some(Object::Predeclared(name)) => predeclared_sort(
+            alloc,
+            types,
+            scope.locals.iota(),
+            name,
+        ),
         Some(object) => declared_sort(types, scope, need, object),
     }
 }
@@ -150,6 +175,7 @@ pub fn need_of(types: &Types, scope: &Scope<'_>, hint: Hint) -> Needed
 ///
 /// Want of memory.
 pub fn name_sort(
+    alloc: Global,
     types: &mut Types,
     scope: &Scope<'_>,
     hint: Hint,
@@ -164,6 +190,7 @@ pub fn name_sort(
     match hint {
         Hint::Declares | Hint::Free => Ok(Sort::Nothing),
         _ => object_sort(
+            alloc,
             types,
             scope,
             need_of(types, scope, hint),

@@ -163,7 +163,7 @@ fn sliced(types: &Types, basics: Basics, operand: &Sort) -> Sort
         Sort::Constant(of, _) => Sort::Value(*of),
         Sort::Open(kind) => Sort::Value(default_type(types, basics, untyped_kind(*kind))),
         Sort::OpenConstant(constant) => {
-            Sort::Value(default_type(types, basics, const_kind(constant)))
+            Sort::Value(default_type(types, basics, const_kind(constant.get())))
         }
         _ => Sort::Unknown,
     }

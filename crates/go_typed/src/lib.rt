@@ -9,6 +9,7 @@
 #![tactic(auto)]
 
 pub mod checked;
+pub mod constant;
 pub mod env;
 pub mod form;
 pub mod func;
@@ -23,6 +24,7 @@ pub mod walk;
 pub mod window;
 
 pub use checked::Checked;
+pub use constant::SharedConst;
 pub use env::Env;
 pub use form::{Form, Referent};
 pub use func::TypedFunc;

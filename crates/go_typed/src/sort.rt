@@ -2,8 +2,8 @@
 
 ghost use Rattle.std.specs.Prelude.{◌≡◌, IfOk};
 
+use crate::constant::SharedConst;
 use go_base::Memory;
-use go_constants::Const;
 use go_tree::object::Predeclared;
 use go_types::TypeId;
 
@@ -38,17 +38,17 @@ pub enum Sort {
     /// A value of a type (Expressions).
     Value(TypeId),
     /// A constant of a type (Constants).
-    Constant(TypeId, Const),
+    Constant(TypeId, SharedConst),
     /// An untyped value that is no constant (Operators, Comparison operators).
     Open(Untyped),
     /// An untyped constant; its kind is that of its value (Constants).
-    OpenConstant(Const),
+    OpenConstant(SharedConst),
     /// The results of a call, none or several, of a function of this type (Calls).
     Results(TypeId),
 }
 
 impl Sort {
-    /// The same once more; the bytes of a constant are shared.
+    /// The same once more; a constant is shared.
     ///
     /// # Errors
     ///

@@ -179,7 +179,7 @@ fn walk_parts<'a>(
     ensures parts { IfOk result (λ w. AllKnown (length types.new.shapes) w.parts.items) }
 {
     types.count();
-    let mut parts = Vec::new(alloc);
+    let mut parts = Vec::with_capacity(alloc, written.len())?;
     let mut tag = enclosing.tag.shared()?;
     let mut results = None;
     for place in written {

@@ -98,11 +98,11 @@ fn push_sort(
         Some(Sort::Value(ty)) => push_type(alloc, package, *ty, out),
         Some(Sort::Constant(ty, value)) => {
             push_type(alloc, package, *ty, out)?;
-            push_value(alloc, value, out)
+            push_value(alloc, value.get(), out)
         }
         Some(Sort::OpenConstant(value)) => {
-            out.extend_from_slice(untyped(value))?;
-            push_value(alloc, value, out)
+            out.extend_from_slice(untyped(value.get()))?;
+            push_value(alloc, value.get(), out)
         }
         _ => Ok(out.extend_from_slice(b"neither a value nor a constant")?),
     }

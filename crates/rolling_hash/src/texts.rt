@@ -34,7 +34,7 @@ pub fn final_fold(alloc: Global, names: Names<'_>, sort: &Sort) -> Result<u64, M
         Sort::Value(ty) => type_fold(alloc, names.checked, *ty),
         Sort::Constant(ty, _) => type_fold(alloc, names.checked, *ty),
         Sort::Open(untyped) => Ok(text_fold(open_text(*untyped))),
-        Sort::OpenConstant(value) => Ok(text_fold(constant_text(value))),
+        Sort::OpenConstant(value) => Ok(text_fold(constant_text(value.get()))),
         _ => Ok(text_fold(b"")),
     }
 }
@@ -80,8 +80,8 @@ pub fn value_fold(alloc: Global, sort: &Sort) -> Result<u64, Memory>
     ensures { IfOk result (λ h. h ≡ text_fold (value_text (value_of (sort_view sort.now)))) }
 {
     match sort {
-        Sort::Constant(_, value) => literal_fold(alloc, value),
-        Sort::OpenConstant(value) => literal_fold(alloc, value),
+        Sort::Constant(_, value) => literal_fold(alloc, value.get()),
+        Sort::OpenConstant(value) => literal_fold(alloc, value.get()),
         _ => Ok(text_fold(b"")),
     }
 }

@@ -4,8 +4,7 @@ use Rattle.go_base.specs.declared.fault.FaultCode.TheVariants as code
 use Rattle.go_types.specs.Tables.{rights_of}
 use Rattle.go_typed.specs.Views.{sort_seen}
 use Rattle.go_rules.specs.declared.fault.TypeFault.{TypeFault}
-use Rattle.go_rules.specs.Faults.{least, judged}
-use Rattle.go_rules.specs.Seen.{one_fault}
+use Rattle.go_rules.specs.Faults.{least, judged, refusal_of}
 use Rattle.go_rules.specs.Sorts.{Stands}
 use Rattle.go_rules.specs.Settling.{Part}
 use Rattle.go_rules.specs.Calls.{length_failing, length_sort}
@@ -17,7 +16,7 @@ pub returns-in-Some-clause-exact : goal.returns-in-Some-clause-exact
 returns-in-Some-clause-exact c =
     let t = c.args.types.now in
     let place = c.args.place in
-    subst (λ (xs : List Part). Gives (sort_seen t) one_fault c.length_of_operand.result (judged (least (length_failing (rights_of t) place.first place.last c.args.texts xs)) (length_sort (rights_of t) xs))) (sym c.in-Some.ensures.some) c.length_of_operand.ensures.exact
+    subst (λ (xs : List Part). Gives (sort_seen t) refusal_of c.length_of_operand.result (judged (least (length_failing (rights_of t) place.first place.last c.args.texts xs)) (length_sort (rights_of t) xs))) (sym c.in-Some.ensures.some) c.length_of_operand.ensures.exact
 
 pub returns-in-None-clause-exact : goal.returns-in-None-clause-exact
 returns-in-None-clause-exact c =

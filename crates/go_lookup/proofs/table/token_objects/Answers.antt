@@ -25,7 +25,7 @@ loop-number-preserved c ms owns told =
     let less : number - 1 < length events = omega (arith, c.loop-number-test.true, c.loop-number.auto.number, c.len-number.ensures) in
     let back = drop-back events number (number - 1) event (omega (arith, c.loop-number-test.true)) less c.index.ensures in
     let some : slice_get events (number - 1) ≡ Some event = get_some events (number - 1) event less ∙ ap (λ x. Some x) (sym c.index.ensures) in
-    c.put_event.ensures ms owns (c.told_at.ensures ms n ts events event told some)
+    c.in_ok-put_event.ensures ms owns (c.told_at.ensures ms n ts events event told some)
     ∙ ap (λ os. over_event ms n ts event os) (c.loop-number.invariant ms owns told)
     ∙ sym (token_objects-event ms n ts event (drop number events) (length ts.tokens))
     ∙ ap (λ es. token_objects ms n ts es 0 (length ts.tokens)) (sym back)

@@ -77,13 +77,13 @@ walk_parts-loop-place-init t c =
     let f = option_map (seen a) in record {
       extends = extends_self a;
       known = subst (λ y. KnownState a o k y rs) (sym c.in_ok-tag.ensures) c.requires.known;
-      parts = subst (AllKnown (length a.shapes)) (sym c.new-parts.ensures.items) tt;
+      parts = subst (AllKnown (length a.shapes)) (sym c.in_ok-parts.ensures.items) tt;
       reads = λ s has. record {
         frame = s;
         faults = [];
         sound = refl;
         shows = subst (λ y. Shows a o k y rs s) (sym c.in_ok-tag.ensures) has;
-        reads = ap (λ ns. readings s c.args.kind h ps (map f ns) [] ps) c.new-parts.ensures.items;
+        reads = ap (λ ns. readings s c.args.kind h ps (map f ns) [] ps) c.in_ok-parts.ensures.items;
       };
     }
 
