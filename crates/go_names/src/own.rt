@@ -1,16 +1,18 @@
 //! What a node tells by itself.
 
-ghost use Rattle.std.specs.Prelude.{◌≡◌, ◌<◌, ◌++◌, ◌∷◌, [], OnOk, false};
+ghost use Rattle.std.specs.Prelude.{◌≡◌, ◌<◌, ◌++◌, ◌∷◌, [], IfOk, OnOk, false, true};
 ghost use Rattle.go_grammar.specs.Trees.{kind_of, first, last, parts};
 ghost use Rattle.go_tree.specs.Views.{view, views, part_at};
 ghost use Rattle.go_tree.specs.declared.event.Event.TheVariants as event;
 ghost use Rattle.go_tree.specs.Contexts.{is_there};
+ghost use Rattle.go_tree.specs.Shortened.{is_looked_up};
 ghost use Rattle.go_tree.specs.Events.{declared, used, parameter_declared, parameter_events, name_events, function_declared, function_events, declaration_events, type_declared, misplaced, is_default, default_events, second_defaults, own_events, statement_events};
 
 use crate::enter::{has_part, scope_from};
 use go_grammar::kind::{Kind, Sort};
 use go_tree::context::{Block, Context, Entity, Manner, Naming, Role, Scope};
 use go_tree::event::{Declaration, Event, Member, Use};
+use go_tree::lookup::{LookupRole, LookupSite};
 use go_tree::node::Node;
 use std::alloc::AllocError;
 
@@ -33,11 +35,18 @@ fn member(member: Member, group: u32, name: u32) -> Event
     }
 }
 
-/// The declaration of a name.
-fn declared(context: &Context, name: u32, naming: Naming) -> Event
-    ensures { result ≡ declared context.now name naming }
+/// The number of a column in 32 bits; a larger one counts as want of memory.
+fn short_column(column: usize) -> Result<u32, AllocError>
+    ensures { IfOk result (λ n. n ≡ column) }
 {
-    Event::Declaration(Declaration {
+    u32::try_from(column).map_err(|_| AllocError)
+}
+
+/// The declaration of a name.
+fn declared(context: &Context, name: u32, naming: Naming) -> Result<Event, AllocError>
+    ensures { IfOk result (λ e. e ≡ declared context.now name naming) }
+{
+    Ok(Event::Declaration(Declaration {
         name,
         entity: naming.entity,
         manner: naming.manner,
@@ -45,21 +54,22 @@ fn declared(context: &Context, name: u32, naming: Naming) -> Event
         scope: naming.scope,
         statement: naming.statement,
         source: naming.source,
-        column: context.column,
-    })
+        column: short_column(context.column)?,
+    }))
 }
 
-/// The use of a name.
-fn used(context: &Context, name: u32) -> Event
-    ensures { result ≡ used context.now name }
+/// The use of a name, which is looked up.
+fn used(context: &Context, name: u32) -> Result<Event, AllocError>
+    requires { is_looked_up context.now.role ≡ true }
+    ensures { IfOk result (λ e. e ≡ used context.now name) }
 {
-    Event::Use(Use {
+    Ok(Event::Use(Use {
         name,
-        role: context.role,
-        site: context.site,
+        role: LookupRole::of(context.role),
+        site: LookupSite::of(context.site).ok_or(AllocError)?,
         constant: context.constant,
         initial: context.initial,
-    })
+    }))
 }
 
 /// The declaration of a parameter: in the block of the body.
@@ -95,20 +105,17 @@ fn push_parameter(
 }
 
 /// Puts what a name tells behind the others, by what it is for.
-fn push_name(
-    context: &Context,
-    name: u32,
-    role: Role,
-    out: &mut Vec<Event>,
-) -> Result<(), AllocError>
-    ensures { OnOk result (out.new.items ≡ out.old.items ++ name_events context.now name role) }
+fn push_name(context: &Context, name: u32, out: &mut Vec<Event>) -> Result<(), AllocError>
+    ensures { OnOk result (out.new.items ≡ out.old.items ++ name_events context.now name context.now.role) }
 {
-    match role {
-        Role::New(naming) => push(declared(context, name, naming), out),
+    match context.role {
+        Role::New(naming) => push(declared(context, name, naming)?, out),
         Role::Field { group } => push(member(Member::Field, group, name), out),
         Role::Key { group } => push(member(Member::Key, group, name), out),
         Role::Parameter { group, scope } => push_parameter(group, name, scope, out),
-        _ => push(used(context, name), out),
+        Role::Operand | Role::Assigned | Role::Called | Role::Selected { .. } => {
+            push(used(context, name)?, out)
+        }
     }
 }
 
@@ -236,8 +243,8 @@ pub fn push_own(context: &Context, node: &Node, out: &mut Vec<Event>) -> Result<
         Kind::ImportPath => push(Event::Import { path: first }, out),
         Kind::FunctionDeclaration => push_function_of(node, out),
         Kind::Specification(Sort::Type) => push(type_declared(context, first), out),
-        Kind::DeclaredName => push_name(context, first, context.role, out),
-        Kind::Name => push_name(context, first, context.role, out),
+        Kind::DeclaredName => push_name(context, first, out),
+        Kind::Name => push_name(context, first, out),
         Kind::Switch => push_second_defaults(node.parts(), out),
         Kind::Break => push_misplaced(context.breaks, first, last, out),
         Kind::Continue => push_misplaced(context.continues, first, last, out),

@@ -12,6 +12,7 @@ pub mod Elements
 pub mod Encodings
 pub mod Ordered
 pub mod Files
+pub mod Rows
 pub mod Places
 pub mod Spelled
 pub mod Examples

@@ -6,6 +6,7 @@ pub mod Pieces
 pub mod Lexing
 pub mod Encoding
 pub mod Files
+pub mod Rows
 pub mod Progress
 pub mod Replacing
 pub mod Editing

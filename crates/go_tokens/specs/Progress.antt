@@ -6,6 +6,7 @@ use Rattle.go_tokens.specs.Encoding.{are_allowed, encoding_fault}
 use Rattle.go_tokens.specs.declared.token.Token.{Token}
 use Rattle.go_tokens.specs.declared.lexer.Lexer.{Lexer}
 use Rattle.go_tokens.specs.Pieces.{kind}
+use Rattle.go_tokens.specs.Rows.{all_in_file}
 use Rattle.go_tokens.specs.Lexing.{is_token, is_break, is_comment_kind, ends_statement, width, span, token, token_kind, inserted}
 
 pub record State : Type 0 where
@@ -15,7 +16,7 @@ pub record State : Type 0 where
   pub pending : Option ℕ
 
 abbrev pub state : Lexer → State
-state l = record { tokens = l.tokens.items; comments = l.comments.items; pending = l.pending }
+state l = record { tokens = all_in_file l.file l.tokens.items; comments = l.comments.items; pending = l.pending }
 
 abbrev pub due : ℕ → Option ℕ → List Token
 due file None = []

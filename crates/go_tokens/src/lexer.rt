@@ -5,6 +5,7 @@ ghost use Rattle.go_base.specs.Gives.{Meets};
 ghost use Rattle.go_tokens.specs.Pieces.{kind as kind_of};
 ghost use Rattle.go_tokens.specs.Lexing.{width, span, Lexes, IsTokenFault, covered};
 ghost use Rattle.go_tokens.specs.Files.{lex_refusal};
+ghost use Rattle.go_tokens.specs.Rows.{all_in_file};
 ghost use Rattle.go_tokens.specs.Progress.{state, taken, line_ended};
 
 use crate::error::LexError;
@@ -12,7 +13,7 @@ use crate::judge::{defect, is_break, token_kind};
 use crate::piece::PieceKind;
 use crate::scan::first_piece;
 use crate::spelling::ends_statement;
-use crate::token::{Token, TokenKind};
+use crate::token::{PlacedKind, TokenKind};
 use go_base::{Fault, FaultCode, Span};
 use std::alloc::{AllocError, Global};
 
@@ -20,7 +21,7 @@ use std::alloc::{AllocError, Global};
 #[derive(Drop)]
 pub struct Lexer {
     file: u32,
-    pub tokens: Vec<Token>,
+    pub tokens: Vec<PlacedKind>,
     pub comments: Vec<Span>,
     /// The end of the last token, where a semicolon follows it if its line ends.
     pending: Option<u32>,
@@ -52,18 +53,19 @@ impl Lexer {
     }
 
     /// Takes the next piece of a text, which begins at a place.
+    #[tactic(auto, using(crate::proofs::Rows::push_in_file))]
     fn take(&mut self, at: u32, kind: PieceKind, text: &[char]) -> Result<(), AllocError>
         requires kind { kind ≡ kind_of text.now }
         requires fits { at + width text.now < 2 ^ 32 }
+        requires short { width text.now < 2 ^ 24 }
         ensures state { OnOk result (state self.new ≡ taken self.old.file at text.now (state self.old)) }
         ensures file { self.new.file ≡ self.old.file }
     {
         let length = width(text);
-        let place = span(self.file, at, length);
         match kind {
             PieceKind::White | PieceKind::LineComment | PieceKind::BlockComment => {
                 if kind != PieceKind::White {
-                    self.comments.push(place)?;
+                    self.comments.push(span(self.file, at, length))?;
                 }
                 if is_break(kind, text) {
                     self.end_line()?;
@@ -71,10 +73,7 @@ impl Lexer {
             }
             _ => {
                 let token = token_kind(kind, text);
-                self.tokens.push(Token {
-                    kind: token,
-                    span: place,
-                })?;
+                self.tokens.push(PlacedKind::new(token, at, length))?;
                 self.pending = ends_statement(token).then_some(at + length);
             }
         }
@@ -82,15 +81,14 @@ impl Lexer {
     }
 
     /// Inserts the semicolon that is due where a line ends.
+    #[tactic(auto, using(crate::proofs::Rows::push_in_file))]
     fn end_line(&mut self) -> Result<(), AllocError>
         ensures state { OnOk result (state self.new ≡ line_ended self.old.file (state self.old)) }
         ensures file { self.new.file ≡ self.old.file }
     {
         if let Some(end) = self.pending {
-            self.tokens.push(Token {
-                kind: TokenKind::Semicolon,
-                span: span(self.file, end, 0),
-            })?;
+            self.tokens
+                .push(PlacedKind::new(TokenKind::Semicolon, end, 0))?;
             self.pending = None;
         }
         Ok(())
@@ -99,8 +97,8 @@ impl Lexer {
 
 /// The tokens and comments of the characters of a file.
 pub fn lex_text(alloc: Global, file: u32, text: &[char]) -> Result<Lexer, LexError>
-    requires { width text.now < 2 ^ 31 }
-    ensures exact { Meets lex_refusal result (λ lexer. Lexes file text.now lexer.tokens.items lexer.comments.items) (IsTokenFault file text.now) }
+    requires { width text.now < 2 ^ 24 }
+    ensures exact { Meets lex_refusal result (λ lexer. Lexes file text.now (all_in_file file lexer.tokens.items) lexer.comments.items) (IsTokenFault file text.now) }
 {
     let mut lexer = Lexer::new(alloc, file);
     let mut index = 0;
@@ -122,6 +120,8 @@ pub fn lex_text(alloc: Global, file: u32, text: &[char]) -> Result<Lexer, LexErr
         index = end;
     }
     lexer.end_line()?;
+    lexer.tokens.shrink_to_fit();
+    lexer.comments.shrink_to_fit();
     Ok(lexer)
 }
 

@@ -22,6 +22,7 @@ pub mod lex;
 mod lexer;
 pub mod literal;
 pub mod piece;
+mod placed;
 mod scan;
 mod spelling;
 pub mod token;

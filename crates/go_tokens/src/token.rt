@@ -1,5 +1,7 @@
 //! What a token is.
 
+ghost use Rattle.std.specs.Prelude.{◌+◌, ◌*◌, ◌<◌, ◌^◌};
+
 use go_base::Span;
 
 /// The sorts of tokens (Go specification: Tokens, Keywords, Operators and punctuation).
@@ -90,4 +92,15 @@ pub enum TokenKind {
 pub struct Token {
     pub kind: TokenKind,
     pub span: Span,
+}
+
+/// A token and where it stands in its file: what a `Token` says, in less room, since all tokens of a row have one file. Its length
+/// has 24 bits, which are split.
+#[derive(Clone, Copy, Debug)]
+pub(crate) struct PlacedKind {
+    pub(crate) start: u32,
+    pub(crate) kind: TokenKind,
+    pub(crate) high: u8,
+    pub(crate) low: u16,
+    pub(crate) ghost fits: { start + (high * 65536 + low) < 2 ^ 32 },
 }

@@ -2,9 +2,10 @@
 
 ghost use Rattle.std.specs.Prelude.{◌≡◌, ℕ, ◌<◌, ◌≤◌, ◌^◌, IfOk, List, length, slice_get, slice_range, Some, count_by};
 ghost use Rattle.std.specs.Option.{option_map};
+ghost use Rattle.go_tokens.specs.Rows.{all_in_file};
 ghost use Rattle.go_tokens.specs.Tokens.{TokenList, IsTokenList, are_between, text_of};
 
-use crate::token::Token;
+use crate::token::{PlacedKind, Token};
 use go_base::Span;
 use std::alloc::{AllocError, Global};
 use std::marker::Model;
@@ -14,26 +15,32 @@ use std::marker::Model;
 pub struct Tokens {
     file: u32,
     bytes: Vec<u8>,
-    tokens: Vec<Token>,
+    tokens: Vec<PlacedKind>,
     comments: Vec<Span>,
 }
 
 impl Model for Tokens {
     ghost use Rattle.std.specs.Prelude.{};
+    ghost use Rattle.go_tokens.specs.Rows.{all_in_file};
     ghost use Rattle.go_tokens.specs.Tokens.{TokenList, IsTokenList};
 
     ghost Value = { TokenList };
 
-    ghost view = { λ t. record { file = t.file; text = t.bytes.items; tokens = t.tokens.items; comments = t.comments.items } };
+    ghost view = { λ t. record { file = t.file; text = t.bytes.items; tokens = all_in_file t.file t.tokens.items; comments = t.comments.items } };
 
-    ghost invariant = { λ t. IsTokenList (record { file = t.file; text = t.bytes.items; tokens = t.tokens.items; comments = t.comments.items }) };
+    ghost invariant = { λ t. IsTokenList (record { file = t.file; text = t.bytes.items; tokens = all_in_file t.file t.tokens.items; comments = t.comments.items }) };
 }
 
 impl Tokens {
     /// The tokens and comments of a file with these bytes.
-    pub(crate) fn of(file: u32, bytes: Vec<u8>, tokens: Vec<Token>, comments: Vec<Span>) -> Tokens
-        requires { IsTokenList (record { file = file; text = bytes.items; tokens = tokens.items; comments = comments.items }) }
-        ensures { result ≡ record { file = file; text = bytes.items; tokens = tokens.items; comments = comments.items } }
+    pub(crate) fn of(
+        file: u32,
+        bytes: Vec<u8>,
+        tokens: Vec<PlacedKind>,
+        comments: Vec<Span>,
+    ) -> Tokens
+        requires { IsTokenList (record { file = file; text = bytes.items; tokens = all_in_file file tokens.items; comments = comments.items }) }
+        ensures { result ≡ record { file = file; text = bytes.items; tokens = all_in_file file tokens.items; comments = comments.items } }
     {
         Tokens {
             file,
@@ -61,6 +68,7 @@ impl Tokens {
     }
 
     /// How many tokens there are.
+    #[tactic(auto, using(crate::proofs::Rows::length_in_file))]
     pub fn count(&self) -> u32
         ensures count { result ≡ length self.now.tokens }
         ensures list { IsTokenList self.now }
@@ -69,11 +77,12 @@ impl Tokens {
     }
 
     /// The token of this number, from 0.
+    #[tactic(auto, using(crate::proofs::Rows::length_in_file, crate::proofs::Rows::get_in_file))]
     pub fn get(&self, i: u32) -> Token
         requires { i < length self.now.tokens }
         ensures { slice_get self.now.tokens i ≡ Some result }
     {
-        self.tokens[i as usize]
+        self.tokens[i as usize].in_file(self.file)
     }
 
     /// The bytes of a token; an inserted semicolon has none.

@@ -19,6 +19,7 @@ pub mod Packed
 pub mod Predeclared
 pub mod Redeclared
 pub mod Repeated
+pub mod Shortened
 pub mod Spans
 pub mod Units
 pub mod Uses

@@ -1,6 +1,7 @@
 //! What the nodes of a tree have to do with names. Numbers are those of tokens of the file.
 
-use crate::context::{Block, Entity, Manner, Role, Scope, Site};
+use crate::context::{Block, Entity, Manner, Scope};
+use crate::lookup::{LookupRole, LookupSite};
 
 /// A name is declared, or, before `:=`, perhaps only named again.
 #[derive(Clone, Copy, Debug, PartialEq, Eq)]
@@ -17,16 +18,16 @@ pub struct Declaration {
     /// The first token of the specification whose type and values it has, if there is one.
     pub source: Option<u32>,
     /// Its number among the names that are declared together.
-    pub column: usize,
+    pub column: u32,
 }
 
 /// A name is looked up.
-#[derive(Clone, Copy, Debug, PartialEq, Eq)]
+#[derive(Clone, Copy, Debug)]
 pub struct Use {
     /// The token of the name.
     pub name: u32,
-    pub role: Role,
-    pub site: Site,
+    pub role: LookupRole,
+    pub site: LookupSite,
     /// Whether it stands in a declaration of constants.
     pub constant: bool,
     /// Whether it stands in the value of a package's variable.
@@ -42,7 +43,7 @@ pub enum Member {
 }
 
 /// What a node has to do with names.
-#[derive(Clone, Copy, Debug, PartialEq, Eq)]
+#[derive(Clone, Copy, Debug)]
 pub enum Event {
     /// A path is imported.
     Import {

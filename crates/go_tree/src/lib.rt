@@ -15,6 +15,7 @@ pub mod event;
 pub mod file;
 pub mod functions;
 pub mod laws;
+pub mod lookup;
 pub mod meant;
 pub mod node;
 pub mod object;

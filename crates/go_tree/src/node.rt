@@ -19,15 +19,14 @@ pub struct Node {
 
 impl Node {
     /// A node over the tokens from `first` up to `last`.
-    pub fn new(kind: Kind, first: u32, last: u32, mut parts: Vec<Option<Node>>) -> Node
+    pub fn new(kind: Kind, first: u32, last: u32, parts: Vec<Option<Node>>) -> Node
         ensures { view result ≡ node kind first last (views parts.items) }
     {
-        parts.shrink_to_fit();
         Node {
             kind,
             first,
             last,
-            parts,
+            parts: fitted(parts),
         }
     }
 
@@ -71,6 +70,23 @@ impl Node {
         ensures { views result.now ≡ behind_first (parts (view self.now)) }
     {
         rest(self.parts())
+    }
+}
+
+/// The row with no room for more parts. It is made anew, since a row that is cut in place leaves room that hardly another fits;
+/// where memory lacks it is the row as it was.
+fn fitted(mut parts: Vec<Option<Node>>) -> Vec<Option<Node>>
+    ensures { result.items ≡ parts.items }
+{
+    if parts.len() == parts.capacity() {
+        return parts;
+    }
+    let Ok(mut row) = Vec::with_capacity(*parts.allocator(), parts.len()) else {
+        return parts;
+    };
+    match row.append(&mut parts) {
+        Ok(()) => row,
+        Err(_) => parts,
     }
 }
 

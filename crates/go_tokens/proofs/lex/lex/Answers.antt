@@ -1,5 +1,6 @@
 use Rattle.std.proofs.Common.{rules, ◌≡◌, ◌∙◌, length, Ok, sym, ap, subst, arith}
 use Rattle.go_tokens.specs.Encoding.{IsText}
+use Rattle.go_tokens.specs.Rows.{all_in_file}
 use Rattle.go_tokens.proofs.Encodings.{text_width}
 use Rattle.go_tokens.proofs.Ordered.{Placed, placed}
 use Rattle.go_tokens.proofs.Files.{lexing_of, fault_of}
@@ -12,7 +13,7 @@ pub of-requires : goal.of-requires
 of-requires c =
     let text = subst (λ l. IsText l c.args.bytes.now) (sym c.deref.ensures.value) c.in_ok-text.ensures.exact in
     let wide : length c.args.bytes.now ≡ length c.in_ok-bytes.bytes.items = ap length (sym c.in_ok-bytes.ensures.items) in
-    let at : Placed c.in_ok-lexer.lexer.tokens.items c.in_ok-lexer.lexer.comments.items (length c.in_ok-bytes.bytes.items) = placed c.args.file c.deref.result.now _ _ _ c.in_ok-lexer.ensures.exact (text_width c.deref.result.now c.args.bytes.now text ∙ wide) in
+    let at : Placed (all_in_file c.args.file c.in_ok-lexer.lexer.tokens.items) c.in_ok-lexer.lexer.comments.items (length c.in_ok-bytes.bytes.items) = placed c.args.file c.deref.result.now _ _ _ c.in_ok-lexer.ensures.exact (text_width c.deref.result.now c.args.bytes.now text ∙ wide) in
     record {
       short = omega (arith, c.requires, wide);
       few = omega (arith, c.requires, wide, at.few);

@@ -1,6 +1,9 @@
 use Rattle.std.proofs.Common.{◌∙◌, ◌≡◌, ◌+◌, ◌-◌, ℕ, Bool, None, List, length, length-drop, take, drop, sym, ap, subst, arith}
 use Rattle.std.proofs.lemmas.List.{take_rest}
+use Rattle.go_base.specs.declared.Span.{Span}
+use Rattle.go_tokens.specs.declared.token.PlacedKind.{PlacedKind}
 use Rattle.go_tokens.specs.Pieces.{defect_by}
+use Rattle.go_tokens.specs.Rows.{all_in_file}
 use Rattle.go_tokens.specs.Lexing.{width, Lexes, IsFirst}
 use Rattle.go_tokens.specs.Progress.{State, state, taken, line_ended}
 use Rattle.go_tokens.proofs.SoFar.{SoFar, so_far_more, so_far_end, so_far_none, so_far_bound, covered_bound}
@@ -18,6 +21,9 @@ covered-requires c = omega (arith, c.requires, so_far_bound c.args.file c.args.t
 
 pub take-requires-clause-fits : goal.take-requires-clause-fits
 take-requires-clause-fits c = omega (arith, c.requires, so_far_bound c.args.file c.args.text.now c.loop-index.index c.loop-index.at (state c.loop-index.lexer) c.loop-index.invariant.so_far ((c.loop-index.index + c.first_piece-piece.result.length) - c.loop-index.index))
+
+pub take-requires-clause-short : goal.take-requires-clause-short
+take-requires-clause-short c = omega (arith, c.requires, so_far_bound c.args.file c.args.text.now c.loop-index.index c.loop-index.at (state c.loop-index.lexer) c.loop-index.invariant.so_far ((c.loop-index.index + c.first_piece-piece.result.length) - c.loop-index.index))
 
 pub width-at-requires : goal.width-at-requires
 width-at-requires c = omega (arith, c.requires, so_far_bound c.args.file c.args.text.now c.loop-index.index c.loop-index.at (state c.loop-index.lexer) c.loop-index.invariant.so_far ((c.loop-index.index + c.first_piece-piece.result.length) - c.loop-index.index))
@@ -49,4 +55,10 @@ span-requires c = omega (arith, c.requires, c.covered.ensures, covered_bound c.i
 pub returns : goal.returns
 returns c =
     let end = so_far_end c.args.file c.args.text.now c.loop-index.index c.loop-index.at (state c.loop-index.lexer) c.loop-index.invariant.so_far (omega arith) in
-    record { exact = subst (λ (s : State). Lexes c.args.file c.args.text.now s.tokens s.comments) (sym (c.in_ok-end_line.ensures.state ∙ ap (λ f. line_ended f (state c.loop-index.lexer)) c.loop-index.invariant.file)) end }
+    let text : List ℕ = c.args.text.now in
+    let lexer = c.end_line.new.self in
+    let file : lexer.file ≡ c.args.file = c.in_ok-end_line.ensures.file ∙ c.loop-index.invariant.file in
+    let lexed : Lexes c.args.file text (all_in_file lexer.file lexer.tokens.items) lexer.comments.items = subst (λ (s : State). Lexes c.args.file text s.tokens s.comments) (sym (c.in_ok-end_line.ensures.state ∙ ap (λ f. line_ended f (state c.loop-index.lexer)) c.loop-index.invariant.file)) end in
+    let known : Lexes c.args.file text (all_in_file c.args.file lexer.tokens.items) lexer.comments.items = subst (λ f. Lexes c.args.file text (all_in_file f lexer.tokens.items) lexer.comments.items) file lexed in
+    let cut : Lexes c.args.file text (all_in_file c.args.file c.shrink_to_fit.new.self.items) lexer.comments.items = subst (λ (ps : List PlacedKind). Lexes c.args.file text (all_in_file c.args.file ps) lexer.comments.items) (sym c.shrink_to_fit.ensures.items) known in
+    record { exact = subst (λ (ss : List Span). Lexes c.args.file text (all_in_file c.args.file c.shrink_to_fit.new.self.items) ss) (sym c.shrink_to_fit-2.ensures.items) cut }
