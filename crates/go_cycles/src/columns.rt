@@ -14,7 +14,7 @@ use std::collections::HashMap;
 #[derive(Clone, Copy, Debug)]
 struct Column {
     specification: Option<u32>,
-    number: usize,
+    number: u32,
 }
 
 /// The columns of declarations, by the numbers of their files and their names' tokens.

@@ -105,7 +105,7 @@ impl Graph {
 
     /// What the name of this number calls for.
     fn add_lookup(&mut self, name: usize, a: &Asked<'_>) -> Result<(), AllocError> {
-        let site = a.lookup.site;
+        let site = a.lookup.site.get();
         if full_part(site).is_none() {
             return Ok(());
         }
@@ -129,7 +129,11 @@ impl Graph {
     ) -> Result<(), AllocError> {
         let node = node_of(number, full);
         let own = if full { Part::Full } else { Part::Partial };
-        for part in [Part::Always, Part::Value(d.declaration.column), own] {
+        for part in [
+            Part::Always,
+            Part::Value(d.declaration.column as usize),
+            own,
+        ] {
             let place = ((d.file, source), part);
             if let Some(to) = self.parts.get(&place).copied() {
                 self.add_edge(node, to, Reason::Part)?;

@@ -14,7 +14,7 @@ use go_tree::context::{Reach, Site};
 use go_tree::event::Declaration;
 
 /// A declaration that is needed: in full, or, if it is a type, in part.
-#[derive(Clone, Copy, Debug)]
+#[derive(Clone, Copy)]
 pub struct Needed<'a> {
     pub found: Found<'a>,
     pub full: bool,
@@ -54,7 +54,9 @@ fn way(d: &Declaration, full: bool, site: Site) -> Option<bool>
             specification,
             column,
             alone,
-        } if is_source(specification, d.source) && (column == d.column || alone) => { Some(true) }
+        } if is_source(specification, d.source) && (column == d.column as usize || alone) => {
+            Some(true)
+        }
         Site::Right {
             specification,
             reach,
@@ -78,7 +80,7 @@ fn way_of(a: &Asked<'_>, x: &Needed<'_>) -> Option<bool>
     ensures { result ≡ way_of (asked_view a.now) (needed_view x.now) }
 {
     if a.file == x.found.file {
-        way(&x.found.declaration, x.full, a.lookup.site)
+        way(x.found.declaration, x.full, a.lookup.site.get())
     } else {
         None
     }

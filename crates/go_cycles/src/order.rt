@@ -64,7 +64,7 @@ fn by_rank<'a>(
     declared: &[Found<'a>],
 ) -> Result<Vec<Found<'a>>, AllocError>
     ensures all { IfOk result (λ v. IsPermutation declared.now v.items) }
-    ensures order { IfOk result (λ v. IsNonDecreasingBy (λ d. rank_of ranks.now d.file d.declaration.name false) v.items) }
+    ensures order { IfOk result (λ v. IsNonDecreasingBy (λ d. rank_of ranks.now d.file d.declaration.now.name false) v.items) }
 {
     let mut sorted = Vec::from_slice(alloc, declared)?;
     sorted.sort_by_key(|d| rank_of(ranks, d, false))?;

@@ -43,7 +43,7 @@ pub type Bounds = HashMap<Place, usize>;
 
 /// The rank of a declaration.
 pub fn rank_of(ranks: &Ranks, d: &Found<'_>, full: bool) -> usize
-    ensures { result ≡ rank_of ranks.now d.now.file d.now.declaration.name full }
+    ensures { result ≡ rank_of ranks.now d.now.file d.now.declaration.now.name full }
 {
     match ranks.get(&(d.file, d.declaration.name)) {
         None => usize::MAX,
@@ -126,7 +126,7 @@ fn add(bounds: &mut Bounds, ranks: &Ranks, a: &Asked<'_>) -> Result<(), AllocErr
     let Some(d) = source_of(a.meaning) else {
         return Ok(());
     };
-    let site = a.lookup.site;
+    let site = a.lookup.site.get();
     raise(bounds, a.file, full_part(site), rank_of(ranks, &d, true))?;
     raise(
         bounds,
@@ -159,7 +159,7 @@ fn is_within(bounds: &Bounds, d: &Found<'_>, full: bool, rank: usize) -> bool
     bound_of(bounds, ((d.file, source), Part::Always)) <= rank
         && bound_of(
             bounds,
-            ((d.file, source), Part::Value(d.declaration.column)),
+            ((d.file, source), Part::Value(d.declaration.column as usize)),
         ) <= rank
         && bound_of(bounds, ((d.file, source), own)) <= rank
 }

@@ -15,7 +15,8 @@ use Rattle.go_tree.specs.Declarations as names
 use Rattle.go_tree.specs.Redeclared.{are_parameters, clashes, has_clash, is_by_define, same_statement, has_new}
 use Rattle.go_lookup.specs.declared.found.Found.{Found}
 use Rattle.go_lookup.specs.Views.{found_view}
-use Rattle.go_lookup.specs.Keys.{same_key, block_of, key_of, first_of, is_before, is_parameter, clashes_by, one_statement, statement_of}
+use Rattle.go_lookup.specs.declared.keys.Key.{Key}
+use Rattle.go_lookup.specs.Keys.{same_key, block_of, IsKey, first_of, is_before, is_parameter, clashes_by, one_statement, statement_of}
 
 pub or_false : (b : Bool) → (b || false) ≡ b
 or_false true = refl
@@ -57,11 +58,13 @@ one_text [] (y ∷ b) = refl
 one_text (x ∷ a) [] = refl
 one_text (x ∷ a) (y ∷ b) = both _ _ _ _ (nat_eq_equiv.symm y x) (one_text a b)
 
-pub one_key : (d x : Found) → same_key (key_of x) (key_of d) ≡ (same_block (found_view d) (found_view x) && same_text d.name.now x.name.now)
-one_key d x = both _ _ _ _ (one_block d.file d.declaration.block x.file x.declaration.block) (one_text d.name.now x.name.now)
+pub one_key : (d x : names.Found) (k l : Key) → IsKey d k → IsKey x l → same_key l k ≡ (same_block d x && same_text d.name x.name)
+one_key d x k l dk xl =
+    both _ _ _ _ (ap (λ b. option_eq same_pair b k.block) xl.block ∙ ap (option_eq same_pair (block_of x.file x.it.block)) dk.block ∙ one_block d.file d.it.block x.file x.it.block)
+    (ap (λ w. pointwise nat_eq w k.name.now) xl.name ∙ ap (pointwise nat_eq x.name) dk.name ∙ one_text d.name x.name)
 
-pub one_place : (d x : Found) → one_statement (statement_of x) (statement_of d) ≡ (nat_eq d.file x.file && nat_eq d.declaration.statement x.declaration.statement)
-one_place d x = both _ _ _ _ (nat_eq_equiv.symm x.file d.file) (nat_eq_equiv.symm x.declaration.statement d.declaration.statement)
+pub one_place : (d x : Found) → one_statement (statement_of x) (statement_of d) ≡ (nat_eq d.file x.file && nat_eq d.declaration.now.statement x.declaration.now.statement)
+one_place d x = both _ _ _ _ (nat_eq_equiv.symm x.file d.file) (nat_eq_equiv.symm x.declaration.now.statement d.declaration.now.statement)
 
 pub key_laws : IsEquivalence same_key
 key_laws = and_equiv (on_equiv (λ k. k.block) (options_equiv (and_equiv (on_equiv (λ p. p.0) nat_eq_equiv) (on_equiv (λ p. p.1) nat_eq_equiv)))) (on_equiv (λ k. k.name.now) (lists_equiv nat_eq_equiv))
@@ -127,24 +130,26 @@ and_more : (a b c : Bool) → (a && (b && c)) ≡ ((a && b) && c)
 and_more true b c = refl
 and_more false b c = refl
 
-pub one_clash : (d x : Found) → (same_key (key_of x) (key_of d) && not (is_parameter d.declaration.entity && is_parameter x.declaration.entity)) ≡ clashes (found_view d) (found_view x)
-one_clash d x =
-    ap (λ b. b && not (is_parameter d.declaration.entity && is_parameter x.declaration.entity)) (one_key d x ∙ and_swap (same_block (found_view d) (found_view x)) (same_text d.name.now x.name.now))
-    ∙ ap (λ b. (same_text d.name.now x.name.now && same_block (found_view d) (found_view x)) && not b) (sym (parameters d.declaration.entity x.declaration.entity))
+pub one_clash : (d x : names.Found) (k l : Key) → IsKey d k → IsKey x l → (same_key l k && not (is_parameter d.it.entity && is_parameter x.it.entity)) ≡ clashes d x
+one_clash d x k l dk xl =
+    ap (λ b. b && not (is_parameter d.it.entity && is_parameter x.it.entity)) (one_key d x k l dk xl ∙ and_swap (same_block d x) (same_text d.name x.name))
+    ∙ ap (λ b. (same_text d.name x.name && same_block d x) && not b) (sym (parameters d.it.entity x.it.entity))
 
-pub one_variable : (d x : Found) → is_variable x.declaration.entity ≡ true → (nat_lt x.declaration.name d.declaration.statement && same_key (key_of x) (key_of d)) ≡ is_reused_of (found_view d) (found_view x)
-one_variable d x h =
-    ap (λ b. nat_lt x.declaration.name d.declaration.statement && b) (one_key d x)
-    ∙ (and_more (nat_lt x.declaration.name d.declaration.statement) (same_block (found_view d) (found_view x)) (same_text d.name.now x.name.now)
-    ∙ sym (ap (λ b. ((b && nat_lt x.declaration.name d.declaration.statement) && same_block (found_view d) (found_view x)) && same_text d.name.now x.name.now) h))
+pub one_variable : (d x : names.Found) (k l : Key) → IsKey d k → IsKey x l → is_variable x.it.entity ≡ true → (nat_lt x.it.name d.it.statement && same_key l k) ≡ is_reused_of d x
+one_variable d x k l dk xl h =
+    ap (λ b. nat_lt x.it.name d.it.statement && b) (one_key d x k l dk xl)
+    ∙ (and_more (nat_lt x.it.name d.it.statement) (same_block d x) (same_text d.name x.name)
+    ∙ sym (ap (λ b. ((b && nat_lt x.it.name d.it.statement) && same_block d x) && same_text d.name x.name) h))
 
-pub no_variable : (d x : Found) → is_variable x.declaration.entity ≡ false → is_reused_of (found_view d) (found_view x) ≡ false
-no_variable d x h = ap (λ b. ((b && nat_lt x.declaration.name d.declaration.statement) && same_block (found_view d) (found_view x)) && same_text d.name.now x.name.now) h
+pub no_variable : (d x : names.Found) → is_variable x.it.entity ≡ false → is_reused_of d x ≡ false
+no_variable d x h = ap (λ b. ((b && nat_lt x.it.name d.it.statement) && same_block d x) && same_text d.name x.name) h
 
-pub one_new : (d x : Found) → is_by_define x.declaration.manner ≡ true → one_statement (statement_of x) (statement_of d) ≡ same_statement (found_view d) (found_view x)
+pub one_new : (d x : Found) → is_by_define x.declaration.now.manner ≡ true → one_statement (statement_of x) (statement_of d) ≡ same_statement (found_view d) (found_view x)
 one_new d x h =
-    one_place d x ∙ sym (ap (λ b. (nat_eq d.file x.file && nat_eq d.declaration.statement x.declaration.statement) && b) h ∙ and_true (nat_eq d.file x.file && nat_eq d.declaration.statement x.declaration.statement))
+    one_place d x
+    ∙ sym (ap (λ b. (nat_eq d.file x.file && nat_eq d.declaration.now.statement x.declaration.now.statement) && b) h ∙ and_true (nat_eq d.file x.file && nat_eq d.declaration.now.statement x.declaration.now.statement))
 
-pub no_new : (d x : Found) → is_by_define x.declaration.manner ≡ false → same_statement (found_view d) (found_view x) ≡ false
+pub no_new : (d x : Found) → is_by_define x.declaration.now.manner ≡ false → same_statement (found_view d) (found_view x) ≡ false
 no_new d x h =
-    ap (λ b. (nat_eq d.file x.file && nat_eq d.declaration.statement x.declaration.statement) && b) h ∙ and_false (nat_eq d.file x.file && nat_eq d.declaration.statement x.declaration.statement)
+    ap (λ b. (nat_eq d.file x.file && nat_eq d.declaration.now.statement x.declaration.now.statement) && b) h
+    ∙ and_false (nat_eq d.file x.file && nat_eq d.declaration.now.statement x.declaration.now.statement)

@@ -1,12 +1,13 @@
 -- What is told of the events of a file, one by one.
 use Rattle.std.proofs.Common.{◌≡◌, ℕ, zero, suc, ◌+◌, ◌<◌, List, [], ◌∷◌, ◌++◌, Option, Some, None, refl, sym, ap, ◌∙◌, subst, append_assoc, arith, map, drop, length, slice_index_or}
 use Rattle.std.proofs.Math.Seq.{drop-cons}
-use Rattle.std.specs.Prelude.{slice_get}
+use Rattle.std.specs.Prelude.{Bool, true, false, if◌then◌else◌, slice_get}
 use Rattle.std.specs.Option.{option_map, option_to_list}
 use Rattle.go_names.specs.Scopes.{IsOrderly, AreOrderly}
 use Rattle.go_tree.specs.Lookups.{Asked, asked_in, asked_from}
 use Rattle.go_tree.specs.Meanings.{Meaning}
 use Rattle.go_lookup.specs.declared.unit.Unit as own
+use Rattle.go_lookup.specs.Sited.{is_sited, sited}
 use Rattle.go_lookup.specs.Views.{unit_view, units_view}
 
 get_map : {X Y : Type 0} (f : X → Y) (xs : List X) (i : ℕ) → slice_get (map f xs) i ≡ option_map f (slice_get xs i)
@@ -62,4 +63,27 @@ asked_more ms units i unit out new whole less is more invariant =
     ∙ append_assoc out here (asked_from ms (i + 1) (units_view rest))
     ∙ ap (λ k. out ++ (here ++ asked_from ms k (units_view rest))) (sym next)
     ∙ ap (λ l. out ++ asked_from ms i (units_view l)) (sym back)
+    ∙ invariant
+
+-- the names in parts of declarations among more names
+sited_one : (b : Bool) (a : Asked) (all front back : List Asked) → all ≡ front ++ back → (if b then a ∷ all else all) ≡ (if b then a ∷ front else front) ++ back
+sited_one true a all front back e = ap (λ l. a ∷ l) e
+sited_one false a all front back e = e
+
+sited_append : (front back : List Asked) → sited (front ++ back) ≡ sited front ++ sited back
+sited_append [] back = refl
+sited_append (a ∷ front) back = sited_one (is_sited a.it.site) a (sited (front ++ back)) (sited front) (sited back) (sited_append front back)
+
+-- those of one file more
+pub sited_more : (ms : List Meaning) (units : List own.Unit) (i : ℕ) (unit : own.Unit) (out new whole : List Asked) → i < length units → unit ≡ slice_index_or units i unit → new ≡ out ++ sited (asked_in ms i unit.tokens.now unit.events.items) → out ++ sited (asked_from ms i (units_view (drop i units))) ≡ whole → new ++ sited (asked_from ms (i + 1) (units_view (drop (i + 1) units))) ≡ whole
+sited_more ms units i unit out new whole less is more invariant =
+    let rest = drop (i + 1) units in
+    let here = asked_in ms i unit.tokens.now unit.events.items in
+    let back : drop i units ≡ unit ∷ rest = drop_at units i unit less ∙ ap (λ x. x ∷ rest) (sym is) in
+    let next : suc i ≡ i + 1 = omega arith in
+    ap (λ l. l ++ sited (asked_from ms (i + 1) (units_view rest))) more
+    ∙ append_assoc out (sited here) (sited (asked_from ms (i + 1) (units_view rest)))
+    ∙ ap (λ k. out ++ (sited here ++ sited (asked_from ms k (units_view rest)))) (sym next)
+    ∙ ap (λ l. out ++ l) (sym (sited_append here (asked_from ms (suc i) (units_view rest))))
+    ∙ ap (λ l. out ++ sited (asked_from ms i (units_view l))) (sym back)
     ∙ invariant

@@ -24,8 +24,10 @@ abbrev pub block_of : ℕ → Block → Option (ℕ × ℕ)
 block_of n block.Package = None
 block_of n (block.Local i) = Some (n, i)
 
-abbrev pub key_of : Found → Key
-key_of d = record { block = block_of d.file d.declaration.block; name = d.name }
+-- It is the key of the declaration: its block, and its name.
+pub record IsKey (d : names.Found) (k : Key) : Type 0 where
+  pub block : k.block ≡ block_of d.file d.it.block
+  pub name : k.name.now ≡ d.name
 
 -- whether there is a token before that of the number n
 abbrev pub is_before : ℕ → Option ℕ → Bool
@@ -39,7 +41,7 @@ first_of n (Some i) = min n i
 
 -- The map has the first token of the variables of each name and block among the declarations.
 abbrev pub KnowsVariables : {S : Type 0} → IndexMap Key ℕ S → List names.Found → Type 0
-KnowsVariables m xs = (d : Found) → is_before d.declaration.statement (get same_key m (key_of d)) ≡ is_reused (found_view d) xs
+KnowsVariables m xs = (d : names.Found) (k : Key) → IsKey d k → is_before d.it.statement (get same_key m k) ≡ is_reused d xs
 
 abbrev pub is_parameter : Entity → Bool
 is_parameter entity.Parameter = true
@@ -53,13 +55,13 @@ clashes_by b (Some other) = other || not b
 
 -- The map says so of each name and block of the declarations.
 abbrev pub KnowsNames : {S : Type 0} → IndexMap Key Bool S → List names.Found → Type 0
-KnowsNames m xs = (d : Found) → clashes_by (is_parameter d.declaration.entity) (get same_key m (key_of d)) ≡ has_clash (found_view d) xs
+KnowsNames m xs = (d : names.Found) (k : Key) → IsKey d k → clashes_by (is_parameter d.it.entity) (get same_key m k) ≡ has_clash d xs
 
 abbrev pub one_statement : Statement → Statement → Bool
 one_statement = (statement_eq.ghosts).eq
 
 abbrev pub statement_of : Found → Statement
-statement_of d = record { file = d.file; first = d.declaration.statement }
+statement_of d = record { file = d.file; first = d.declaration.now.statement }
 
 -- The set has the statements that declare some of the declarations by `:=`.
 abbrev pub KnowsStatements : {S : Type 0} → IndexSet Statement S → List names.Found → Type 0

@@ -10,6 +10,7 @@ use Rattle.go_tokens.specs.Tokens.{TokenList}
 use Rattle.go_tree.specs.declared.object.Extent.{Extent}
 use Rattle.go_tree.specs.declared.object.Extent.TheVariants as extent
 use Rattle.go_tree.specs.declared.event.Event.{Event}
+use Rattle.go_tree.specs.declared.event.Use.{Use}
 use Rattle.go_tree.specs.declared.event.Event.TheVariants as event
 use Rattle.go_tree.specs.Lookups.{Asked, asked_in}
 use Rattle.go_tree.specs.Units.{word}
@@ -78,6 +79,10 @@ named_meaning ms n ts (Some t) = meaning_at ms n t (word ts t)
 abbrev pub event_meanings : List meanings.Meaning → ℕ → TokenList → List Event → List (Option meanings.Meaning)
 event_meanings ms n ts es = map (λ e. named_meaning ms n ts (name_of e)) es
 
+-- The name that is looked up by u means m.
+abbrev pub IsMeant : List meanings.Meaning → ℕ → TokenList → Use → Option Meaning → Type 0
+IsMeant ms n ts u m = option_map meaning_view m ≡ meaning_at ms n u.name (word ts u.name)
+
 -- The name of the event e, if it has one, means m.
 abbrev pub IsNamed : List meanings.Meaning → ℕ → TokenList → Event → Option Meaning → Type 0
 IsNamed ms n ts e m = option_map meaning_view m ≡ named_meaning ms n ts (name_of e)
@@ -85,6 +90,10 @@ IsNamed ms n ts e m = option_map meaning_view m ≡ named_meaning ms n ts (name_
 -- The names of the events mean what is told of them.
 abbrev pub AreNamed : List meanings.Meaning → ℕ → TokenList → List Event → List (Option Meaning) → Type 0
 AreNamed ms n ts es told = map (option_map meaning_view) told ≡ event_meanings ms n ts es
+
+-- the same of all events of a file
+abbrev pub AreTold : List meanings.Meaning → ℕ → units.Unit → List (Option Meaning) → Type 0
+AreTold ms n u told = AreNamed ms n u.tokens u.events told
 
 -- the names of a file that are looked up
 abbrev pub unit_asked : List meanings.Meaning → ℕ → units.Unit → List Asked

@@ -1,15 +1,14 @@
 //! The names that are looked up in a package.
 
 ghost use Rattle.std.specs.Prelude.{◌≡◌, ◌++◌, List, OnOk, map, []};
-ghost use Rattle.std.specs.Option.{option_map, option_to_list};
 ghost use Rattle.go_tree.specs.Lookups.{whole_of, selected_of, asked, asked_event};
 ghost use Rattle.go_tree.specs.Lookups as rules;
-ghost use Rattle.go_tree.specs.Units.{word};
-ghost use Rattle.go_tree.specs.Meanings.{meaning_at};
 ghost use Rattle.go_tree.specs.Meanings as meanings;
-ghost use Rattle.go_lookup.specs.Views.{place_of, unit_view, meaning_view, asked_view};
-ghost use Rattle.go_lookup.specs.Sorted.{IsNamed, AreNamed, unit_asked};
+ghost use Rattle.go_lookup.specs.Views.{place_of, unit_view, asked_view, one_asked};
+ghost use Rattle.go_lookup.specs.Sited.{sited};
+ghost use Rattle.go_lookup.specs.Sorted.{IsMeant, IsNamed, AreTold, unit_asked};
 
+use crate::kinds::is_sited;
 use crate::meaning::Meaning;
 use crate::sweep::told_at;
 use crate::unit::{Unit, bytes_at, bytes_of, is_blank, word};
@@ -50,14 +49,19 @@ impl<'a> Asked<'a> {
     pub fn whole(&self) -> Span
         ensures { place_of result ≡ (asked_view self.now).whole }
     {
-        whole_of(self.file, self.tokens, self.lookup.name, self.lookup.role)
+        whole_of(
+            self.file,
+            self.tokens,
+            self.lookup.name,
+            self.lookup.role.get(),
+        )
     }
 
     /// If it is the operand of a selector, the selected name.
     pub fn selected(&self) -> &'a [u8]
         ensures { result.now ≡ (asked_view self.now).selected }
     {
-        selected_of(self.tokens, self.lookup.role)
+        selected_of(self.tokens, self.lookup.role.get())
     }
 }
 
@@ -88,7 +92,7 @@ fn ask<'a>(
     lookup: &'a Use,
     meaning: Option<Meaning<'a>>,
 ) -> Asked<'a>
-    ensures { (ms : List meanings.Meaning) → option_map meaning_view meaning.entry ≡ meaning_at ms file lookup.entry.now.name (word tokens.entry.now lookup.entry.now.name) → asked_view result ≡ asked ms file tokens.entry.now lookup.entry.now }
+    ensures { (ms : List meanings.Meaning) → IsMeant ms file tokens.entry.now lookup.entry.now meaning.entry → asked_view result ≡ asked ms file tokens.entry.now lookup.entry.now }
 {
     Asked {
         file,
@@ -105,7 +109,7 @@ fn asked_by<'a>(
     event: &'a Event,
     meaning: Option<Meaning<'a>>,
 ) -> Option<Asked<'a>>
-    ensures { (ms : List meanings.Meaning) (asks : List rules.Asked) → IsNamed ms file tokens.entry.now event.entry.now meaning.entry → asked_event ms file tokens.entry.now event.entry.now asks ≡ option_to_list (option_map asked_view result) ++ asks }
+    ensures { (ms : List meanings.Meaning) (asks : List rules.Asked) → IsNamed ms file tokens.entry.now event.entry.now meaning.entry → asked_event ms file tokens.entry.now event.entry.now asks ≡ one_asked result ++ asks }
 {
     let Event::Use(lookup) = event else {
         return None;
@@ -116,6 +120,21 @@ fn asked_by<'a>(
     Some(ask(file, tokens, lookup, meaning))
 }
 
+/// The same, if the name stands in a part of a declaration.
+fn sited_by<'a>(
+    file: u32,
+    tokens: &'a Tokens,
+    event: &'a Event,
+    meaning: Option<Meaning<'a>>,
+) -> Option<Asked<'a>>
+    ensures { (ms : List meanings.Meaning) (asks : List rules.Asked) → IsNamed ms file tokens.entry.now event.entry.now meaning.entry → sited (asked_event ms file tokens.entry.now event.entry.now asks) ≡ one_asked result ++ sited asks }
+{
+    match asked_by(file, tokens, event, meaning) {
+        Some(asked) if is_sited(asked.lookup.site.get()) => Some(asked),
+        _ => None,
+    }
+}
+
 /// The names that are looked up in a file, behind those that were found. Its events' names mean what is told.
 pub fn push_asked<'a>(
     out: &mut Vec<Asked<'a>>,
@@ -123,10 +142,27 @@ pub fn push_asked<'a>(
     unit: &'a Unit<'a>,
     told: &[Option<Meaning<'a>>],
 ) -> Result<(), AllocError>
-    ensures { OnOk result ((ms : List meanings.Meaning) → AreNamed ms file unit.entry.now.tokens.now unit.entry.now.events.items told.now → map asked_view out.new.items ≡ map asked_view out.old.items ++ unit_asked ms file (unit_view unit.entry.now)) }
+    ensures { OnOk result ((ms : List meanings.Meaning) → AreTold ms file (unit_view unit.entry.now) told.now → map asked_view out.new.items ≡ map asked_view out.old.items ++ unit_asked ms file (unit_view unit.entry.now)) }
 {
     for (number, event) in unit.events.iter().enumerate() {
         if let Some(asked) = asked_by(file, unit.tokens, event, told_at(told, number)) {
+            out.push(asked)?;
+        }
+    }
+    Ok(())
+}
+
+/// Those of them that stand in parts of declarations.
+pub fn push_sited<'a>(
+    out: &mut Vec<Asked<'a>>,
+    file: u32,
+    unit: &'a Unit<'a>,
+    told: &[Option<Meaning<'a>>],
+) -> Result<(), AllocError>
+    ensures { OnOk result ((ms : List meanings.Meaning) → AreTold ms file (unit_view unit.entry.now) told.now → map asked_view out.new.items ≡ map asked_view out.old.items ++ sited (unit_asked ms file (unit_view unit.entry.now))) }
+{
+    for (number, event) in unit.events.iter().enumerate() {
+        if let Some(asked) = sited_by(file, unit.tokens, event, told_at(told, number)) {
             out.push(asked)?;
         }
     }

@@ -2,10 +2,9 @@
 
 ghost use Rattle.std.specs.Prelude.{◌≡◌, ◌≤◌, ◌++◌, List, IfOk, OnOk, length, map};
 ghost use Rattle.std.specs.Option.{option_map};
-ghost use Rattle.go_tree.specs.Units.{word, bytes_at};
 ghost use Rattle.go_tree.specs.Declarations.{found_in, found, is_variable, is_reused, may_be_reused, is_new, new_among};
 ghost use Rattle.go_tree.specs.Declarations as rules;
-ghost use Rattle.go_lookup.specs.Views.{unit_view, units_view, found_view};
+ghost use Rattle.go_lookup.specs.Views.{place_of, unit_view, units_view, found_view};
 ghost use Rattle.go_lookup.specs.Keys.{KnowsVariables};
 
 use crate::keys::{Key, add_variable, key_of};
@@ -18,36 +17,43 @@ use indexmap::IndexMap;
 use std::alloc::{AllocError, Global};
 
 /// A declaration in a package.
-#[derive(Clone, Copy, Debug)]
+#[derive(Clone, Copy)]
 pub struct Found<'a> {
     /// The number of its file.
     pub file: u32,
-    pub name: &'a [u8],
-    /// The bytes of its name.
-    pub place: Span,
-    pub declaration: Declaration,
+    /// The tokens of its file.
+    pub tokens: &'a Tokens,
+    pub declaration: &'a Declaration,
 }
 
-/// A declaration of the file of this number.
-fn found_at<'a>(file: u32, tokens: &'a Tokens, declaration: Declaration) -> Found<'a>
-    ensures { found_view result ≡ record { file = file; name = word tokens.now declaration.name; place = bytes_at file tokens.now declaration.name; it = declaration } }
-{
-    Found {
-        file,
-        name: word(tokens, declaration.name),
-        place: bytes_at(file, tokens, declaration.name),
-        declaration,
+impl<'a> Found<'a> {
+    /// Its name.
+    pub fn name(&self) -> &'a [u8]
+        ensures { result.now ≡ (found_view self.now).name }
+    {
+        word(self.tokens, self.declaration.name)
+    }
+
+    /// The bytes of its name.
+    pub fn place(&self) -> Span
+        ensures { place_of result ≡ (found_view self.now).place }
+    {
+        bytes_at(self.file, self.tokens, self.declaration.name)
     }
 }
 
 /// The declarations of a file, behind those that were found.
-fn push_found<'a>(out: &mut Vec<Found<'a>>, file: u32, unit: &Unit<'a>) -> Result<(), AllocError>
-    ensures { OnOk result (map found_view out.new.items ≡ map found_view out.old.items ++ found_in file (unit_view unit.now).tokens (unit_view unit.now).events) }
+fn push_found<'a>(out: &mut Vec<Found<'a>>, file: u32, unit: &'a Unit<'a>) -> Result<(), AllocError>
+    ensures { OnOk result (map found_view out.new.items ≡ map found_view out.old.items ++ found_in file (unit_view unit.entry.now).tokens (unit_view unit.entry.now).events) }
 {
-    let mut events: &[Event] = &unit.events;
+    let mut events: &'a [Event] = &unit.events;
     while let [event, rest @ ..] = events {
         if let Event::Declaration(declaration) = event {
-            out.push(found_at(file, unit.tokens, *declaration))?;
+            out.push(Found {
+                file,
+                tokens: unit.tokens,
+                declaration,
+            })?;
         }
         events = rest;
     }
@@ -55,9 +61,9 @@ fn push_found<'a>(out: &mut Vec<Found<'a>>, file: u32, unit: &Unit<'a>) -> Resul
 }
 
 /// All declarations of the files, with the names before each `:=`.
-pub fn all_found<'a>(alloc: Global, units: &[Unit<'a>]) -> Result<Vec<Found<'a>>, AllocError>
+pub fn all_found<'a>(alloc: Global, units: &'a [Unit<'a>]) -> Result<Vec<Found<'a>>, AllocError>
     requires { length units.now ≤ 256 }
-    ensures { IfOk result (λ v. map found_view v.items ≡ found (units_view units.now)) }
+    ensures { IfOk result (λ v. map found_view v.items ≡ found (units_view units.entry.now)) }
 {
     let mut out = Vec::new(alloc);
     let mut file = 0;
@@ -67,6 +73,7 @@ pub fn all_found<'a>(alloc: Global, units: &[Unit<'a>]) -> Result<Vec<Found<'a>>
         file += 1;
         units = rest;
     }
+    out.shrink_to_fit();
     Ok(out)
 }
 
@@ -115,7 +122,7 @@ fn may_be_reused(manner: Manner) -> bool
 fn is_new(variables: &IndexMap<Key<'_>, u32>, d: &Found<'_>) -> bool
     ensures { (all : List rules.Found) → KnowsVariables variables.now all → result ≡ is_new all (found_view d.now) }
 {
-    !is_blank(d.name) && !(may_be_reused(d.declaration.manner) && is_reused(d, variables))
+    !is_blank(d.name()) && !(may_be_reused(d.declaration.manner) && is_reused(d, variables))
 }
 
 /// Those that declare their name.
@@ -131,5 +138,6 @@ pub fn new_among<'a>(alloc: Global, all: &[Found<'a>]) -> Result<Vec<Found<'a>>,
         }
         left = rest;
     }
+    out.shrink_to_fit();
     Ok(out)
 }

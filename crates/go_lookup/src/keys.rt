@@ -3,7 +3,7 @@
 ghost use Rattle.std.specs.Prelude.{◌≡◌, ◌++◌, ◌||◌, not, false, [], ◌∷◌, List, unwrap_or, IfOk, OnOk, map};
 ghost use Rattle.go_tree.specs.Declarations as rules;
 ghost use Rattle.go_lookup.specs.Views.{found_view};
-ghost use Rattle.go_lookup.specs.Keys.{block_of, first_of, key_of, statement_of, is_parameter, KnowsVariables, KnowsNames, KnowsStatements};
+ghost use Rattle.go_lookup.specs.Keys.{block_of, first_of, statement_of, is_parameter, IsKey, KnowsVariables, KnowsNames, KnowsStatements};
 
 use crate::found::{Found, is_variable};
 use crate::kinds::is_by_define;
@@ -38,11 +38,11 @@ fn block_of(file: u32, block: Block) -> Option<(u32, u32)>
 
 /// The name and block of a declaration.
 pub fn key_of<'a>(d: &Found<'a>) -> Key<'a>
-    ensures { result ≡ key_of d.now }
+    ensures { IsKey (found_view d.now) result }
 {
     Key {
         block: block_of(d.file, d.declaration.block),
-        name: d.name,
+        name: d.name(),
     }
 }
 

@@ -6,9 +6,10 @@ ghost use Rattle.go_tree.specs.Lookups.{asked_from};
 ghost use Rattle.go_tree.specs.Meanings.{meanings};
 ghost use Rattle.go_tree.specs.Objects.{objects, objects_from};
 ghost use Rattle.go_lookup.specs.Views.{units_view, entry_view, asked_view};
+ghost use Rattle.go_lookup.specs.Sited.{sited};
 ghost use Rattle.go_lookup.specs.Sorted.{all_of, IsSorted};
 
-use crate::asked::{Asked, push_asked};
+use crate::asked::{Asked, push_asked, push_sited};
 use crate::meaning::{Entry, meanings};
 use crate::sorted::{Sorted, by_block};
 use crate::sweep::event_meanings;
@@ -17,40 +18,6 @@ use crate::unit::Unit;
 use go_base::Memory;
 use go_tree::meant::Meant;
 use std::alloc::Global;
-
-/// What the names of a package mean.
-#[derive(Drop)]
-pub struct LookedUp<'a> {
-    /// The names that are looked up, in order, with their meanings.
-    pub asked: Vec<Asked<'a>>,
-    /// The objects of the tokens of each file.
-    pub objects: Vec<Vec<Meant>>,
-}
-
-/// What the names of the files mean, where the package has these meanings.
-fn look_up_files<'a>(
-    alloc: Global,
-    sorted: &Sorted<'a>,
-    units: &'a [Unit<'a>],
-) -> Result<LookedUp<'a>, Memory>
-    requires few { length units.now ≤ 256 }
-    requires sorted { IsSorted sorted.now }
-    requires locals { (n : ℕ) → AreSwept 0 (locals_of n (all_of sorted.now)) × AreNested (locals_of n (all_of sorted.now)) }
-    requires orderly { AreOrderly (units_view units.now) }
-    ensures asked { IfOk result (λ r. map asked_view r.asked.items ≡ asked_from (all_of sorted.now) 0 (units_view units.entry.now)) }
-    ensures objects { IfOk result (λ r. map (λ v. v.items) r.objects.items ≡ objects_from (all_of sorted.now) 0 (units_view units.entry.now)) }
-{
-    let owners = owners_of(alloc, &sorted.all)?;
-    let mut asked = Vec::new(alloc);
-    let mut objects = Vec::new(alloc);
-    for (number, unit) in units.iter().enumerate() {
-        let file = number as u32;
-        let told = event_meanings(alloc, sorted, file, unit)?;
-        push_asked(&mut asked, file, unit, &told)?;
-        objects.push(token_objects(alloc, &owners, file, unit, &told)?)?;
-    }
-    Ok(LookedUp { asked, objects })
-}
 
 /// The names of the files that are looked up, where the package has these meanings.
 fn asked_in_files<'a>(
@@ -70,11 +37,75 @@ fn asked_in_files<'a>(
         let told = event_meanings(alloc, sorted, file, unit)?;
         push_asked(&mut asked, file, unit, &told)?;
     }
+    asked.shrink_to_fit();
     Ok(asked)
 }
 
-/// The names of a package with these entries that are looked up, in order, with their meanings: those of `look_up`, without the
-/// objects of tokens.
+/// The objects of the tokens of each file, where the package has these meanings.
+fn objects_in_files<'a>(
+    alloc: Global,
+    sorted: &Sorted<'a>,
+    units: &'a [Unit<'a>],
+) -> Result<Vec<Vec<Meant>>, Memory>
+    requires few { length units.now ≤ 256 }
+    requires sorted { IsSorted sorted.now }
+    requires locals { (n : ℕ) → AreSwept 0 (locals_of n (all_of sorted.now)) × AreNested (locals_of n (all_of sorted.now)) }
+    requires orderly { AreOrderly (units_view units.now) }
+    ensures { IfOk result (λ o. map (λ v. v.items) o.items ≡ objects_from (all_of sorted.now) 0 (units_view units.entry.now)) }
+{
+    let owners = owners_of(alloc, &sorted.all)?;
+    let mut objects = Vec::new(alloc);
+    for (number, unit) in units.iter().enumerate() {
+        let file = number as u32;
+        let told = event_meanings(alloc, sorted, file, unit)?;
+        objects.push(token_objects(alloc, &owners, file, unit, &told)?)?;
+    }
+    Ok(objects)
+}
+
+/// The names of the files that are looked up in parts of declarations, where the package has these meanings.
+fn sited_in_files<'a>(
+    alloc: Global,
+    sorted: &Sorted<'a>,
+    units: &'a [Unit<'a>],
+) -> Result<Vec<Asked<'a>>, Memory>
+    requires few { length units.now ≤ 256 }
+    requires sorted { IsSorted sorted.now }
+    requires locals { (n : ℕ) → AreSwept 0 (locals_of n (all_of sorted.now)) × AreNested (locals_of n (all_of sorted.now)) }
+    requires orderly { AreOrderly (units_view units.now) }
+    ensures { IfOk result (λ v. map asked_view v.items ≡ sited (asked_from (all_of sorted.now) 0 (units_view units.entry.now))) }
+{
+    let mut asked = Vec::new(alloc);
+    for (number, unit) in units.iter().enumerate() {
+        let file = number as u32;
+        let told = event_meanings(alloc, sorted, file, unit)?;
+        push_sited(&mut asked, file, unit, &told)?;
+    }
+    asked.shrink_to_fit();
+    Ok(asked)
+}
+
+/// The names of a package with these entries that are looked up in parts of declarations, in order, with their meanings: those of
+/// `names_asked` on which it rests what declarations need.
+///
+/// # Errors
+///
+/// Want of memory.
+pub fn sited_names<'a>(
+    alloc: Global,
+    units: &'a [Unit<'a>],
+    entries: &'a [Entry<'a>],
+) -> Result<Vec<Asked<'a>>, Memory>
+    requires few { length units.now ≤ 256 }
+    requires orderly { AreOrderly (units_view units.now) }
+    requires entries { map entry_view entries.now ≡ meanings (units_view units.now) }
+    ensures { IfOk result (λ v. map asked_view v.items ≡ sited (asked_from (meanings (units_view units.entry.now)) 0 (units_view units.entry.now))) }
+{
+    let sorted = by_block(alloc, meanings(alloc, entries)?)?;
+    sited_in_files(alloc, &sorted, units)
+}
+
+/// The names of a package with these entries that are looked up, in order, with their meanings.
 ///
 /// # Errors
 ///
@@ -93,22 +124,21 @@ pub fn names_asked<'a>(
     asked_in_files(alloc, &sorted, units)
 }
 
-/// What the names of a package with these entries mean.
+/// The objects of the tokens of each file of a package with these entries.
 ///
 /// # Errors
 ///
 /// Want of memory.
-pub fn look_up<'a>(
+pub fn objects_meant<'a>(
     alloc: Global,
     units: &'a [Unit<'a>],
     entries: &'a [Entry<'a>],
-) -> Result<LookedUp<'a>, Memory>
+) -> Result<Vec<Vec<Meant>>, Memory>
     requires few { length units.now ≤ 256 }
     requires orderly { AreOrderly (units_view units.now) }
     requires entries { map entry_view entries.now ≡ meanings (units_view units.now) }
-    ensures asked { IfOk result (λ r. map asked_view r.asked.items ≡ asked_from (meanings (units_view units.entry.now)) 0 (units_view units.entry.now)) }
-    ensures objects { IfOk result (λ r. map (λ v. v.items) r.objects.items ≡ objects (units_view units.entry.now)) }
+    ensures { IfOk result (λ o. map (λ v. v.items) o.items ≡ objects (units_view units.entry.now)) }
 {
     let sorted = by_block(alloc, meanings(alloc, entries)?)?;
-    look_up_files(alloc, &sorted, units)
+    objects_in_files(alloc, &sorted, units)
 }

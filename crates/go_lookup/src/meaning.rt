@@ -19,7 +19,7 @@ use go_tree::object::{Extent, Object};
 use std::alloc::{AllocError, Global};
 
 /// A name with a meaning.
-#[derive(Clone, Copy, Debug)]
+#[derive(Clone, Copy)]
 pub struct Entry<'a> {
     pub name: &'a [u8],
     pub extent: Extent,
@@ -29,7 +29,7 @@ pub struct Entry<'a> {
 }
 
 /// What a name means: one of the entries of a package.
-#[derive(Clone, Copy, Debug)]
+#[derive(Clone, Copy)]
 pub struct Meaning<'a> {
     pub entry: &'a Entry<'a>,
 }
@@ -131,12 +131,12 @@ fn push_numbered<'a>(out: &mut Vec<Entry<'a>>, all: &[Found<'a>]) -> Result<(), 
     };
     for d in all {
         out.push(Entry {
-            name: d.name,
+            name: d.name(),
             extent: extent_of(d),
             object: numbers.object(d.declaration.block),
             source: Some(*d),
         })?;
-        numbers = numbers.behind(&d.declaration);
+        numbers = numbers.behind(d.declaration);
     }
     Ok(())
 }
@@ -185,6 +185,7 @@ pub fn entries<'a>(
 {
     let mut out = imported(alloc, units)?;
     push_numbered(&mut out, declarations)?;
+    out.shrink_to_fit();
     Ok(out)
 }
 

@@ -1,3 +1,4 @@
+mod Sited
 mod Standing
 mod Lowest
 mod Called

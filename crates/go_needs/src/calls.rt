@@ -73,7 +73,7 @@ fn call_of(
     ensures call { (all : List owner.Owner) → ((n s : ℕ) → set.contains same_spot sources.now (n, s) ≡ has_source all n s) → IfOk result (λ c. c ≡ call_of uses.now all (asked_view a.now)) }
     ensures fits { (all : List owner.Owner) → ((n s : ℕ) → set.contains same_spot sources.now (n, s) ≡ has_source all n s) → IfOk result (λ c. fits_one uses.now owners.now all (asked_view a.now) ≡ true) }
 {
-    if !is_counted(sources, a.file, a.lookup.site) {
+    if !is_counted(sources, a.file, a.lookup.site.get()) {
         return Ok(None);
     }
     let Some(d) = source_of(a.meaning) else {
@@ -87,8 +87,8 @@ fn call_of(
     }
     Ok(Some(Call {
         number,
-        full: full_place(a.file, a.lookup.site),
-        partial: partial_place(a.file, a.lookup.site),
+        full: full_place(a.file, a.lookup.site.get()),
+        partial: partial_place(a.file, a.lookup.site.get()),
     }))
 }
 

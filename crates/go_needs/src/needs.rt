@@ -1,7 +1,9 @@
 //! What the objects of a package need.
 
 ghost use Rattle.std.specs.Prelude.{◌≡◌, ◌≤◌, ℕ, Bool, List, Some, true, IfOk, IfSome, length, map, nat_lt, slice_get, is_some};
-ghost use Rattle.go_lookup.specs.Views.{found_view, asked_view};
+ghost use Rattle.go_names.specs.Scopes.{AreOrderly};
+ghost use Rattle.go_tree.specs.Declarations.{found};
+ghost use Rattle.go_lookup.specs.Views.{units_view};
 ghost use Rattle.go_declarations.specs.Views.{seen_all};
 ghost use Rattle.go_package.specs.Declarations as declarations;
 ghost use Rattle.go_package.specs.Knowledge.{Outline, State, outlines};
@@ -10,7 +12,8 @@ ghost use Rattle.go_package.specs.Verdicts.{is_blocked};
 ghost use Rattle.go_needs.specs.Bounds.{AreBounds};
 ghost use Rattle.go_needs.specs.Passing.{ArePassing, is_faulty, is_misassigned};
 ghost use Rattle.go_needs.specs.Ranks.{AreRanks, rank_by};
-ghost use Rattle.go_needs.specs.Tells.{TellsNeeds};
+ghost use Rattle.go_needs.specs.Calls.{calls_of, fits};
+ghost use Rattle.go_needs.specs.Tells.{TellsDeclared, TellsNeeds, all_owners, names_asked};
 
 use crate::blocked::{any_column, blocking, failing, flags, passings};
 use crate::bounds::{Bound, are_bounded, levels_under};
@@ -26,10 +29,10 @@ use crate::reached::reached;
 use crate::search::graded_levels;
 use go_base::Memory;
 use go_declarations::Specification;
-use go_lookup::asked::Asked;
-use go_lookup::found::{Found, all_found, new_among};
-use go_lookup::look_up::names_asked;
-use go_lookup::meaning::entries;
+use go_lookup::found::all_found;
+use go_lookup::look_up::sited_names;
+use go_lookup::unit::Unit;
+use go_scopes::names::entries_of;
 use go_scopes::resolve::units_of;
 use go_tree::file::File;
 use go_tree::uses::Uses;
@@ -51,29 +54,52 @@ pub struct Passing {
     pub in_full: bool,
 }
 
-/// What the objects of a package need with these declarations and names.
-fn needs_by(
+/// What is held of the declarations of a package.
+#[derive(Drop)]
+struct Held {
+    declaring: Vec<Declaring>,
+    owners: Vec<Owner>,
+    groups: Vec<Group>,
+}
+
+/// What is held of the declarations of a package with these files and specifications.
+fn held_of(
     alloc: Global,
     uses: &Uses,
-    found: &[Found<'_>],
-    lookups: &[Asked<'_>],
+    units: &[Unit<'_>],
     specifications: &[Specification<'_>],
-) -> Result<Needs, Memory>
-    ensures { IfOk result (λ n. (p : Package) → p.uses ≡ uses.now → p.declared ≡ map found_view found.now → p.asked ≡ map asked_view lookups.now → TellsNeeds n p (seen_all specifications.now)) }
+) -> Result<Held, Memory>
+    requires { length units.now ≤ 256 }
+    ensures { IfOk result (λ h. (p : Package) → p.uses ≡ uses.now → p.declared ≡ found (units_view units.now) → TellsDeclared h p (seen_all specifications.now)) }
 {
+    let owned = owned_of(alloc, &all_found(alloc, units)?)?;
     let table = table_of(alloc, specifications)?;
-    let owned = owned_of(alloc, found)?;
     let declaring = declaring_of(alloc, &table, uses.package_objects())?;
     let owners = owners_of(alloc, &owned, &table, uses.package_objects())?;
     let groups = groups_of(alloc, uses, &owned, specifications)?;
-    let all = all_of(alloc, &owners, &groups)?;
-    let calls = calls_of(alloc, uses, &owners, &all, lookups)?;
-    Ok(Needs {
+    Ok(Held {
         declaring,
         owners,
         groups,
-        calls,
     })
+}
+
+/// The names in specifications that call for objects of the package with these files.
+fn calls_in<'a>(
+    alloc: Global,
+    uses: &Uses,
+    units: &'a [Unit<'a>],
+    held: &Held,
+) -> Result<Vec<Call>, Memory>
+    requires few { length units.now ≤ 256 }
+    requires orderly { AreOrderly (units_view units.now) }
+    ensures calls { IfOk result (λ v. v.items ≡ calls_of uses.now (all_owners held.now) (names_asked (units_view units.entry.now))) }
+    ensures fits { IfOk result (λ v. fits uses.now held.now.owners.items (all_owners held.now) (names_asked (units_view units.entry.now)) ≡ true) }
+{
+    let entries = entries_of(alloc, units)?;
+    let asked = sited_names(alloc, units, &entries)?;
+    let all = all_of(alloc, &held.owners, &held.groups)?;
+    calls_of(alloc, uses, &held.owners, &all, &asked)
 }
 
 /// What the objects of a package need, whose names mean this and which has these specifications. The files are numbered from 0 by
@@ -92,11 +118,14 @@ pub fn needs_of(
     ensures { IfOk result (λ n. TellsNeeds n (package_of (map source_of files.now) uses.now) (seen_all specifications.now)) }
 {
     let units = units_of(alloc, files)?;
-    let all = all_found(alloc, &units)?;
-    let declared = new_among(alloc, &all)?;
-    let entries = entries(alloc, &units, &declared)?;
-    let asked = names_asked(alloc, &units, &entries)?;
-    needs_by(alloc, uses, &all, &asked, specifications)
+    let held = held_of(alloc, uses, &units, specifications)?;
+    let calls = calls_in(alloc, uses, &units, &held)?;
+    Ok(Needs {
+        declaring: held.declaring,
+        owners: held.owners,
+        groups: held.groups,
+        calls,
+    })
 }
 
 impl Needs {

@@ -24,7 +24,7 @@ fn file_of(d: &Found<'_>) -> usize
 
 /// The number of the token of its name.
 fn name_of(d: &Found<'_>) -> usize
-    ensures { result ≡ d.now.declaration.name }
+    ensures { result ≡ d.now.declaration.now.name }
 {
     d.declaration.name as usize
 }

@@ -31,7 +31,7 @@ pub fn owner_of(d: &Found<'_>) -> Owner
     Owner {
         file: d.file,
         source: d.declaration.source,
-        column: d.declaration.column,
+        column: d.declaration.column as usize,
     }
 }
 

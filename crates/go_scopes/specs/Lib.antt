@@ -5,6 +5,5 @@ pub mod Noted
 pub mod Numbering
 pub mod Resolve
 pub mod SecondMembers
-pub mod Sited
 pub mod Used
 pub mod Views

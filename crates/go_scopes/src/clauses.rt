@@ -110,8 +110,8 @@ fn outside_declarations(found: Option<Fault>, all: &[Found<'_>]) -> Option<Fault
 {
     let mut found = found;
     for d in all {
-        let fails = is_outside(d.declaration.entity, d.declaration.block, d.name);
-        found = note(found, fails, FaultCode::Outside, d.place);
+        let fails = is_outside(d.declaration.entity, d.declaration.block, d.name());
+        found = note(found, fails, FaultCode::Outside, d.place());
     }
     found
 }
@@ -121,7 +121,7 @@ fn declares(name: &[u8], all: &[Found<'_>]) -> bool
     ensures { result ≡ declares name.now (map found_view all.now) }
 {
     for d in all {
-        if is_package(d.declaration.block) && same(d.name, name) {
+        if is_package(d.declaration.block) && same(d.name(), name) {
             return true;
         }
     }

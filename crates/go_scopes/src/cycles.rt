@@ -5,11 +5,11 @@ ghost use Rattle.std.specs.Option.{option_map};
 ghost use Rattle.go_base.specs.declared.fault.FaultCode.{FaultCode};
 ghost use Rattle.go_tree.specs.Failures.{place_if};
 ghost use Rattle.go_tree.specs.Needs.{needs_itself, cycles};
-ghost use Rattle.go_lookup.specs.Views.{place_of, found_view, asked_view};
+ghost use Rattle.go_lookup.specs.Views.{found_view, asked_view};
+ghost use Rattle.go_lookup.specs.Sited.{sited};
 ghost use Rattle.go_cycles.specs.Order.{IsOrder};
 ghost use Rattle.go_scopes.specs.Decided.{is_decided};
 ghost use Rattle.go_scopes.specs.Noted.{noted};
-ghost use Rattle.go_scopes.specs.Sited.{is_sited, sited};
 ghost use Rattle.go_scopes.specs.Views.{failure_of};
 
 use crate::failure::{is_earlier, note};
@@ -17,7 +17,7 @@ use go_base::{Fault, FaultCode};
 use go_cycles::order::{Order, order_of};
 use go_lookup::asked::Asked;
 use go_lookup::found::Found;
-use go_tree::context::Site;
+use go_lookup::kinds::is_sited;
 use std::alloc::{AllocError, Global};
 
 /// Whether a fault that was found is reported before another one.
@@ -40,27 +40,17 @@ fn note_cycle<'a>(
     d: &Found<'a>,
 ) -> Result<Option<Fault>, AllocError>
     requires { IsOrder order.now (map asked_view lookups.now) }
-    ensures { IfOk result (λ f. option_map failure_of f ≡ noted (option_map failure_of found) FaultCode.Cycle (place_if (needs_itself (map asked_view lookups.now) rounds (found_view d.now)) (place_of d.now.place) [])) }
+    ensures { IfOk result (λ f. option_map failure_of f ≡ noted (option_map failure_of found) FaultCode.Cycle (place_if (needs_itself (map asked_view lookups.now) rounds (found_view d.now)) (found_view d.now).place [])) }
 {
     let fault = Fault {
         code: FaultCode::Cycle,
-        span: d.place,
+        span: d.place(),
     };
     if is_decided(found, fault) {
         return Ok(found);
     }
     let fails = order.needs_itself(alloc, lookups, rounds, d)?;
-    Ok(note(found, fails, FaultCode::Cycle, d.place))
-}
-
-/// Whether a name with this site stands in a part of a declaration.
-fn is_sited(site: Site) -> bool
-    ensures { result ≡ is_sited site }
-{
-    match site {
-        Site::Elsewhere => false,
-        Site::Type { .. } | Site::Value { .. } | Site::Right { .. } => true,
-    }
+    Ok(note(found, fails, FaultCode::Cycle, d.place()))
 }
 
 /// The names that stand in parts of declarations: no declaration needs another one.
@@ -69,7 +59,7 @@ fn sited<'a>(alloc: Global, lookups: &[Asked<'a>]) -> Result<Vec<Asked<'a>>, All
 {
     let mut out = Vec::new(alloc);
     for a in lookups {
-        if is_sited(a.lookup.site) {
+        if is_sited(a.lookup.site.get()) {
             out.push(*a)?;
         }
     }

@@ -121,10 +121,10 @@ fn fails(rule: LookupRule, a: &Asked<'_>) -> bool
         LookupRule::Undeclared => lacks_meaning(a.lookup.constant, a.name(), object_asked(a)),
         LookupRule::OutsideName => is_outside(a.name(), object_asked(a)),
         LookupRule::OutsideMember => {
-            is_import(object_asked(a)) && is_other_member(a.lookup.role, a.selected())
+            is_import(object_asked(a)) && is_other_member(a.lookup.role.get(), a.selected())
         }
         LookupRule::NotCalled => {
-            is_import(object_asked(a)) && is_no_call(a.lookup.role, a.selected())
+            is_import(object_asked(a)) && is_no_call(a.lookup.role.get(), a.selected())
         }
         LookupRule::Initialiser => a.lookup.initial && is_initial(a.meaning),
     }

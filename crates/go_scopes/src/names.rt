@@ -1,16 +1,14 @@
 //! What any name means at any place of a package.
 
 ghost use Rattle.std.specs.Prelude.{◌≡◌, ◌≤◌, ℕ, IfOk, length, map};
-ghost use Rattle.go_names.specs.Scopes.{locals_of, AreNested};
+ghost use Rattle.go_names.specs.Scopes.{locals_of, AreNested, AreOrderly};
 ghost use Rattle.go_tree.specs.Meanings.{meanings};
-ghost use Rattle.go_lookup.specs.Views.{entry_view};
-ghost use Rattle.go_scopes.specs.Resolve.{units_of};
+ghost use Rattle.go_lookup.specs.Views.{units_view, entry_view};
 
-use crate::resolve::units_of;
 use go_base::Memory;
 use go_lookup::found::{all_found, new_among};
 use go_lookup::meaning::{Entry, entries};
-use go_tree::file::File;
+use go_lookup::unit::Unit;
 use std::alloc::Global;
 
 /// What the imports and the declarations of a package mean. `go_lookup::by_name` makes a table of them that answers what a name means
@@ -19,13 +17,13 @@ use std::alloc::Global;
 /// # Errors
 ///
 /// Want of memory.
-pub fn entries_of<'a>(alloc: Global, files: &'a [File]) -> Result<Vec<Entry<'a>>, Memory>
-    requires { length files.now ≤ 256 }
-    ensures entries { IfOk result (λ v. map entry_view v.items ≡ meanings (units_of files.now)) }
+pub fn entries_of<'a>(alloc: Global, units: &'a [Unit<'a>]) -> Result<Vec<Entry<'a>>, Memory>
+    requires few { length units.now ≤ 256 }
+    requires orderly { AreOrderly (units_view units.now) }
+    ensures entries { IfOk result (λ v. map entry_view v.items ≡ meanings (units_view units.entry.now)) }
     ensures nested { IfOk result (λ v. (n : ℕ) → AreNested (locals_of n (map entry_view v.items))) }
 {
-    let units = units_of(alloc, files)?;
-    let all = all_found(alloc, &units)?;
+    let all = all_found(alloc, units)?;
     let declared = new_among(alloc, &all)?;
-    entries(alloc, &units, &declared)
+    entries(alloc, units, &declared)
 }

@@ -46,7 +46,12 @@ fn second_declarations(
     let mut found = found;
     let mut names = IndexMap::new(alloc);
     for d in all {
-        found = note(found, has_clash(d, &names), FaultCode::Redeclared, d.place);
+        found = note(
+            found,
+            has_clash(d, &names),
+            FaultCode::Redeclared,
+            d.place(),
+        );
         add_name(&mut names, d)?;
     }
     Ok(found)
@@ -70,8 +75,8 @@ fn hidden_imports(found: Option<Fault>, imported: bool, all: &[Found<'_>]) -> Op
 {
     let mut found = found;
     for d in all {
-        let hides = imported && is_package(d.declaration.block) && is_fmt(d.name);
-        found = note(found, hides, FaultCode::Redeclared, d.place);
+        let hides = imported && is_package(d.declaration.block) && is_fmt(d.name());
+        found = note(found, hides, FaultCode::Redeclared, d.place());
     }
     found
 }
@@ -129,7 +134,7 @@ fn has_new(d: &Found<'_>, statements: &IndexSet<Statement>) -> bool
 
 /// Whether it is the first name before a `:=` that declares none.
 fn lacks_new(d: &Found<'_>, statements: &IndexSet<Statement>) -> bool
-    ensures { (declared : List rules.Found) → KnowsStatements statements.now declared → result ≡ (is_by_define d.now.declaration.manner && nat_eq d.now.declaration.column 0 && not (has_new (found_view d.now) declared)) }
+    ensures { (declared : List rules.Found) → KnowsStatements statements.now declared → result ≡ (is_by_define d.now.declaration.now.manner && nat_eq d.now.declaration.now.column 0 && not (has_new (found_view d.now) declared)) }
 {
     is_by_define(d.declaration.manner) && d.declaration.column == 0 && !has_new(d, statements)
 }
@@ -149,7 +154,7 @@ fn none_new(
     let mut all = all;
     while let [d, rest @ ..] = all {
         let fails = lacks_new(d, &statements);
-        found = note(found, fails, FaultCode::Redeclared, d.place);
+        found = note(found, fails, FaultCode::Redeclared, d.place());
         all = rest;
     }
     Ok(found)

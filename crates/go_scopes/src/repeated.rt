@@ -41,7 +41,7 @@ fn name_place(d: &Found<'_>) -> NamePlace
     NamePlace {
         file: d.file,
         token: d.declaration.name,
-        place: d.place,
+        place: d.place(),
     }
 }
 
@@ -78,7 +78,7 @@ fn push_hidden(
     ensures { OnOk result (map name_view out.new.items ≡ map name_view out.old.items ++ hidden_names imported (map found_view all.now)) }
 {
     for d in all {
-        let hides = imported && is_package(d.declaration.block) && is_fmt(d.name);
+        let hides = imported && is_package(d.declaration.block) && is_fmt(d.name());
         push_if(out, hides, name_place(d))?;
     }
     Ok(())

@@ -49,7 +49,7 @@ fn is_assigned(role: Role) -> bool
 fn used_spot(a: &Asked<'_>) -> Option<(u32, u32)>
     ensures { result ≡ used_spot (asked_view a.now) }
 {
-    if is_assigned(a.lookup.role) {
+    if is_assigned(a.lookup.role.get()) {
         return None;
     }
     let d = a.meaning?.entry.source?;
@@ -79,7 +79,7 @@ fn used_spots(alloc: Global, lookups: &[Asked<'_>]) -> Result<HashSet<(u32, u32)
 
 /// Whether it is a local variable that isn't used; `spots` has those that are.
 fn is_unused(d: &Found<'_>, spots: &HashSet<(u32, u32)>) -> bool
-    ensures { (asks : List rules.Asked) → AreUsed spots.now asks → result ≡ (is_counted d.now.declaration.entity d.now.declaration.block && not (is_used (found_view d.now) asks)) }
+    ensures { (asks : List rules.Asked) → AreUsed spots.now asks → result ≡ (is_counted d.now.declaration.now.entity d.now.declaration.now.block && not (is_used (found_view d.now) asks)) }
 {
     is_counted(d.declaration.entity, d.declaration.block)
         && !spots.contains(&(d.file, d.declaration.name))
@@ -98,7 +98,7 @@ pub fn unused_variables(
     let mut found = found;
     for d in declared {
         let fails = is_unused(d, &spots);
-        found = note(found, fails, FaultCode::UnusedVariable, d.place);
+        found = note(found, fails, FaultCode::UnusedVariable, d.place());
     }
     Ok(found)
 }

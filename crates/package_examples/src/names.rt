@@ -4,7 +4,7 @@ use go_base::Span;
 use go_cycles::order::order_of;
 use go_lookup::by_name::by_name;
 use go_lookup::found::{all_found, new_among};
-use go_lookup::look_up::names_asked;
+use go_lookup::look_up::sited_names;
 use go_lookup::meaning::entries;
 use go_parse::parse;
 use go_scopes::error::ResolveError;
@@ -260,9 +260,10 @@ fn shown(alloc: Global, text: &[u8]) -> Result<Vec<Shown>, Fail> {
     if units.len() > 256 {
         return Err("a package has at most 256 files".into());
     }
-    let declared = new_among(alloc, &all_found(alloc, &units)?)?;
+    let all = all_found(alloc, &units)?;
+    let declared = new_among(alloc, &all)?;
     let entries = entries(alloc, &units, &declared)?;
-    let asked = names_asked(alloc, &units, &entries)?;
+    let asked = sited_names(alloc, &units, &entries)?;
     let order = order_of(alloc, &asked, &declared)?;
     let rounds = declared.len().saturating_mul(2);
     let mut shown = Vec::new(alloc);
@@ -294,13 +295,14 @@ fn order(rt: HostRuntime) -> Result<(), Fail> {
     if units.len() > 256 {
         return Err("a package has at most 256 files".into());
     }
-    let declared = new_among(alloc, &all_found(alloc, &units)?)?;
+    let all = all_found(alloc, &units)?;
+    let declared = new_among(alloc, &all)?;
     let entries = entries(alloc, &units, &declared)?;
-    let asked = names_asked(alloc, &units, &entries)?;
+    let asked = sited_names(alloc, &units, &entries)?;
     let mut names = Vec::new(alloc);
     let sorted = order_of(alloc, &asked, &declared)?.in_order(alloc, &declared)?;
     for d in sorted.iter().flatten() {
-        names.extend_from_slice(d.name)?;
+        names.extend_from_slice(d.name())?;
     }
     assert!(rt; names.as_slice() == b"CBA".as_slice());
     Ok(())
@@ -313,10 +315,11 @@ fn object_at<'a>(
     token: u32,
     name: &'a [u8],
 ) -> Result<Option<Object>, Fail> {
-    if files.len() > 256 {
+    let units = units_of(alloc, files)?;
+    if units.len() > 256 {
         return Err("a package has at most 256 files".into());
     }
-    let entries = entries_of(alloc, files)?;
+    let entries = entries_of(alloc, &units)?;
     let names = by_name(alloc, &entries)?;
     Ok(names.object_at(0, token, name))
 }

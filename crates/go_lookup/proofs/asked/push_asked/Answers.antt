@@ -2,7 +2,6 @@ use Rattle.std.proofs.Common.{◌≡◌, ◌∙◌, ◌++◌, ◌∷◌, ◌+◌
 use Rattle.std.specs.Prelude.{slice_get}
 use Rattle.std.specs.Option.{option_map, option_to_list}
 use Rattle.go_tree.specs.declared.event.Event.{Event}
-use Rattle.go_tree.specs.declared.event.Event.TheVariants as event
 use Rattle.go_tree.specs.Lookups.{asked_in}
 use Rattle.go_lookup.specs.Views.{asked_view}
 use Rattle.go_lookup.proofs.Told.{get_some, drop_at, out_none, out_some}
@@ -15,12 +14,12 @@ loop-number-preserved c ms told =
     let ts = c.args.unit.now.tokens.now in
     let events = c.args.unit.now.events.items in
     let i = c.loop-number.number in
-    let e : Event = slice_index_or c.deref-event-items.result.now i (event.Import 0) in
+    let e : Event = c.event-item.result in
     let rest = drop (i + 1) events in
     let less : i < length events = omega (arith, c.loop-number-test.true, ap length c.deref-event-items.ensures.value) in
-    let same : e ≡ slice_index_or events i (event.Import 0) = ap (λ l. slice_index_or l i (event.Import 0)) c.deref-event-items.ensures.value in
-    let back : drop i events ≡ e ∷ rest = drop_at events i (event.Import 0) less ∙ ap (λ x. x ∷ rest) (sym same) in
-    let some : slice_get events i ≡ Some e = get_some events i (event.Import 0) less ∙ ap (λ x. Some x) (sym same) in
+    let same : e ≡ slice_index_or events i e = c.event-item.is ∙ ap (λ l. slice_index_or l i e) c.deref-event-items.ensures.value in
+    let back : drop i events ≡ e ∷ rest = drop_at events i e less ∙ ap (λ x. x ∷ rest) (sym same) in
+    let some : slice_get events i ≡ Some e = get_some events i e less ∙ ap (λ x. Some x) (sym same) in
     let r = c.asked_by.result in
     let asked = c.asked_by.ensures ms (asked_in ms n ts rest) (c.told_at.ensures ms n ts events e told some) in
     let out = c.loop-number.out.items in

@@ -1,7 +1,6 @@
 use Rattle.std.proofs.Common.{◌≡◌, ◌∙◌, ◌++◌, ◌∷◌, [], suc, ◌+◌, ◌<◌, length, drop, slice_index_or, sym, ap, subst, map, arith}
 use Rattle.std.proofs.Math.Seq.{drop-cons}
 use Rattle.go_tree.specs.declared.event.Event.{Event}
-use Rattle.go_tree.specs.declared.event.Event.TheVariants as event
 use Rattle.std.specs.Option.{option_map}
 use Rattle.go_names.specs.Scopes.{locals_of}
 use Rattle.go_lookup.specs.Views.{meaning_view}
@@ -33,12 +32,13 @@ loop-event-preserved c =
     let ts = c.args.unit.now.tokens.now in
     let events = c.args.unit.now.events.items in
     let i = c.loop-event.event-index in
-    let e : Event = slice_index_or events i (event.Import 0) in
+    let e : Event = c.event-item.result in
     let rest = drop (i + 1) events in
     let less : i < length events = omega (arith, c.loop-event-test.true, ap length c.deref-event-items.ensures.value) in
     let next : suc i ≡ i + 1 = omega arith in
-    let back : drop i events ≡ e ∷ rest = drop-cons events i (event.Import 0) less ∙ ap (λ k. e ∷ drop k events) next in
-    let named : c.name_of-token.result ≡ name_of e = c.name_of-token.ensures ∙ ap (λ l. name_of (slice_index_or l i (event.Import 0))) c.deref-event-items.ensures.value in
+    let same : e ≡ slice_index_or events i e = c.event-item.is ∙ ap (λ l. slice_index_or l i e) c.deref-event-items.ensures.value in
+    let back : drop i events ≡ e ∷ rest = drop-cons events i e less ∙ ap (λ k. slice_index_or events i e ∷ drop k events) next ∙ ap (λ x. x ∷ rest) (sym same) in
+    let named : c.name_of-token.result ≡ name_of e = c.name_of-token.ensures in
     let before = subst (λ l. IsUnderway n (locals_of n ms) l c.loop-event.scopes.blocks.items (map meaning_view (drop c.loop-event.entered c.args.locals.now))) back c.loop-event.invariant.underway in
     let now = c.in_ok-entered.ensures n (locals_of n ms) e rest named before in
     let meaning : option_map meaning_view c.meaning_of.result ≡ named_meaning ms n ts (name_of e) = c.meaning_of.ensures c.requires.nested now.0 ∙ ap (named_meaning ms n ts) named in

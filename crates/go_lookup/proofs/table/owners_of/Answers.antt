@@ -12,7 +12,7 @@ loop-number-preserved-in_ok-insert c = λ n t.
     let item = c.index-all-number.result in
     let d = c.in-Some.d in
     let back : drop (number - 1) c.args.all.now ≡ item ∷ drop number c.args.all.now = drop-back c.args.all.now number (number - 1) item (omega (arith, c.loop-number-test.true)) (omega (arith, c.loop-number-test.true, c.loop-number.auto.number)) c.index-all-number.is in
-    let there : is_declared_at n t (option_map found_view item.entry.now.source) ≡ (nat_eq d.file n && nat_eq d.declaration.name t) = ap (λ s. is_declared_at n t (option_map found_view s)) c.in-Some.is in
+    let there : is_declared_at n t (option_map found_view item.entry.now.source) ≡ (nat_eq d.file n && nat_eq d.declaration.now.name t) = ap (λ s. is_declared_at n t (option_map found_view s)) c.in-Some.is in
     let front = ap (λ l. declared_object n t (map meaning_view l)) back in
     grind (arith, c.in_ok-insert.ensures.updates.0 (n, t), c.loop-number.invariant n t, there, front)
 

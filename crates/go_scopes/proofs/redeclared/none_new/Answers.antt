@@ -6,5 +6,5 @@ use Rattle.go_scopes.proofs.redeclared.none_new.Goals as goal
 
 pub loop-all-preserved : goal.loop-all-preserved
 loop-all-preserved c =
-    let lacks : c.lacks_new-fails.result ≡ (is_by_define c.d-item.result.declaration.manner && nat_eq c.d-item.result.declaration.column 0 && not (has_new (found_view c.d-item.result) (map found_view c.args.declared.now))) = c.lacks_new-fails.ensures (map found_view c.args.declared.now) c.in_ok-statements.ensures in
+    let lacks : c.lacks_new-fails.result ≡ (is_by_define c.d-item.result.declaration.now.manner && nat_eq c.d-item.result.declaration.now.column 0 && not (has_new (found_view c.d-item.result) (map found_view c.args.declared.now))) = c.lacks_new-fails.ensures (map found_view c.args.declared.now) c.in_ok-statements.ensures in
     first_of (search (rules, lacks), grind (arith, common_steps, lacks))

@@ -1,6 +1,9 @@
-use Rattle.std.proofs.Common.{◌∙◌, refl, take}
+use Rattle.std.proofs.Common.{◌∙◌, ◌++◌, ◌∷◌, [], refl, ap, subst, take}
 use Rattle.std.specs.Option.{option_map}
 use Rattle.go_base.specs.declared.fault.FaultCode.TheVariants as code
+use Rattle.go_tree.specs.Duplicates.{member_place}
+use Rattle.go_scopes.specs.Gathered.{Gathers}
+use Rattle.go_scopes.specs.Noted.{noted}
 use Rattle.go_scopes.specs.Views.{failure_of}
 use Rattle.go_scopes.proofs.Gathering.{gathers-more}
 use Rattle.go_scopes.proofs.Seconds.{noted_second}
@@ -16,7 +19,9 @@ loop-event-preserved c =
     let read = c.deref-event-items.result.now in
     let i = c.loop-event.event-index in
     let before = c.loop-event.invariant.before in
+    let e = c.event-item.result in
+    let told = c.note_member-found.ensures (take i es) before ∙ ap (λ x. noted (option_map failure_of c.loop-event.found) code.Duplicate (member_place (take i es) c.args.file ts x [])) c.event-item.is in
     record {
-      rest = noted_second (option_map failure_of c.loop-event.found) (option_map failure_of c.note_member-found.result) code.Duplicate c.args.file ts i es read _ c.deref-event-items.ensures.value c.loop-event-test.true (c.note_member-found.ensures (take i es) before) ∙ c.loop-event.invariant.rest;
-      before = gathers-more c.add.new.self ts i es read _ c.deref-event-items.ensures.value c.loop-event-test.true (c.in_ok-add.ensures (take i es) before);
+      rest = noted_second (option_map failure_of c.loop-event.found) (option_map failure_of c.note_member-found.result) code.Duplicate c.args.file ts i es read e c.deref-event-items.ensures.value c.loop-event-test.true told ∙ c.loop-event.invariant.rest;
+      before = gathers-more c.add.new.self ts i es read e c.deref-event-items.ensures.value c.loop-event-test.true (subst (λ x. Gathers c.add.new.self ts (take i es ++ x ∷ [])) c.event-item.is (c.in_ok-add.ensures (take i es) before));
     }
