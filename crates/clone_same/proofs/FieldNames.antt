@@ -7,7 +7,7 @@ use Rattle.go_types.specs.Tables.{Table, type_of, type_below, tree_at, rights_of
 use Rattle.type_tests.specs.Tests.{underlying_of}
 use Rattle.go_typed.specs.declared.node.TypedNode.{TypedNode, out-TypedNode}
 use Rattle.go_typed.specs.Trees.{Sort}
-use Rattle.go_typed.specs.Views.{label_view, sort_view, view, views}
+use Rattle.go_typed.specs.Views.{label_at, sort_view, view, views}
 use Rattle.clone_window.specs.Kinds.{outline}
 use Rattle.clone_window.specs.Masses.{is_hole, is_inside}
 use Rattle.clone_window.specs.Sameness.{Final, of_type, of_kind, of_none, same_final}
@@ -41,13 +41,13 @@ own n s t x y =
 
 -- what their parts name
 abbrev pub inner : FieldNames ℕ → Bool → Bool → TypedNode → TypedNode → Bool
-inner n a b x y = all_fields_agree n n a b (sort_view (out-TypedNode x).label.sort) (sort_view (out-TypedNode y).label.sort) (views (out-TypedNode x).parts.items) (views (out-TypedNode y).parts.items)
+inner n a b x y = all_fields_agree n n a b (sort_view (out-TypedNode x).sort) (sort_view (out-TypedNode y).sort) (views (out-TypedNode x).parts.items) (views (out-TypedNode y).parts.items)
 
 abbrev pub hole : Bool → TypedNode → Bool
-hole a x = is_hole a (out-TypedNode x).form (label_view (out-TypedNode x).label)
+hole a x = is_hole a (out-TypedNode x).form (label_at (out-TypedNode x))
 
 abbrev pub within : Bool → TypedNode → Bool
-within a x = is_inside a (out-TypedNode x).form (label_view (out-TypedNode x).label)
+within a x = is_inside a (out-TypedNode x).form (label_at (out-TypedNode x))
 
 pub opened-fields : (n : FieldNames ℕ) (a b : Bool) (s t : Sort ℕ) (x y : TypedNode) →
     fields_agree n n a b s t (view x) (view y) ≡ (hole a x || (own n s t x y && inner n (within a x) (within b y) x y))

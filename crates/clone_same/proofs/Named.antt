@@ -66,16 +66,16 @@ named_at false false types shown names parts = shown && (names && parts)
 named_at _ _ types shown names parts = false
 
 abbrev pub types-agree : TypedNode → TypedNode → Bool
-types-agree x y = same_final nat_eq (final (sort_view (out-TypedNode x).label.sort)) (final (sort_view (out-TypedNode y).label.sort))
+types-agree x y = same_final nat_eq (final (sort_view (out-TypedNode x).sort)) (final (sort_view (out-TypedNode y).sort))
 
 abbrev pub shown : TypedNode → TypedNode → Bool
 shown x y =
     let f = (out-TypedNode x).form in
     let g = (out-TypedNode y).form in
-    same_outline (outline f) (outline g) && agree_besides nat_eq (compared f) (compared g) (sort_view (out-TypedNode x).label.sort) (sort_view (out-TypedNode y).label.sort)
+    same_outline (outline f) (outline g) && agree_besides nat_eq (compared f) (compared g) (sort_view (out-TypedNode x).sort) (sort_view (out-TypedNode y).sort)
 
 abbrev pub parts-named : FieldNames ℕ → Bool → Bool → TypedNode → TypedNode → Bool
-parts-named names a b x y = all_named names a b (sort_view (out-TypedNode x).label.sort) (sort_view (out-TypedNode y).label.sort) (views (out-TypedNode x).parts.items) (views (out-TypedNode y).parts.items)
+parts-named names a b x y = all_named names a b (sort_view (out-TypedNode x).sort) (sort_view (out-TypedNode y).sort) (views (out-TypedNode x).parts.items) (views (out-TypedNode y).parts.items)
 
 and-true : (c : Bool) → (c && true) ≡ c
 and-true true = refl
@@ -97,7 +97,7 @@ together false false f g l m parts own inner = in-turn (same_outline (outline f)
 
 opened-agree : (a b : Bool) (x y : TypedNode) →
     agree nat_eq a b (view x) (view y)
-    ≡ agree_at nat_eq (hole a x) (hole b y) (out-TypedNode x).form (out-TypedNode y).form (sort_view (out-TypedNode x).label.sort) (sort_view (out-TypedNode y).label.sort)
+    ≡ agree_at nat_eq (hole a x) (hole b y) (out-TypedNode x).form (out-TypedNode y).form (sort_view (out-TypedNode x).sort) (sort_view (out-TypedNode y).sort)
     (all_agree nat_eq (within a x) (within b y) (views (out-TypedNode x).parts.items) (views (out-TypedNode y).parts.items))
 opened-agree a b x y = ap (λ v. agree nat_eq a b v (view y)) (view_out x) ∙ ap (agree nat_eq a b (opened x)) (view_out y)
 
@@ -106,8 +106,8 @@ pub opened-named : (names : FieldNames ℕ) (a b : Bool) (s t : Sort ℕ) (x y :
     agree_named names a b s t (view x) (view y)
     ≡ named_at (hole a x) (hole b y) (types-agree x y) (shown x y) (own names s t x y) (parts-named names (within a x) (within b y) x y)
 opened-named names a b s t x y =
-    let l = sort_view (out-TypedNode x).label.sort in
-    let m = sort_view (out-TypedNode y).label.sort in
+    let l = sort_view (out-TypedNode x).sort in
+    let m = sort_view (out-TypedNode y).sort in
     let ps = views (out-TypedNode x).parts.items in
     let qs = views (out-TypedNode y).parts.items in
     ap (λ r. r && fields_agree names names a b s t (view x) (view y)) (opened-agree a b x y)
@@ -118,12 +118,12 @@ opened-named names a b s t x y =
 pub named-parts : (names : FieldNames ℕ) (a b c v w : Bool) (s t : Sort ℕ) (x y : TypedNode) (ps qs us vs : List (Option TypedNode)) → hole a x ≡ false → hole b y ≡ false → shown x y ≡ true →
     ps ≡ (out-TypedNode x).parts.items → qs ≡ (out-TypedNode y).parts.items → us ≡ (out-TypedNode x).parts.items → vs ≡ (out-TypedNode y).parts.items → v ≡ within a x → w ≡ within b y →
     same_field (names_field (outline (out-TypedNode x).form)) (field_name names s (outline (out-TypedNode x).form) (views ps)) (field_name names t (outline (out-TypedNode y).form) (views qs)) ≡ c →
-    agree_named names a b s t (view x) (view y) ≡ (c && all_named names v w (sort_view (out-TypedNode x).label.sort) (sort_view (out-TypedNode y).label.sort) (views us) (views vs))
+    agree_named names a b s t (view x) (view y) ≡ (c && all_named names v w (sort_view (out-TypedNode x).sort) (sort_view (out-TypedNode y).sort) (views us) (views vs))
 named-parts names a b c v w s t x y ps qs us vs h k g p q m n i j e =
     let o = outline (out-TypedNode x).form in
     let r = outline (out-TypedNode y).form in
-    let ls = sort_view (out-TypedNode x).label.sort in
-    let ms = sort_view (out-TypedNode y).label.sort in
+    let ls = sort_view (out-TypedNode x).sort in
+    let ms = sort_view (out-TypedNode y).sort in
     let xs = (out-TypedNode x).parts.items in
     let ys = (out-TypedNode y).parts.items in
     let mine : own names s t x y ≡ c =

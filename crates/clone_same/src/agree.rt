@@ -33,16 +33,15 @@ fn agree_named(
 ) -> bool
     ensures { result ≡ specs.agree_named (field_text types.now) inside other_inside (sort_view owner.now) (sort_view other_owner.now) (view node.now) (view other.now) }
 {
-    if is_hole(inside, node.form, &node.label) {
-        return is_hole(other_inside, other.form, &other.label)
-            && same_type(&node.label.sort, &other.label.sort);
+    if is_hole(inside, node) {
+        return is_hole(other_inside, other) && same_type(&node.sort, &other.sort);
     }
-    if is_hole(other_inside, other.form, &other.label) {
+    if is_hole(other_inside, other) {
         return false;
     }
-    let within = is_inside(inside, node.form, &node.label);
-    let other_within = is_inside(other_inside, other.form, &other.label);
-    agree_alone(node.form, other.form, &node.label.sort, &other.label.sort)
+    let within = is_inside(inside, node);
+    let other_within = is_inside(other_inside, other);
+    agree_alone(node.form, other.form, &node.sort, &other.sort)
         && same_field(
             types,
             owner,
@@ -56,8 +55,8 @@ fn agree_named(
             types,
             within,
             other_within,
-            &node.label.sort,
-            &other.label.sort,
+            &node.sort,
+            &other.sort,
             &node.parts,
             &other.parts,
         )

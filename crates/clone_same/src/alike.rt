@@ -71,7 +71,7 @@ fn final_of(sort: &Sort) -> Final
     match sort {
         Sort::Type(ty) => Final::Type(*ty),
         Sort::Value(ty) => Final::Type(*ty),
-        Sort::Constant(ty, _) => Final::Type(*ty),
+        Sort::Constant(ty, _) => Final::Type(ty.id()),
         Sort::Open(untyped) => Final::Kind(untyped_kind(*untyped)),
         Sort::OpenConstant(value) => Final::Kind(const_kind(value.get())),
         _ => Final::Nothing,

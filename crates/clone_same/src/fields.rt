@@ -97,7 +97,7 @@ pub fn operand<'a>(parts: &'a [Option<TypedNode>], nothing: &'a Sort) -> &'a Sor
     ensures { sort_view result.now ≡ specs.operand (views parts.now) }
 {
     match parts {
-        [Some(first), ..] => &first.label.sort,
+        [Some(first), ..] => &first.sort,
         _ => nothing,
     }
 }
@@ -122,7 +122,7 @@ pub fn field_text<'a>(types: &'a Types, owner: &Sort, field: u32) -> &'a [u8]
     match owner {
         Sort::Type(ty) => field_in(types, *ty, field),
         Sort::Value(ty) => field_in(types, *ty, field),
-        Sort::Constant(ty, _) => field_in(types, *ty, field),
+        Sort::Constant(ty, _) => field_in(types, ty.id(), field),
         _ => b"",
     }
 }

@@ -30,11 +30,11 @@ pub fn locals_of(alloc: Global, statements: &[Option<TypedNode>]) -> Result<Vec<
 fn push_locals(inside: bool, node: &TypedNode, out: &mut Vec<u32>) -> Result<(), AllocError>
     ensures { OnOk result (out.new.items ≡ out.old.items ++ locals inside (view node.now)) }
 {
-    if is_hole(inside, node.form, &node.label) {
+    if is_hole(inside, node) {
         return Ok(());
     }
     push_local(node.form, out)?;
-    let within = is_inside(inside, node.form, &node.label);
+    let within = is_inside(inside, node);
     push_all_locals(within, &node.parts, out)
 }
 

@@ -1,4 +1,3 @@
 mod Follows
 mod Spans
-mod Taken
 mod Runs

@@ -8,7 +8,6 @@
 #![tactic(auto)]
 
 mod check;
-mod copy;
 mod indexed;
 pub mod laws;
 mod run;

@@ -4,7 +4,6 @@ ghost use Rattle.std.specs.Prelude.{IfOk};
 ghost use Rattle.clone_session.specs.Session.{IsOf};
 
 use crate::check::Check;
-use crate::copy::copied;
 use edit_apply::Texts;
 use go_base::{Fault, Memory};
 use go_checked::CheckedPackage;
@@ -28,8 +27,7 @@ pub enum Verdict {
 pub fn verdict_of<C: Check>(alloc: Global, texts: &Texts) -> Result<Verdict, Memory>
     ensures { IfOk result (IsOf texts.now) }
 {
-    let files = copied(alloc, texts)?;
-    match C::check(alloc, &files) {
+    match C::check(alloc, texts.all()) {
         Ok(package) => {
             let _checked = package.package();
             Ok(Verdict::Good(package))

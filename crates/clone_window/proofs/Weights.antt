@@ -7,7 +7,7 @@ use Rattle.go_typed.specs.declared.form.Form.TheVariants as form
 use Rattle.go_typed.specs.declared.node.TypedNode.{TypedNode, out-TypedNode}
 use Rattle.go_typed.specs.Forms.{is_statement_list}
 use Rattle.go_typed.specs.Funcs.{size, sizes}
-use Rattle.go_typed.specs.Views.{view, views, label_view}
+use Rattle.go_typed.specs.Views.{view, views, label_at}
 use Rattle.go_typed.specs.Lists.{own_list, statement_lists, lists_among}
 use Rattle.go_typed.specs.Trees.{Label, Typed, typed, Typeds, none, more, skip}
 use Rattle.clone_window.specs.Masses.{mass, masses, each_mass}
@@ -146,7 +146,7 @@ pub list-call : (node : TypedNode) (parts : List (Option TypedNode)) (next : ℕ
 list-call node parts next table p h room e =
     let n = out-TypedNode node in
     let ps = views n.parts.items in
-    let ws : weights (view node) ≡ row_masses ps ∷ weights_among ps = ap weights (view_out node) ∙ list-rows n.form n.first n.last (label_view n.label) ps h in
+    let ws : weights (view node) ≡ row_masses ps ∷ weights_among ps = ap weights (view_out node) ∙ list-rows n.form n.first n.last (label_at n) ps h in
     let here : take (suc (length (weights_among ps))) (drop next table) ≡ row_masses ps ∷ weights_among ps = subst (λ w. take (length w) (drop next table) ≡ w) ws e in
     let r = row-there next table (length (weights_among ps)) (row_masses ps) (weights_among ps) here in
     let many : size (view node) ≡ suc (sizes ps) = ap size (view_out node) in
@@ -161,7 +161,7 @@ pub other-call : (node : TypedNode) (parts : List (Option TypedNode)) (next : �
 other-call node parts next table p h room e =
     let n = out-TypedNode node in
     let ps = views n.parts.items in
-    let ws : weights (view node) ≡ weights_among ps = ap weights (view_out node) ∙ other-rows n.form n.first n.last (label_view n.label) ps h in
+    let ws : weights (view node) ≡ weights_among ps = ap weights (view_out node) ∙ other-rows n.form n.first n.last (label_at n) ps h in
     let here : take (length (weights_among ps)) (drop next table) ≡ weights_among ps = subst (λ w. take (length w) (drop next table) ≡ w) ws e in
     let many : size (view node) ≡ suc (sizes ps) = ap size (view_out node) in
     let Q : List (Option TypedNode) → Type 0 = λ xs. (next + sizes (views xs) < 2 ^ 32) × (take (length (weights_among (views xs))) (drop next table) ≡ weights_among (views xs)) in
@@ -191,4 +191,4 @@ list-put node vs us ws xs empty own parts p h push blank below mine put =
     put (rows vs) within before (row-count vs)
     ∙ ap (λ i. rows vs ++ i ∷ within) mine
     ∙ ap (λ ps. rows vs ++ row_masses (views ps) ∷ weights_among (views ps)) p
-    ∙ ap (λ l. rows vs ++ l) (sym (list-rows n.form n.first n.last (label_view n.label) (views n.parts.items) h) ∙ sym (ap weights (view_out node)))
+    ∙ ap (λ l. rows vs ++ l) (sym (list-rows n.form n.first n.last (label_at n) (views n.parts.items) h) ∙ sym (ap weights (view_out node)))

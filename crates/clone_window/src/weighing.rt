@@ -45,9 +45,9 @@ fn weigh(
         put_row(table, number, masses);
         Ok(mass)
     } else {
-        let within = is_inside(inside, node.form, &node.label);
+        let within = is_inside(inside, node);
         let parts = weigh_parts(alloc, within, &node.parts, table)?;
-        Ok(mass_over(inside, node.form, &node.label, parts))
+        Ok(mass_over(inside, node, parts))
     }
 }
 
@@ -99,7 +99,7 @@ fn list_mass(inside: bool, list: &TypedNode, each: &[u32]) -> u32
     if inside {
         return mass_of(true, list);
     }
-    mass_over(false, list.form, &list.label, sum_of(each))
+    mass_over(false, list, sum_of(each))
 }
 
 /// The sum of numbers; it ends at the last number.

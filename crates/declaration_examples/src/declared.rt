@@ -62,7 +62,7 @@ fn sort_name(types: &Types, sort: &Sort) -> &'static str {
     match sort {
         Sort::Type(of) => type_name(types, *of),
         Sort::Value(of) => type_name(types, *of),
-        Sort::Constant(of, _) => type_name(types, *of),
+        Sort::Constant(of, _) => type_name(types, of.id()),
         Sort::OpenConstant(_) => "untyped",
         _ => "unknown",
     }

@@ -99,6 +99,14 @@ impl Texts {
         self.items.len() as u32
     }
 
+    /// All files, in the order of names.
+    pub fn all(&self) -> &[FileText]
+        ensures files { result.now ≡ self.now }
+        ensures package { IsPackage self.now }
+    {
+        &self.items
+    }
+
     /// The name of the file with this number, in the order of names.
     pub fn name_at(&self, file: u32) -> &Name
         requires { file < length self.now }

@@ -1,6 +1,8 @@
 //! Tests: the locals of a window are those that its tokens name, in the order of tokens.
 use go_grammar::kind::{Arithmetic, Operator};
-use go_typed::{Form, Label, LocalUse, Sort, TypedFunc, TypedNode, Window, walk_locals};
+use go_typed::{
+    Form, Label, LocalUse, NamedLocal, Sort, TypedFunc, TypedNode, Window, walk_locals,
+};
 use go_types::TypeId;
 use std::alloc::Global;
 use std::test::Fail;
@@ -86,11 +88,12 @@ fn plain(alloc: Global) -> Result<TypedFunc, Fail> {
     let root = TypedNode::new(Form::Function, 0, 24, label, vec![in alloc; body]?);
     let mut tokens = Vec::new(alloc);
     for token in 0..24 {
-        tokens.push(match token {
+        let local = match token {
             3 | 10 => Some(0),
             8 | 14 | 16 | 21 => Some(1),
             _ => None,
-        })?;
+        };
+        tokens.push(NamedLocal::of(local)?)?;
     }
     let locals = vec![in alloc; Sort::Value(INT), Sort::Value(INT)]?;
     let parameters = vec![in alloc; Some(0)]?;

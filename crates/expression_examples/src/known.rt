@@ -18,7 +18,7 @@ fn is_known(types: &Types, sort: &Sort) -> bool
     match sort {
         Sort::Type(of) => *of < types.count(),
         Sort::Value(of) => *of < types.count(),
-        Sort::Constant(of, _) => *of < types.count(),
+        Sort::Constant(of, _) => of.id() < types.count(),
         Sort::Results(of) => *of < types.count(),
         _ => true,
     }

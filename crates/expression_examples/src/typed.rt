@@ -88,7 +88,7 @@ fn sort_name(types: &Types, sort: &Sort) -> &'static str {
     match sort {
         Sort::Type(of) => type_name(types, *of),
         Sort::Value(of) => type_name(types, *of),
-        Sort::Constant(of, _) => type_name(types, *of),
+        Sort::Constant(of, _) => type_name(types, of.id()),
         _ => "unknown",
     }
 }
@@ -117,12 +117,12 @@ fn named(of: &'static str) -> Shown {
 }
 
 fn types_of(types: &Types, node: &TypedNode) -> Shown {
-    let of = sort_name(types, &node.label.sort);
+    let of = sort_name(types, &node.sort);
     match node.parts.as_slice() {
         [Some(left), Some(right)] => Shown {
             of,
-            left: sort_name(types, &left.label.sort),
-            right: sort_name(types, &right.label.sort),
+            left: sort_name(types, &left.sort),
+            right: sort_name(types, &right.sort),
         },
         _ => named(of),
     }
@@ -190,8 +190,8 @@ fn declaration(
     if let Some(node) = right.of {
         match type_at(alloc, file.tokens(), names, types, node) {
             Ok(typed) => {
-                last = sort_name(types, &typed.label.sort);
-                if let Sort::Type(of) = typed.label.sort {
+                last = sort_name(types, &typed.sort);
+                if let Sort::Type(of) = typed.sort {
                     wanted = Context::Wanted(of);
                 }
             }

@@ -19,7 +19,7 @@ use go_base::Memory;
 use go_body_frames::Surroundings;
 use go_body_frames::beginning::local_named;
 use go_frames::parameters::entry_names;
-use go_typed::{Locals, Sort, TypedFunc, TypedNode};
+use go_typed::{Locals, NamedLocal, Sort, TypedFunc, TypedNode};
 use go_types::Types;
 use std::alloc::Global;
 use typed_parts::typed_func;
@@ -70,14 +70,14 @@ fn token_locals(
     surroundings: &Surroundings<'_>,
     locals: &Locals,
     count: u32,
-) -> Result<Vec<Option<u32>>, Memory>
+) -> Result<Vec<NamedLocal>, Memory>
     requires surroundings { KnownSurroundings types.now surroundings.now }
     requires locals { KnownLocals (length types.now.shapes) locals.now }
     ensures { IfOk result (λ v. v.items ≡ map (λ i. local_named (object_at surroundings.now i)) (numbers_from 0 count)) }
 {
     let mut named = Vec::new(alloc);
     for token in 0..count {
-        let local = local_named(types, surroundings, locals, token);
+        let local = NamedLocal::of(local_named(types, surroundings, locals, token))?;
         named.push(local)?;
     }
     Ok(named)

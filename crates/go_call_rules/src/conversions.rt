@@ -18,7 +18,7 @@ use go_rules::conversion::{becomes_text, conversion, keeps_value};
 use go_rules::nodes::sort_of;
 use go_rules::sorts::constant_of;
 use go_rules::{Basics, Place, TypeError};
-use go_typed::{SharedConst, Sort, TypedNode};
+use go_typed::{ConstantType, SharedConst, Sort, TypedNode};
 use go_types::{TypeId, Types};
 use std::alloc::Global;
 
@@ -60,7 +60,7 @@ fn constant_or_value(
     match constant {
         Some(constant) => {
             let constant = SharedConst::of(alloc, constant.shared()?)?;
-            Ok(Sort::Constant(to, constant))
+            Ok(Sort::Constant(ConstantType::of(to)?, constant))
         }
         None => Ok(Sort::Value(to)),
     }
@@ -80,7 +80,7 @@ fn converted(alloc: Global, types: &Types, to: TypeId, operand: &Sort) -> Result
     }
     if becomes_text(types, to, constant) {
         let text = Const::Text(text_of(alloc, constant)?);
-        return Ok(Sort::Constant(to, SharedConst::of(alloc, text)?));
+        return Ok(Sort::Constant(ConstantType::of(to)?, SharedConst::of(alloc, text)?));
     }
     Ok(Sort::Value(to))
 }

@@ -17,7 +17,7 @@ use go_rules::index::{array_length, element, text_length};
 use go_rules::nodes::sort_of;
 use go_rules::sorts::{constant_of, family, is_family};
 use go_rules::{Basics, Family, Place, TypeError};
-use go_typed::{SharedConst, Sort, TypedNode};
+use go_typed::{ConstantType, SharedConst, Sort, TypedNode};
 use go_types::Types;
 use std::alloc::Global;
 
@@ -41,7 +41,7 @@ fn has_elements(types: &Types, sort: &Sort) -> bool
 fn has_calls(types: &Types, node: &TypedNode) -> bool
     ensures { result ≡ (label_of (seen types.now node.now)).calls }
 {
-    node.label.calls
+    node.calls
 }
 
 /// The length that is constant: of a constant string, and of an array without a call that isn't constant.
@@ -75,7 +75,7 @@ fn length_value(
         Some(known) => {
             let value = i128::from(known);
             let constant = SharedConst::of(alloc, Const::Int { value, rune: false })?;
-            Ok(Sort::Constant(basics.int, constant))
+            Ok(Sort::Constant(ConstantType::of(basics.int)?, constant))
         }
         None => Ok(Sort::Value(basics.int)),
     }

@@ -57,7 +57,7 @@ pub fn type_in(
         return Err(TokenError::Fault(fault));
     }
     let take = taken(types, scope.basics, context);
-    give(types, scope.basics, take, &mut typed);
+    give(types, scope.basics, take, &mut typed)?;
     Ok(typed)
 }
 

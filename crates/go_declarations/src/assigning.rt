@@ -22,7 +22,7 @@ use go_rules::basics::default_type;
 use go_rules::nodes::{fault_at, sort_of};
 use go_rules::sorts::{is_constant, is_nil, open_kind};
 use go_rules::{Basics, TypeFault};
-use go_typed::{Sort, TypedNode};
+use go_typed::{ConstantType, Sort, TypedNode};
 use go_types::{Shape, TypeId, Types};
 use type_tests::{assignable, underlying};
 
@@ -83,7 +83,7 @@ fn value_type(types: &Types, basics: Basics, sort: &Sort) -> Option<TypeId>
 {
     match sort {
         Sort::Value(of) => Some(*of),
-        Sort::Constant(of, _) => Some(*of),
+        Sort::Constant(of, _) => Some(of.id()),
         _ => match open_kind(types, sort) {
             Some(kind) => Some(default_type(types, basics, kind)),
             None => None,
@@ -130,8 +130,12 @@ fn constant_in(types: &Types, of: Option<TypeId>, value: &Sort) -> Result<Sort, 
     match (of, value) {
         (None, Sort::Constant(_, _)) => value.shared(),
         (None, Sort::OpenConstant(_)) => value.shared(),
-        (Some(of), Sort::Constant(_, constant)) => Ok(Sort::Constant(of, constant.clone()?)),
-        (Some(of), Sort::OpenConstant(constant)) => Ok(Sort::Constant(of, constant.clone()?)),
+        (Some(of), Sort::Constant(_, constant)) => {
+            Ok(Sort::Constant(ConstantType::of(of)?, constant.clone()?))
+        }
+        (Some(of), Sort::OpenConstant(constant)) => {
+            Ok(Sort::Constant(ConstantType::of(of)?, constant.clone()?))
+        }
         (_, _) => Ok(Sort::Unknown),
     }
 }

@@ -319,5 +319,6 @@ pub fn specifications<'a>(
     for number in 0..files.len() {
         push_file(alloc, number, files[number].root().parts(), &mut found)?;
     }
+    found.shrink_to_fit();
     Ok(found)
 }

@@ -13,12 +13,12 @@ use Rattle.go_typed.specs.declared.node.TypedNode.{TypedNode}
 use Rattle.go_typed.specs.declared.node.TypedNode.TheViews.{out-TypedNode}
 use Rattle.go_typed.specs.declared.node.TypedNode.TheFolds.{fold_out-TypedNode}
 use Rattle.go_typed.specs.Trees.{Label, Nothing, typed, Typeds, mapped, all_mapped, sort_mapped, sort_of, label_of, form_of, SortHas, Every, EveryPart}
-use Rattle.go_typed.specs.Views.{view, views, label_view, sort_view}
+use Rattle.go_typed.specs.Views.{view, views, label_at, sort_view}
 use Rattle.go_meaning.specs.Planning.{part_at, is_there, sort_type, type_there, sort_there, calls_there, default_at, at_most_one, form_plan, sort_plan, plan}
 use Rattle.go_meaning.specs.Plans.{Once, Loop}
 use Rattle.go_eval.specs.Views.{is_default_there, is_for}
 
-pub opened : (x : TypedNode) → view x ≡ typed (out-TypedNode x).form (out-TypedNode x).first (out-TypedNode x).last (label_view (out-TypedNode x).label) (views (out-TypedNode x).parts.items)
+pub opened : (x : TypedNode) → view x ≡ typed (out-TypedNode x).form (out-TypedNode x).first (out-TypedNode x).last (label_at (out-TypedNode x)) (views (out-TypedNode x).parts.items)
 opened x = search (rules, fold_out-TypedNode)
 
 pub part_seen : (f : ℕ → TypeTree) (xs : List (Option TypedNode)) (n : ℕ) → part_at (all_mapped f (views xs)) n ≡ option_map (λ x. mapped f (view x)) (entry xs n)
@@ -35,17 +35,17 @@ part_known P (Some x ∷ xs) zero h = h.0
 part_known P (None ∷ xs) (suc n) h = part_known P xs n h
 part_known P (Some x ∷ xs) (suc n) h = part_known P xs n h.1
 
-pub sort_out : (f : ℕ → TypeTree) (x : TypedNode) → sort_of (mapped f (view x)) ≡ sort_mapped f (sort_view (out-TypedNode x).label.sort)
+pub sort_out : (f : ℕ → TypeTree) (x : TypedNode) → sort_of (mapped f (view x)) ≡ sort_mapped f (sort_view (out-TypedNode x).sort)
 sort_out f x = ap (λ t. sort_of (mapped f t)) (opened x)
 
-pub calls_out : (f : ℕ → TypeTree) (x : TypedNode) → (label_of (mapped f (view x))).calls ≡ (out-TypedNode x).label.calls
+pub calls_out : (f : ℕ → TypeTree) (x : TypedNode) → (label_of (mapped f (view x))).calls ≡ (out-TypedNode x).calls
 calls_out f x = ap (λ t. (label_of (mapped f t)).calls) (opened x)
 
 pub form_out : (f : ℕ → TypeTree) (x : TypedNode) → form_of (mapped f (view x)) ≡ (out-TypedNode x).form
 form_out f x = ap (λ t. form_of (mapped f t)) (opened x)
 
-pub sort_known : (P : ℕ → Type 0) (x : TypedNode) → Every P (view x) → SortHas P (sort_view (out-TypedNode x).label.sort)
-sort_known P x h = let h1 : Every P (typed (out-TypedNode x).form (out-TypedNode x).first (out-TypedNode x).last (label_view (out-TypedNode x).label) (views (out-TypedNode x).parts.items)) = subst (Every P) (opened x) h in h1.0
+pub sort_known : (P : ℕ → Type 0) (x : TypedNode) → Every P (view x) → SortHas P (sort_view (out-TypedNode x).sort)
+sort_known P x h = let h1 : Every P (typed (out-TypedNode x).form (out-TypedNode x).first (out-TypedNode x).last (label_at (out-TypedNode x)) (views (out-TypedNode x).parts.items)) = subst (Every P) (opened x) h in h1.0
 
 pub part_place : {B : Type 0} (now : B → Option TypedNode) (xs : List (Option TypedNode)) (i : ℕ) (Q : B → Type 0) (o : Option B) → MatchOption o (length xs ≤ i) (λ x. (i < length xs) × Q x) → IfSome o (λ x. now x ≡ get_or xs i (now x)) → slice_get xs i ≡ option_map now o
 part_place now xs i Q None h e = slice_get_past xs i h
@@ -83,25 +83,25 @@ module _ (f : ℕ → TypeTree) (xs : List (Option TypedNode)) (n : ℕ) where
   there_by now None e = sym (ap is_there (part_none e))
   there_by now (Some x) e = sym (ap is_there (part_some (now x) e))
 
-  pub type_some : (x : TypedNode) → entry xs n ≡ Some x → sort_type (sort_mapped f (sort_view (out-TypedNode x).label.sort)) ≡ type_there (part_at (all_mapped f (views xs)) n)
+  pub type_some : (x : TypedNode) → entry xs n ≡ Some x → sort_type (sort_mapped f (sort_view (out-TypedNode x).sort)) ≡ type_there (part_at (all_mapped f (views xs)) n)
   type_some x e = sym (ap sort_type (sort_out f x)) ∙ sym (ap type_there (part_some x e))
 
   pub type_none : entry xs n ≡ None → boolean ≡ type_there (part_at (all_mapped f (views xs)) n)
   type_none e = sym (ap type_there (part_none e))
 
-  pub sort_some : (x : TypedNode) → entry xs n ≡ Some x → sort_mapped f (sort_view (out-TypedNode x).label.sort) ≡ sort_there (part_at (all_mapped f (views xs)) n)
+  pub sort_some : (x : TypedNode) → entry xs n ≡ Some x → sort_mapped f (sort_view (out-TypedNode x).sort) ≡ sort_there (part_at (all_mapped f (views xs)) n)
   sort_some x e = sym (sort_out f x) ∙ sym (ap sort_there (part_some x e))
 
   pub sort_none : entry xs n ≡ None → Nothing ≡ sort_there (part_at (all_mapped f (views xs)) n)
   sort_none e = sym (ap sort_there (part_none e))
 
-  pub calls_some : (x : TypedNode) → entry xs n ≡ Some x → (out-TypedNode x).label.calls ≡ calls_there (part_at (all_mapped f (views xs)) n)
+  pub calls_some : (x : TypedNode) → entry xs n ≡ Some x → (out-TypedNode x).calls ≡ calls_there (part_at (all_mapped f (views xs)) n)
   calls_some x e = sym (calls_out f x) ∙ sym (ap calls_there (part_some x e))
 
   pub calls_none : entry xs n ≡ None → false ≡ calls_there (part_at (all_mapped f (views xs)) n)
   calls_none e = sym (ap calls_there (part_none e))
 
-pub known_some : (P : ℕ → Type 0) (xs : List (Option TypedNode)) (n : ℕ) (x : TypedNode) → entry xs n ≡ Some x → EveryPart P (views xs) → SortHas P (sort_view (out-TypedNode x).label.sort)
+pub known_some : (P : ℕ → Type 0) (xs : List (Option TypedNode)) (n : ℕ) (x : TypedNode) → entry xs n ≡ Some x → EveryPart P (views xs) → SortHas P (sort_view (out-TypedNode x).sort)
 known_some P xs n x e h = sort_known P x (subst (λ o. IfSome o (λ y. Every P (view y))) e (part_known P xs n h))
 
 pub at_most_one_is : (n : ℕ) → nat_lt n 2 ≡ at_most_one n

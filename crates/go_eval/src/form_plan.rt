@@ -4,8 +4,8 @@ ghost use Rattle.std.specs.Prelude.{◌≡◌, ◌<◌, ℕ, IfSome, false, leng
 ghost use Rattle.go_types.specs.Trees.{TypeTree, boolean};
 ghost use Rattle.go_types.specs.Tables.{Table, type_of, rights_of};
 ghost use Rattle.go_typed.specs.declared.form.Form.TheVariants as form;
-ghost use Rattle.go_typed.specs.Trees.{Sort as sort_of, Typeds, label_mapped};
-ghost use Rattle.go_typed.specs.Views.{AllKnown, KnownSort, all_seen, sort_seen, label_view};
+ghost use Rattle.go_typed.specs.Trees.{Label, Sort as sort_of, Typeds};
+ghost use Rattle.go_typed.specs.Views.{AllKnown, KnownSort, all_seen, sort_seen};
 ghost use Rattle.go_meaning.specs.Plans as plans;
 ghost use Rattle.go_meaning.specs.Planning as planning;
 ghost use Rattle.go_types.specs.Relations.{Rights};
@@ -22,7 +22,7 @@ use go_grammar::kind::{Arithmetic, Operator, Sign, Step};
 use go_tree::object::Predeclared;
 use go_typed::form::{Form, Referent};
 use go_typed::node::TypedNode;
-use go_typed::sort::{Label, Sort};
+use go_typed::sort::Sort;
 use go_types::{TypeId, Types};
 
 fn step(types: &Types, step: Step, parts: &[Option<TypedNode>]) -> Plan
@@ -172,7 +172,7 @@ fn call(types: &Types, parts: &[Option<TypedNode>]) -> Plan
     ensures known { KnownPlan (length types.now.shapes) result }
 {
     match part(parts, 0) {
-        Some(callee) => call_of(types, &callee.label.sort, parts),
+        Some(callee) => call_of(types, &callee.sort, parts),
         None => Plan::Apply,
     }
 }
@@ -247,17 +247,17 @@ fn of_sort(sort: &Sort, plan: Plan) -> Plan
     }
 }
 
-/// What a node of this form, with this label and these parts, does by itself.
-pub fn plan_of(types: &Types, form: Form, label: &Label, parts: &[Option<TypedNode>]) -> Plan
-    requires label { KnownSort (length types.now.shapes) label.now.sort }
+/// What a node of this form, which stands for this and has these parts, does by itself, whatever else its label says.
+pub fn plan_of(types: &Types, form: Form, sort: &Sort, parts: &[Option<TypedNode>]) -> Plan
+    requires sort { KnownSort (length types.now.shapes) sort.now }
     requires parts { AllKnown (length types.now.shapes) parts.now }
-    ensures plan { plan_view (rights_of types.now) (type_of types.now.shapes) (sort_seen types.now label.now.sort) (all_seen types.now parts.now) result
-        ≡ planning.plan (rights_of types.now) form (label_mapped (type_of types.now.shapes) (label_view label.now)) (all_seen types.now parts.now) }
+    ensures plan { (l : Label TypeTree) → l.sort ≡ sort_seen types.now sort.now → plan_view (rights_of types.now) (type_of types.now.shapes) (sort_seen types.now sort.now) (all_seen types.now parts.now) result
+        ≡ planning.plan (rights_of types.now) form l (all_seen types.now parts.now) }
     ensures known { KnownPlan (length types.now.shapes) result }
 {
     if is_for(form) {
         return Plan::Loop(is_there(parts, 1));
     }
-    let plan = form_plan(types, form, sort_type(&label.sort), parts);
-    of_sort(&label.sort, plan)
+    let plan = form_plan(types, form, sort_type(sort), parts);
+    of_sort(sort, plan)
 }

@@ -24,7 +24,8 @@ pub fn sort_type(sort: &Sort) -> Option<TypeId>
     ensures known { (n : ℕ) → SortHas (λ t. t < n) (sort_view sort.now) → IfSome result (λ a. a < n) }
 {
     match sort {
-        Sort::Type(ty) | Sort::Value(ty) | Sort::Constant(ty, _) => Some(*ty),
+        Sort::Type(ty) | Sort::Value(ty) => Some(*ty),
+        Sort::Constant(ty, _) => Some(ty.id()),
         _ => None,
     }
 }
@@ -59,7 +60,7 @@ pub fn type_at(parts: &[Option<TypedNode>], number: usize) -> Option<TypeId>
     ensures known { (n : ℕ) → EveryPart (λ t. t < n) (views parts.now) → IfSome result (λ a. a < n) }
 {
     match part(parts, number) {
-        Some(node) => sort_type(&node.label.sort),
+        Some(node) => sort_type(&node.sort),
         None => None,
     }
 }
@@ -69,7 +70,7 @@ pub fn calls_at(parts: &[Option<TypedNode>], number: usize) -> bool
     ensures { (f : ℕ → TypeTree) → result ≡ planning.calls_there (planning.part_at (all_mapped f (views parts.now)) number) }
 {
     match part(parts, number) {
-        Some(node) => node.label.calls,
+        Some(node) => node.calls,
         None => false,
     }
 }

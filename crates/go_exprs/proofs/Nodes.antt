@@ -13,7 +13,7 @@ use Rattle.go_typed.specs.declared.node.TypedNode.TheViews.{out-TypedNode, roll-
 use Rattle.go_typed.specs.declared.node.TypedNode.TheFolds.{fold_out-TypedNode, fold-roll-TypedNode}
 use Rattle.go_typed.specs.Funcs.{size, sizes}
 use Rattle.go_typed.specs.Trees.{Label, typed, more, skip, row, list_of, sort_of, mapped, all_mapped, label_mapped, Every}
-use Rattle.go_typed.specs.Views.{view, views, label_view, seen, sort_seen, Known, AllKnown, KnownSort}
+use Rattle.go_typed.specs.Views.{view, views, label_view, label_at, seen, sort_seen, Known, AllKnown, KnownSort}
 use Rattle.go_rules.specs.Sorts.{Stands, takes_type, retyped}
 use Rattle.go_rules.specs.Settling.{Part, settled, all_settled}
 use Rattle.go_rules.specs.Tables.{Parts, is_held, held}
@@ -23,10 +23,10 @@ drop_step xs i x d lt is = let e : suc i ≡ i + 1 = omega arith in drop-cons xs
 
 -- ---- a node by its fields
 
-pub opened : (n : TypedNode) → view n ≡ typed (out-TypedNode n).form (out-TypedNode n).first (out-TypedNode n).last (label_view (out-TypedNode n).label) (views (out-TypedNode n).parts.items)
+pub opened : (n : TypedNode) → view n ≡ typed (out-TypedNode n).form (out-TypedNode n).first (out-TypedNode n).last (label_at (out-TypedNode n)) (views (out-TypedNode n).parts.items)
 opened n = search (rules, fold_out-TypedNode)
 
-pub rolled : (x : TypedNode-F TypedNode) → view (roll-TypedNode x) ≡ typed x.form x.first x.last (label_view x.label) (views x.parts.items)
+pub rolled : (x : TypedNode-F TypedNode) → view (roll-TypedNode x) ≡ typed x.form x.first x.last (label_at x) (views x.parts.items)
 rolled x = search (rules, fold-roll-TypedNode)
 
 -- ---- rows
@@ -40,11 +40,11 @@ module _ (t : Table) where
   row_seen (None ∷ ns) = ap skip (row_seen ns)
   row_seen (Some n ∷ ns) = ap (more (seen t n)) (row_seen ns)
 
-  pub seen_out : (n : TypedNode) → seen t n ≡ typed (out-TypedNode n).form (out-TypedNode n).first (out-TypedNode n).last (label_mapped (type_of t.shapes) (label_view (out-TypedNode n).label)) (row (parts_seen (out-TypedNode n).parts.items))
-  seen_out n = ap (mapped (type_of t.shapes)) (opened n) ∙ ap (typed (out-TypedNode n).form (out-TypedNode n).first (out-TypedNode n).last (label_mapped (type_of t.shapes) (label_view (out-TypedNode n).label))) (row_seen (out-TypedNode n).parts.items)
+  pub seen_out : (n : TypedNode) → seen t n ≡ typed (out-TypedNode n).form (out-TypedNode n).first (out-TypedNode n).last (label_mapped (type_of t.shapes) (label_at (out-TypedNode n))) (row (parts_seen (out-TypedNode n).parts.items))
+  seen_out n = ap (mapped (type_of t.shapes)) (opened n) ∙ ap (typed (out-TypedNode n).form (out-TypedNode n).first (out-TypedNode n).last (label_mapped (type_of t.shapes) (label_at (out-TypedNode n)))) (row_seen (out-TypedNode n).parts.items)
 
-  pub seen_roll : (x : TypedNode-F TypedNode) → seen t (roll-TypedNode x) ≡ typed x.form x.first x.last (label_mapped (type_of t.shapes) (label_view x.label)) (row (parts_seen x.parts.items))
-  seen_roll x = ap (mapped (type_of t.shapes)) (rolled x) ∙ ap (typed x.form x.first x.last (label_mapped (type_of t.shapes) (label_view x.label))) (row_seen x.parts.items)
+  pub seen_roll : (x : TypedNode-F TypedNode) → seen t (roll-TypedNode x) ≡ typed x.form x.first x.last (label_mapped (type_of t.shapes) (label_at x)) (row (parts_seen x.parts.items))
+  seen_roll x = ap (mapped (type_of t.shapes)) (rolled x) ∙ ap (typed x.form x.first x.last (label_mapped (type_of t.shapes) (label_at x))) (row_seen x.parts.items)
 
 pub list_row : (xs : Parts) → list_of (row xs) ≡ xs
 list_row [] = refl
@@ -106,60 +106,61 @@ module _ (t : Table) where
   itself x xs f i j l e h = ap (λ y. held (Some y)) e ∙ ap (λ b. cond b (list_of (row xs)) (Some (typed f i j l (row xs)) ∷ [])) h ∙ ap (λ y. Some y ∷ []) (sym e)
 
   pub held_parts : (n : TypedNode) → is_held (out-TypedNode n).form ≡ true → held (Some (seen t n)) ≡ parts_seen t (out-TypedNode n).parts.items
-  held_parts n h = holder (seen t n) (parts_seen t (out-TypedNode n).parts.items) (out-TypedNode n).form (out-TypedNode n).first (out-TypedNode n).last (label_mapped (type_of t.shapes) (label_view (out-TypedNode n).label)) (seen_out t n) h
+  held_parts n h = holder (seen t n) (parts_seen t (out-TypedNode n).parts.items) (out-TypedNode n).form (out-TypedNode n).first (out-TypedNode n).last (label_mapped (type_of t.shapes) (label_at (out-TypedNode n))) (seen_out t n) h
 
   pub held_itself : (n : TypedNode) → is_held (out-TypedNode n).form ≡ false → held (Some (seen t n)) ≡ Some (seen t n) ∷ []
-  held_itself n h = itself (seen t n) (parts_seen t (out-TypedNode n).parts.items) (out-TypedNode n).form (out-TypedNode n).first (out-TypedNode n).last (label_mapped (type_of t.shapes) (label_view (out-TypedNode n).label)) (seen_out t n) h
+  held_itself n h = itself (seen t n) (parts_seen t (out-TypedNode n).parts.items) (out-TypedNode n).form (out-TypedNode n).first (out-TypedNode n).last (label_mapped (type_of t.shapes) (label_at (out-TypedNode n))) (seen_out t n) h
 
 -- ---- settling in place
 
 settled_parts : (w : TypeTree) (f : Form) (i j : ℕ) (l : Label TypeTree) (xs : Parts) → takes_type l.sort ≡ true → settled w (typed f i j l (row xs)) ≡ typed f i j (record l { sort = retyped w l.sort }) (row (map (option_map (settled w)) xs))
 settled_parts w f i j l xs h = ap (λ b. cond b (typed f i j (record l { sort = retyped w l.sort }) (all_settled w (row xs))) (typed f i j l (row xs))) h ∙ ap (typed f i j (record l { sort = retyped w l.sort })) (settled_row w xs)
 
--- the label was written first, as that of y, and then the parts, as ns
+-- what the node stands for was written first, as in y, and then the parts, as ns
 module _ (t : Table) (w : TypeTree) (n : TypedNode) (y x : TypedNode-F TypedNode) (ns ms : List (Option TypedNode)) where
-  abbrev seen_label : program.Label → Label TypeTree
-  seen_label l = label_mapped (type_of t.shapes) (label_view l)
+  abbrev seen_label : TypedNode-F TypedNode → Label TypeTree
+  seen_label z = label_mapped (type_of t.shapes) (label_at z)
 
   pub settled_then : takes_type (sort_of (seen t n)) ≡ true
       → y.form ≡ (out-TypedNode n).form → y.first ≡ (out-TypedNode n).first → y.last ≡ (out-TypedNode n).last
-      → sort_seen t y.label.sort ≡ retyped w (sort_seen t (out-TypedNode n).label.sort) → y.label.varies ≡ (out-TypedNode n).label.varies → y.label.calls ≡ (out-TypedNode n).label.calls → y.parts.items ≡ (out-TypedNode n).parts.items
-      → x.form ≡ (out-TypedNode (roll-TypedNode y)).form → x.first ≡ (out-TypedNode (roll-TypedNode y)).first → x.last ≡ (out-TypedNode (roll-TypedNode y)).last → x.label ≡ (out-TypedNode (roll-TypedNode y)).label
+      → sort_seen t y.sort ≡ retyped w (sort_seen t (out-TypedNode n).sort) → y.varies ≡ (out-TypedNode n).varies → y.calls ≡ (out-TypedNode n).calls → y.parts.items ≡ (out-TypedNode n).parts.items
+      → x.form ≡ (out-TypedNode (roll-TypedNode y)).form → x.first ≡ (out-TypedNode (roll-TypedNode y)).first → x.last ≡ (out-TypedNode (roll-TypedNode y)).last
+      → x.sort ≡ (out-TypedNode (roll-TypedNode y)).sort → x.varies ≡ (out-TypedNode (roll-TypedNode y)).varies → x.calls ≡ (out-TypedNode (roll-TypedNode y)).calls
       → x.parts.items ≡ take (out-TypedNode (roll-TypedNode y)).parts.len (ns ++ drop (length ns) (out-TypedNode (roll-TypedNode y)).parts.items)
       → ms ≡ (out-TypedNode (roll-TypedNode y)).parts.items → length ns ≡ length ms
       → parts_seen t ns ≡ map (option_map (settled w)) (parts_seen t ms)
       → seen t (roll-TypedNode x) ≡ settled w (seen t n)
-  settled_then takes_n yf yi yj ys yv yc yp xf xi xj xl xp em en done =
+  settled_then takes_n yf yi yj ys yv yc yp xf xi xj xs xv xc xp em en done =
       let e = out-roll-TypedNode y in
       let o = out-TypedNode n in
       let v = out-TypedNode (roll-TypedNode y) in
       let all : x.parts.items ≡ ns = xp ∙ refilled v.parts.len ns v.parts.items v.parts.ok.0 (en ∙ ap length em) in
       let parts_are : parts_seen t x.parts.items ≡ map (option_map (settled w)) (parts_seen t o.parts.items) =
       ap (parts_seen t) all ∙ done ∙ ap (λ zs. map (option_map (settled w)) (parts_seen t zs)) (em ∙ ap (λ (z : TypedNode-F TypedNode). z.parts.items) e ∙ yp) in
-      let label_is : seen_label x.label ≡ record (seen_label o.label) { sort = retyped w (sort_seen t o.label.sort) } =
-      ap seen_label (xl ∙ ap (λ (z : TypedNode-F TypedNode). z.label) e)
-      ∙ ap (λ (s : Stands). let m : Label TypeTree = record { sort = s; varies = y.label.varies; calls = y.label.calls } in m) ys
-      ∙ ap (λ (b : Bool). let m : Label TypeTree = record { sort = retyped w (sort_seen t o.label.sort); varies = b; calls = y.label.calls } in m) yv
-      ∙ ap (λ (b : Bool). let m : Label TypeTree = record { sort = retyped w (sort_seen t o.label.sort); varies = o.label.varies; calls = b } in m) yc in
-      let takes_o : takes_type (seen_label o.label).sort ≡ true = ap (λ z. takes_type (sort_of z)) (sym (seen_out t n)) ∙ takes_n in
+      let sort_is : sort_seen t x.sort ≡ retyped w (sort_seen t o.sort) = ap (sort_seen t) (xs ∙ ap (λ (z : TypedNode-F TypedNode). z.sort) e) ∙ ys in
+      let label_is : seen_label x ≡ record (seen_label o) { sort = retyped w (sort_seen t o.sort) } =
+      ap (λ (s : Stands). let m : Label TypeTree = record { sort = s; varies = x.varies; calls = x.calls } in m) sort_is
+      ∙ ap (λ (b : Bool). let m : Label TypeTree = record { sort = retyped w (sort_seen t o.sort); varies = b; calls = x.calls } in m) (xv ∙ ap (λ (z : TypedNode-F TypedNode). z.varies) e ∙ yv)
+      ∙ ap (λ (b : Bool). let m : Label TypeTree = record { sort = retyped w (sort_seen t o.sort); varies = o.varies; calls = b } in m) (xc ∙ ap (λ (z : TypedNode-F TypedNode). z.calls) e ∙ yc) in
+      let takes_o : takes_type (seen_label o).sort ≡ true = ap (λ z. takes_type (sort_of z)) (sym (seen_out t n)) ∙ takes_n in
       seen_roll t x
-      ∙ ap (λ f. typed f x.first x.last (seen_label x.label) (row (parts_seen t x.parts.items))) (xf ∙ ap (λ (z : TypedNode-F TypedNode). z.form) e ∙ yf)
-      ∙ ap (λ i. typed o.form i x.last (seen_label x.label) (row (parts_seen t x.parts.items))) (xi ∙ ap (λ (z : TypedNode-F TypedNode). z.first) e ∙ yi)
-      ∙ ap (λ j. typed o.form o.first j (seen_label x.label) (row (parts_seen t x.parts.items))) (xj ∙ ap (λ (z : TypedNode-F TypedNode). z.last) e ∙ yj)
+      ∙ ap (λ f. typed f x.first x.last (seen_label x) (row (parts_seen t x.parts.items))) (xf ∙ ap (λ (z : TypedNode-F TypedNode). z.form) e ∙ yf)
+      ∙ ap (λ i. typed o.form i x.last (seen_label x) (row (parts_seen t x.parts.items))) (xi ∙ ap (λ (z : TypedNode-F TypedNode). z.first) e ∙ yi)
+      ∙ ap (λ j. typed o.form o.first j (seen_label x) (row (parts_seen t x.parts.items))) (xj ∙ ap (λ (z : TypedNode-F TypedNode). z.last) e ∙ yj)
       ∙ ap (λ l. typed o.form o.first o.last l (row (parts_seen t x.parts.items))) label_is
-      ∙ ap (λ ps. typed o.form o.first o.last (record (seen_label o.label) { sort = retyped w (sort_seen t o.label.sort) }) (row ps)) parts_are
-      ∙ sym (ap (settled w) (seen_out t n) ∙ settled_parts w o.form o.first o.last (seen_label o.label) (parts_seen t o.parts.items) takes_o)
+      ∙ ap (λ ps. typed o.form o.first o.last (record (seen_label o) { sort = retyped w (sort_seen t o.sort) }) (row ps)) parts_are
+      ∙ sym (ap (settled w) (seen_out t n) ∙ settled_parts w o.form o.first o.last (seen_label o) (parts_seen t o.parts.items) takes_o)
 
-  pub known_then : (k : ℕ) → KnownSort k y.label.sort → x.label ≡ (out-TypedNode (roll-TypedNode y)).label
+  pub known_then : (k : ℕ) → KnownSort k y.sort → x.sort ≡ (out-TypedNode (roll-TypedNode y)).sort
       → x.parts.items ≡ take (out-TypedNode (roll-TypedNode y)).parts.len (ns ++ drop (length ns) (out-TypedNode (roll-TypedNode y)).parts.items)
       → ms ≡ (out-TypedNode (roll-TypedNode y)).parts.items → length ns ≡ length ms
       → AllKnown k ns → Known k (roll-TypedNode x)
-  known_then k s xl xp em en h =
+  known_then k s xs xp em en h =
       let e = out-roll-TypedNode y in
       let v = out-TypedNode (roll-TypedNode y) in
       let all : x.parts.items ≡ ns = xp ∙ refilled v.parts.len ns v.parts.items v.parts.ok.0 (en ∙ ap length em) in
-      let label_is : x.label ≡ y.label = xl ∙ ap (λ (z : TypedNode-F TypedNode). z.label) e in
-      subst (Every (λ i. i < k)) (sym (rolled x)) (subst (KnownSort k) (sym (ap (λ (l : program.Label). l.sort) label_is)) s, subst (AllKnown k) (sym all) h)
+      let sort_is : x.sort ≡ y.sort = xs ∙ ap (λ (z : TypedNode-F TypedNode). z.sort) e in
+      subst (Every (λ i. i < k)) (sym (rolled x)) (subst (KnownSort k) (sym sort_is) s, subst (AllKnown k) (sym all) h)
 
 -- a part is smaller
 module _ (n : TypedNode) (y : TypedNode-F TypedNode) (ms : List (Option TypedNode)) where

@@ -124,7 +124,7 @@ pub fn fitted(
     let form = form(types, scope, kind, hint, place, &parts)?;
     let label = label(types, form, sort, &parts);
     let takes = takes(alloc, types, scope, kind, hint, &parts)?;
-    give_all(types, scope.basics, &takes, &mut parts);
+    give_all(types, scope.basics, &takes, &mut parts)?;
     Ok(TypedNode::new(form, place.first, place.last, label, parts))
 }
 

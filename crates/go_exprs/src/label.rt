@@ -34,7 +34,7 @@ fn varies(types: &Types, parts: &[Option<TypedNode>]) -> bool
 {
     for part in parts {
         if let Some(part) = part {
-            if part.label.varies {
+            if part.varies {
                 return true;
             }
         }
@@ -48,7 +48,7 @@ fn calls(types: &Types, parts: &[Option<TypedNode>]) -> bool
 {
     for part in parts {
         if let Some(part) = part {
-            if part.label.calls {
+            if part.calls {
                 return true;
             }
         }
@@ -76,7 +76,7 @@ pub fn is_judged(types: &Types, parts: &[Option<TypedNode>]) -> bool
 {
     for part in parts {
         if let Some(part) = part {
-            if matches!(part.label.sort, Sort::Unknown) {
+            if matches!(part.sort, Sort::Unknown) {
                 return false;
             }
         }

@@ -13,7 +13,7 @@ use go_rules::basics::default_type;
 use go_rules::nodes::sort_of;
 use go_rules::sorts::{const_kind, untyped_kind};
 use go_stmt_tests::nodes::{form_of, parts_of};
-use go_typed::{Form, Sort, TypedNode};
+use go_typed::{ConstantType, Form, Sort, TypedNode};
 use go_types::Types;
 
 /// What a tag stands for: an untyped one takes its default type.
@@ -32,7 +32,7 @@ fn tag_in(types: &Types, basics: Basics, sort: &Sort) -> Result<Sort, Memory>
         }
         Sort::OpenConstant(constant) => {
             let of = default_type(types, basics, const_kind(constant.get()));
-            Ok(Sort::Constant(of, constant))
+            Ok(Sort::Constant(ConstantType::of(of)?, constant))
         }
         _ => Ok(Sort::Unknown),
     }

@@ -86,9 +86,8 @@ fn sort_reach(reaches: &[usize], stands: &Sort) -> usize
     ensures { result ≡ specs.sort_reach reaches.now stands.now }
 {
     match stands {
-        Sort::Type(of) | Sort::Value(of) | Sort::Constant(of, _) | Sort::Results(of) => {
-            number_at(reaches, *of as usize)
-        }
+        Sort::Type(of) | Sort::Value(of) | Sort::Results(of) => number_at(reaches, *of as usize),
+        Sort::Constant(of, _) => number_at(reaches, of.id() as usize),
         _ => 0,
     }
 }

@@ -67,7 +67,7 @@ fn same_sort(a: &Sort, b: &Sort) -> bool
         (Sort::Unknown, Sort::Unknown) => true,
         (Sort::Type(a), Sort::Type(b)) => *a == *b,
         (Sort::Value(a), Sort::Value(b)) => *a == *b,
-        (Sort::Constant(a, x), Sort::Constant(b, y)) => *a == *b && x.get() == y.get(),
+        (Sort::Constant(a, x), Sort::Constant(b, y)) => a.id() == b.id() && x.get() == y.get(),
         (Sort::OpenConstant(x), Sort::OpenConstant(y)) => x.get() == y.get(),
         _ => false,
     }

@@ -79,7 +79,7 @@ pub fn push_late(types: &Types, node: &TypedNode, found: &mut Vec<LateArray>) ->
         first: node.first,
         last: node.last,
     };
-    push_waiting(types, place, &node.label.sort, found)?;
+    push_waiting(types, place, &node.sort, found)?;
     Ok(())
 }
 

@@ -10,7 +10,7 @@ use Rattle.go_meaning.specs.Values.{Value, Truth, Whole, NilFunction, nth, is_tr
 use Rattle.go_meaning.specs.Planning.{zero_in}
 use Rattle.go_meaning.specs.Planning.{plan as plan_meant}
 use Rattle.go_typed.specs.Trees.{label_mapped}
-use Rattle.go_typed.specs.Views.{all_seen, sort_seen, label_view}
+use Rattle.go_typed.specs.Views.{all_seen, sort_seen, label_at}
 use Rattle.go_eval.specs.Views.{plan_view, type_in, constant_in}
 use Rattle.go_eval.specs.declared.plan.Plan.{Plan}
 use Rattle.go_eval.specs.declared.plan.Items.TheVariants as items
@@ -164,7 +164,7 @@ module _ (p : PackageView) (n : ℕ) (x : TypedNode) (r : Rest) (vs : List Value
   unfolding act
   begins_variable i d f w t = refl
 
-  pub begins_constant : Same (begins p x plan.Constant n r vs) (gives (constant_in (sort_seen p.types (out-TypedNode x).label.sort)) n r vs)
+  pub begins_constant : Same (begins p x plan.Constant n r vs) (gives (constant_in (sort_seen p.types (out-TypedNode x).sort)) n r vs)
   unfolding act before end_by
   begins_constant d f w t = refl
 
@@ -222,7 +222,7 @@ module _ (p : PackageView) (n : ℕ) (x : TypedNode) (r : Rest) (vs : List Value
 
 -- ---- nodes by their plans
 
-module _ (p : PackageView) (x : TypedNode) (q : Plan) (e : plan_view (rights_of p.types) (type_of p.types.shapes) (sort_seen p.types (out-TypedNode x).label.sort) (all_seen p.types (out-TypedNode x).parts.items) q ≡ plan_meant (rights_of p.types) (out-TypedNode x).form (label_mapped (type_of p.types.shapes) (label_view (out-TypedNode x).label)) (all_seen p.types (out-TypedNode x).parts.items)) where
+module _ (p : PackageView) (x : TypedNode) (q : Plan) (e : plan_view (rights_of p.types) (type_of p.types.shapes) (sort_seen p.types (out-TypedNode x).sort) (all_seen p.types (out-TypedNode x).parts.items) q ≡ plan_meant (rights_of p.types) (out-TypedNode x).form (label_mapped (type_of p.types.shapes) (label_at (out-TypedNode x))) (all_seen p.types (out-TypedNode x).parts.items)) where
   pub asks_by_plan : (n : ℕ) (r : Rest) (vs : List Value) → Same (asks p x n r vs) (begins p x q n r vs)
   asks_by_plan n r vs d f w t = ap (λ (y : Doing). then_rest y.value r vs d f w t) (by_plan p n x q e)
 

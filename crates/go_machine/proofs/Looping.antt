@@ -10,7 +10,7 @@ use Rattle.go_typed.specs.declared.node.TypedNode.{TypedNode}
 use Rattle.go_typed.specs.declared.node.TypedNode.TheViews.{out-TypedNode}
 use Rattle.go_typed.specs.Trees.{Label, Typed, typed, Typeds, none, more, skip, mapped, all_mapped, label_mapped}
 use Rattle.go_typed.specs.Packages.{PackageView}
-use Rattle.go_typed.specs.Views.{all_seen, label_view, seen, views as node_views}
+use Rattle.go_typed.specs.Views.{all_seen, label_at, seen, views as node_views}
 use Rattle.go_meaning.specs.Values.{Value}
 use Rattle.go_meaning.specs.Computations.{World, Comp, Outcome, end_by, then_do}
 use Rattle.go_meaning.specs.Doings.{Doing}
@@ -32,7 +32,7 @@ module _ (R : Rights) (C : ℕ → List Value → Comp) (later : Typed TypeTree 
 
 module _ (p : PackageView) (n : ℕ) (x : TypedNode) where
   -- the tree of the node
-  tree_is : seen p.types x ≡ typed (out-TypedNode x).form (out-TypedNode x).first (out-TypedNode x).last (label_mapped (type_of p.types.shapes) (label_view (out-TypedNode x).label)) (all_seen p.types (out-TypedNode x).parts.items)
+  tree_is : seen p.types x ≡ typed (out-TypedNode x).form (out-TypedNode x).first (out-TypedNode x).last (label_mapped (type_of p.types.shapes) (label_at (out-TypedNode x))) (all_seen p.types (out-TypedNode x).parts.items)
   tree_is = ap (mapped (type_of p.types.shapes)) (opened x)
 
   for_is : (g : Form) → is_for g ≡ true → g ≡ form.For
@@ -48,7 +48,7 @@ module _ (p : PackageView) (n : ℕ) (x : TypedNode) where
   turns_again e d f w t lt =
       let i = (out-TypedNode x).first in
       let j = (out-TypedNode x).last in
-      let l = label_mapped (type_of p.types.shapes) (label_view (out-TypedNode x).label) in
+      let l = label_mapped (type_of p.types.shapes) (label_at (out-TypedNode x)) in
       let ps = all_seen p.types (out-TypedNode x).parts.items in
       let tree : seen p.types x ≡ typed form.For i j l ps = tree_is ∙ ap (λ (g : Form). typed g i j l ps) (for_is (out-TypedNode x).form e) in
       let P = program_of p 0 in
@@ -62,7 +62,7 @@ module _ (p : PackageView) (n : ℕ) (x : TypedNode) where
   value_again e d f w t lt =
       let i = (out-TypedNode x).first in
       let j = (out-TypedNode x).last in
-      let l = label_mapped (type_of p.types.shapes) (label_view (out-TypedNode x).label) in
+      let l = label_mapped (type_of p.types.shapes) (label_at (out-TypedNode x)) in
       let ps = all_seen p.types (out-TypedNode x).parts.items in
       let P = program_of p 0 in
       ap (λ (u : Typed TypeTree). bounded P n u d f w t) (ap further tree_is ∙ (other_is (out-TypedNode x).form i j l ps e ∙ sym tree_is))

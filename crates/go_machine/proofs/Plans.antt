@@ -12,7 +12,7 @@ use Rattle.go_typed.specs.declared.node.TypedNode.TheViews.{out-TypedNode}
 use Rattle.go_typed.specs.Trees as trees
 use Rattle.go_typed.specs.Trees.{Typeds, sort_mapped, label_mapped}
 use Rattle.go_typed.specs.Packages.{PackageView}
-use Rattle.go_typed.specs.Views.{all_seen, sort_seen, sort_view, label_view}
+use Rattle.go_typed.specs.Views.{all_seen, sort_seen, sort_view, label_at}
 use Rattle.go_meaning.specs.Values.{Value, Function, nth}
 use Rattle.go_meaning.specs.Computations.{Next, read, end_by, give}
 use Rattle.go_meaning.specs.Operations.{Deed, Gives, ReadVariable, perform, done, operate}
@@ -49,20 +49,20 @@ module _ (p : PackageView) (x : TypedNode) where
   by_form (Some r) rights f s t ps h = h rights f s t ps
   by_form None rights f s t ps h = tt
 
-  pub has_plan : is_for (out-TypedNode x).form ≡ false → (o r : Option Plan) → IfSome o (OfForm (out-TypedNode x).form) → IfSome r (OfSort (out-TypedNode x).label.sort o) → IfSome r (HasPlan p x)
+  pub has_plan : is_for (out-TypedNode x).form ≡ false → (o r : Option Plan) → IfSome o (OfForm (out-TypedNode x).form) → IfSome r (OfSort (out-TypedNode x).sort o) → IfSome r (HasPlan p x)
   has_plan e o (Some q) h g =
       let y = out-TypedNode x in
       let f = type_of p.types.shapes in
       let R = rights_of p.types in
       let ps = all_seen p.types y.parts.items in
-      let s = sort_mapped f (sort_view y.label.sort) in
-      g R f ps (planning.form_plan R y.form (planning.sort_type s) ps) (by_form o R f s (planning.sort_type s) ps h) ∙ sym (plan_once R y.form (label_mapped f (label_view y.label)) ps e)
+      let s = sort_mapped f (sort_view y.sort) in
+      g R f ps (planning.form_plan R y.form (planning.sort_type s) ps) (by_form o R f s (planning.sort_type s) ps h) ∙ sym (plan_once R y.form (label_mapped f (label_at y)) ps e)
   has_plan e o None h g = tt
 
 -- ---- what the plans give in a state
 
 module _ (p : PackageView) (n : ℕ) (x : TypedNode) (d : ℕ) (m : Machine) where
-  pub gives_constant : HasPlan p x plan.Constant → (v : Value) → v ≡ constant_in (sort_seen p.types (out-TypedNode x).label.sort) → outcome (doing p n x).value d m ≡ ends (Next (v ∷ [])) m
+  pub gives_constant : HasPlan p x plan.Constant → (v : Value) → v ≡ constant_in (sort_seen p.types (out-TypedNode x).sort) → outcome (doing p n x).value d m ≡ ends (Next (v ∷ [])) m
   unfolding act end_by
   gives_constant h v e = ap (λ (y : Doing). outcome y.value d m) (by_plan p n x plan.Constant h) ∙ ap (λ (u : Value). ends (Next (u ∷ [])) m) (sym e)
 

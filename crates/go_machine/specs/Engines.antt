@@ -136,7 +136,7 @@ operates o n r vs = then_rest (operate o []) r vs
 -- the value of a node that has the plan
 abbrev pub plan_value : PackageView → ℕ → TypedNode → Plan → Comp
 plan_value p n x q =
-    (doing_of (calls p n) (again p n x) (plan_view (rights_of p.types) (type_of p.types.shapes) (sort_seen p.types (out-TypedNode x).label.sort) (all_seen p.types (out-TypedNode x).parts.items) q) (parts_of p n x)).value
+    (doing_of (calls p n) (again p n x) (plan_view (rights_of p.types) (type_of p.types.shapes) (sort_seen p.types (out-TypedNode x).sort) (all_seen p.types (out-TypedNode x).parts.items) q) (parts_of p n x)).value
 
 abbrev pub begins : PackageView → TypedNode → Plan → Work
 begins p x q n r vs = then_rest (plan_value p n x q) r vs

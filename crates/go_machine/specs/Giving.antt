@@ -5,7 +5,7 @@ use Rattle.go_typed.specs.declared.node.TypedNode.{TypedNode}
 use Rattle.go_typed.specs.declared.node.TypedNode.TheViews.{out-TypedNode}
 use Rattle.go_typed.specs.Trees.{label_mapped}
 use Rattle.go_typed.specs.Packages.{PackageView}
-use Rattle.go_typed.specs.Views.{all_seen, sort_seen, label_view}
+use Rattle.go_typed.specs.Views.{all_seen, sort_seen, label_at}
 use Rattle.go_meaning.specs.Values as meant
 use Rattle.go_meaning.specs.Computations as meaning
 use Rattle.go_meaning.specs.Computations.{Comp}
@@ -21,8 +21,8 @@ use Rattle.go_machine.specs.Engines.{in_state, works, IsKept}
 
 -- the node has this plan
 abbrev pub HasPlan : PackageView → TypedNode → Plan → Type 0
-HasPlan p x q = plan_view (rights_of p.types) (type_of p.types.shapes) (sort_seen p.types (out-TypedNode x).label.sort) (all_seen p.types (out-TypedNode x).parts.items) q
-    ≡ plan (rights_of p.types) (out-TypedNode x).form (label_mapped (type_of p.types.shapes) (label_view (out-TypedNode x).label)) (all_seen p.types (out-TypedNode x).parts.items)
+HasPlan p x q = plan_view (rights_of p.types) (type_of p.types.shapes) (sort_seen p.types (out-TypedNode x).sort) (all_seen p.types (out-TypedNode x).parts.items) q
+    ≡ plan (rights_of p.types) (out-TypedNode x).form (label_mapped (type_of p.types.shapes) (label_at (out-TypedNode x))) (all_seen p.types (out-TypedNode x).parts.items)
 
 -- What the computation gives in each package, by the bound on what is inside one another, stands behind the values, and nothing
 -- else is another.

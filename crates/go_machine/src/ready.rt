@@ -66,7 +66,7 @@ fn ready_plan(node: &TypedNode) -> Option<Plan>
     if is_loop(node) {
         return None;
     }
-    of_sort(&node.label.sort, form_plan(node.form))
+    of_sort(&node.sort, form_plan(node.form))
 }
 
 /// The constant that a node is; a nil function where it is none.
@@ -75,9 +75,9 @@ fn ready_plan(node: &TypedNode) -> Option<Plan>
 ///
 /// Want of memory.
 pub fn constant_of(node: &TypedNode) -> Result<Value, Memory>
-    ensures { IfOk result (λ v. (p : PackageView) → view v ≡ constant_in (sort_seen p.types (out-TypedNode node.now).label.sort)) }
+    ensures { IfOk result (λ v. (p : PackageView) → view v ≡ constant_in (sort_seen p.types (out-TypedNode node.now).sort)) }
 {
-    match &node.label.sort {
+    match &node.sort {
         Sort::Constant(_, constant) => Value::of_constant(constant.get()),
         Sort::OpenConstant(constant) => Value::of_constant(constant.get()),
         _ => Ok(Value::NilFunction),

@@ -40,7 +40,7 @@ impl<'a> Engine<'a> {
 
     /// Gives the constant that a node is.
     fn constant(&mut self, node: &TypedNode) -> Result<(), Exit>
-        ensures { (p : PackageView) → Goes p (gives (constant_in (sort_seen p.types (out-TypedNode node.now).label.sort))) self.old result self.new }
+        ensures { (p : PackageView) → Goes p (gives (constant_in (sort_seen p.types (out-TypedNode node.now).sort))) self.old result self.new }
     {
         self.give(constant_of(node)?)?;
         Ok(())
@@ -169,7 +169,7 @@ impl<'a> Engine<'a> {
         requires { Known (length checked.now.types.shapes) node.now }
         ensures { Goes checked.now (asks checked.now node.now) self.old result self.new }
     {
-        let plan = plan_of(checked.types(), node.form, &node.label, &node.parts);
+        let plan = plan_of(checked.types(), node.form, &node.sort, &node.parts);
         self.begin(alloc, checked, node, plan)
     }
 }

@@ -10,7 +10,7 @@ use Rattle.go_typed.specs.declared.node.TypedNode.{TypedNode}
 use Rattle.go_typed.specs.declared.node.TypedNode.TheViews.{out-TypedNode}
 use Rattle.go_typed.specs.declared.node.TypedNode.TheFolds.{fold_out-TypedNode}
 use Rattle.go_typed.specs.Trees.{Typed, typed, mapped, label_mapped, sort_of, parts_of, Every}
-use Rattle.go_typed.specs.Views.{view, views, label_view, seen, all_seen, Known, AllKnown}
+use Rattle.go_typed.specs.Views.{view, views, label_at, seen, all_seen, Known, AllKnown}
 use Rattle.go_rules.specs.declared.fault.TypeFault.{TypeFault}
 use Rattle.go_rules.specs.Faults.{least, earlier}
 use Rattle.go_rules.specs.Sorts.{is_open, is_constant, constant_of}
@@ -22,10 +22,10 @@ drop_step xs i x d lt is = let e : suc i ≡ i + 1 = omega arith in drop-cons xs
 
 -- ---- a node by its fields
 
-opened : (n : TypedNode) → view n ≡ typed (out-TypedNode n).form (out-TypedNode n).first (out-TypedNode n).last (label_view (out-TypedNode n).label) (views (out-TypedNode n).parts.items)
+opened : (n : TypedNode) → view n ≡ typed (out-TypedNode n).form (out-TypedNode n).first (out-TypedNode n).last (label_at (out-TypedNode n)) (views (out-TypedNode n).parts.items)
 opened n = search (rules, fold_out-TypedNode)
 
-pub seen_out : (t : Table) (n : TypedNode) → seen t n ≡ typed (out-TypedNode n).form (out-TypedNode n).first (out-TypedNode n).last (label_mapped (type_of t.shapes) (label_view (out-TypedNode n).label)) (all_seen t (out-TypedNode n).parts.items)
+pub seen_out : (t : Table) (n : TypedNode) → seen t n ≡ typed (out-TypedNode n).form (out-TypedNode n).first (out-TypedNode n).last (label_mapped (type_of t.shapes) (label_at (out-TypedNode n))) (all_seen t (out-TypedNode n).parts.items)
 seen_out t n = ap (mapped (type_of t.shapes)) (opened n)
 
 pub parts_known : (k : ℕ) (n : TypedNode) → Known k n → AllKnown k (out-TypedNode n).parts.items

@@ -66,7 +66,7 @@ pub fn unassignable(types: &Types, to: TypeId, node: &TypedNode) -> Option<TypeF
         } else {
             Some(fault_at(types, node, FaultCode::Assignable))
         },
-        Sort::Constant(from, _) => if assignable(types, *from, to) {
+        Sort::Constant(from, _) => if assignable(types, from.id(), to) {
             None
         } else {
             Some(fault_at(types, node, FaultCode::Assignable))

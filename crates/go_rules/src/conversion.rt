@@ -155,7 +155,7 @@ fn value_type(types: &Types, basics: Basics, sort: &Sort) -> Option<TypeId>
 {
     match sort {
         Sort::Value(of) => Some(*of),
-        Sort::Constant(of, _) => Some(*of),
+        Sort::Constant(of, _) => Some(of.id()),
         Sort::Open(kind) => Some(default_type(types, basics, untyped_kind(*kind))),
         Sort::OpenConstant(constant) => Some(default_type(
             types,

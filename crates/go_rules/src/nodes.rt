@@ -18,7 +18,7 @@ pub fn sort_of<'a>(types: &Types, node: &'a TypedNode) -> &'a Sort
     ensures tree { sort_seen types.now result.now ≡ sort_of (seen types.now node.now) }
     ensures known { KnownSort (length types.now.shapes) result.now }
 {
-    &node.label.sort
+    &node.sort
 }
 
 /// The fault of a rule that fails at a node.

@@ -15,7 +15,7 @@ use crate::operators::Joint;
 use crate::sorts::{constant_of, represents};
 use go_base::FaultCode;
 use go_constants::{Const, ConstFault, ConstOp, fold};
-use go_typed::{SharedConst, Sort, Untyped};
+use go_typed::{ConstantType, SharedConst, Sort, Untyped};
 use go_types::Types;
 use std::alloc::Global;
 
@@ -62,7 +62,7 @@ pub fn constant_in(
 {
     match joint {
         Joint::Type(of) => if represents(types, of, &value) {
-            Ok(Sort::Constant(of, SharedConst::of(alloc, value)?))
+            Ok(Sort::Constant(ConstantType::of(of)?, SharedConst::of(alloc, value)?))
         } else {
             Err(TypeError::Fault(place.fault(FaultCode::Representable)))
         },

@@ -86,7 +86,7 @@ pub fn own_type(types: &Types, sort: &Sort) -> Option<TypeId>
 {
     match sort {
         Sort::Value(of) => Some(*of),
-        Sort::Constant(of, _) => Some(*of),
+        Sort::Constant(of, _) => Some(of.id()),
         _ => None,
     }
 }
@@ -143,7 +143,7 @@ pub fn family(types: &Types, sort: &Sort) -> Option<Family>
 {
     match sort {
         Sort::Value(of) => type_family(types, *of),
-        Sort::Constant(of, _) => type_family(types, *of),
+        Sort::Constant(of, _) => type_family(types, of.id()),
         Sort::Open(Untyped::Boolean) => Some(Family::Booleans),
         Sort::Open(_) => Some(Family::Integers),
         Sort::OpenConstant(constant) => Some(const_family(constant.get())),

@@ -69,7 +69,7 @@ pub fn as_place(checked: &Checked, node: &TypedNode) -> Place
     requires { Known (length checked.now.types.shapes) node.now }
     ensures { (n : ℕ) → IsPlace (doing checked.now n node.now) (place_doing result (doings checked.now n (out-TypedNode node.now).parts.items)) }
 {
-    of_plan(plan_of(checked.types(), node.form, &node.label, &node.parts))
+    of_plan(plan_of(checked.types(), node.form, &node.sort, &node.parts))
 }
 
 /// The operand of this number; `nil` where there is none.

@@ -22,7 +22,7 @@ fn stand(types: &Types, sort: Sort, node: &mut TypedNode)
     ensures known { Known (length types.now.shapes) node.new }
 {
     let _types = types;
-    node.label.sort = sort;
+    node.sort = sort;
 }
 
 /// A node takes what is said for it.
@@ -39,7 +39,7 @@ fn give_node(
     ensures known { OnOk result (Known (length types.now.shapes) node.new) }
 {
     match taking {
-        Taking::Takes(take) => give(types, basics, *take, node),
+        Taking::Takes(take) => give(types, basics, *take, node)?,
         Taking::Stands(sort) => stand(types, sort.shared()?, node),
     }
     Ok(())

@@ -23,7 +23,7 @@ use go_rules::Basics;
 use go_rules::basics::default_type;
 use go_rules::nodes::sort_of;
 use go_rules::sorts::{const_kind, untyped_kind};
-use go_typed::{Sort, TypedNode};
+use go_typed::{ConstantType, Sort, TypedNode};
 use go_types::{TypeId, Types};
 use std::alloc::{AllocError, Global};
 
@@ -36,7 +36,7 @@ fn value_type(types: &Types, basics: Basics, sort: &Sort) -> Option<TypeId>
 {
     match sort {
         Sort::Value(of) => Some(*of),
-        Sort::Constant(of, _) => Some(*of),
+        Sort::Constant(of, _) => Some(of.id()),
         Sort::Open(untyped) => Some(default_type(types, basics, untyped_kind(*untyped))),
         Sort::OpenConstant(constant) => Some(default_type(
             types,
@@ -176,8 +176,12 @@ fn constant_in(types: &Types, of: Option<TypeId>, sort: &Sort) -> Result<Sort, M
     match (of, sort.shared()?) {
         (None, Sort::Constant(own, constant)) => Ok(Sort::Constant(own, constant)),
         (None, Sort::OpenConstant(constant)) => Ok(Sort::OpenConstant(constant)),
-        (Some(of), Sort::Constant(_, constant)) => Ok(Sort::Constant(of, constant)),
-        (Some(of), Sort::OpenConstant(constant)) => Ok(Sort::Constant(of, constant)),
+        (Some(of), Sort::Constant(_, constant)) => {
+            Ok(Sort::Constant(ConstantType::of(of)?, constant))
+        }
+        (Some(of), Sort::OpenConstant(constant)) => {
+            Ok(Sort::Constant(ConstantType::of(of)?, constant))
+        }
         _ => Ok(Sort::Unknown),
     }
 }

@@ -7,10 +7,10 @@ use Rattle.go_typed.specs.declared.node.TypedNode.TheViews.{out-TypedNode}
 use Rattle.go_typed.specs.declared.node.TypedNode.TheFolds.{fold_out-TypedNode}
 use Rattle.go_typed.specs.Funcs.{size, sizes}
 use Rattle.go_typed.specs.Trees.{typed, list_of, parts_of}
-use Rattle.go_typed.specs.Views.{view, views, label_view, seen, all_seen, AllKnown}
+use Rattle.go_typed.specs.Views.{view, views, label_at, seen, all_seen, AllKnown}
 use Rattle.go_rules.proofs.Parts.{drop_step, seen_out}
 
-opened : (n : TypedNode) → view n ≡ typed (out-TypedNode n).form (out-TypedNode n).first (out-TypedNode n).last (label_view (out-TypedNode n).label) (views (out-TypedNode n).parts.items)
+opened : (n : TypedNode) → view n ≡ typed (out-TypedNode n).form (out-TypedNode n).first (out-TypedNode n).last (label_at (out-TypedNode n)) (views (out-TypedNode n).parts.items)
 opened n = search (rules, fold_out-TypedNode)
 
 -- the parts of a node are smaller than the node

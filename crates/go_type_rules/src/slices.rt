@@ -160,7 +160,7 @@ fn sliced(types: &Types, basics: Basics, operand: &Sort) -> Sort
 {
     match operand {
         Sort::Value(of) => Sort::Value(*of),
-        Sort::Constant(of, _) => Sort::Value(*of),
+        Sort::Constant(of, _) => Sort::Value(of.id()),
         Sort::Open(kind) => Sort::Value(default_type(types, basics, untyped_kind(*kind))),
         Sort::OpenConstant(constant) => {
             Sort::Value(default_type(types, basics, const_kind(constant.get())))

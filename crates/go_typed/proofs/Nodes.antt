@@ -8,9 +8,9 @@ use Rattle.go_typed.specs.Places.{innermost, innermost_among}
 use Rattle.go_typed.specs.Lists.{own_list, statement_lists, lists_among, statements_of, present}
 use Rattle.go_typed.specs.Forms.{values_count}
 use Rattle.go_typed.specs.Trees.{Typed, typed}
-use Rattle.go_typed.specs.Views.{view, views, label_view}
+use Rattle.go_typed.specs.Views.{view, views, label_at}
 
-pub opened : (n : TypedNode) → view n ≡ typed (out-TypedNode n).form (out-TypedNode n).first (out-TypedNode n).last (label_view (out-TypedNode n).label) (views (out-TypedNode n).parts.items)
+pub opened : (n : TypedNode) → view n ≡ typed (out-TypedNode n).form (out-TypedNode n).first (out-TypedNode n).last (label_at (out-TypedNode n)) (views (out-TypedNode n).parts.items)
 opened n = search (rules, fold_out-TypedNode)
 
 -- its statement lists are itself, if it is one, and those of its parts

@@ -4,6 +4,7 @@ pub mod Scopes
 pub mod Forms
 pub mod Lists
 pub mod Funcs
+pub mod NamedLocals
 pub mod Windows
 pub mod Places
 pub mod NodeTables

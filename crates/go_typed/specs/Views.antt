@@ -30,8 +30,12 @@ sort_view (sort.Results t) = trees.Results t
 abbrev pub label_view : Label → trees.Label ℕ
 label_view l = record { sort = sort_view l.sort; varies = l.varies; calls = l.calls }
 
+-- the label of a node, by its fields
+abbrev pub label_at : {X : Type 0} → TypedNode-F X → trees.Label ℕ
+label_at n = record { sort = sort_view n.sort; varies = n.varies; calls = n.calls }
+
 abbrev pub view_step : TypedNode-F (Typed ℕ) → Typed ℕ
-view_step n = typed n.form n.first n.last (label_view n.label) (row n.parts.items)
+view_step n = typed n.form n.first n.last (label_at n) (row n.parts.items)
 
 -- the tree of a node, with the numbers of types
 abbrev pub view : TypedNode → Typed ℕ

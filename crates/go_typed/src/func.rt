@@ -6,6 +6,7 @@ ghost use Rattle.go_typed.specs.Funcs.{FuncView, IsTypedFunc, named_at, tree_of}
 ghost use Rattle.go_typed.specs.Lists.{statement_lists};
 ghost use Rattle.go_typed.specs.Views.{sort_view, view};
 
+use crate::named_local::NamedLocal;
 use crate::node::TypedNode;
 use crate::node_table::NodeTable;
 use crate::sort::Sort;
@@ -24,7 +25,7 @@ pub struct TypedFunc {
     signature: TypeId,
     parameters: Vec<Option<u32>>,
     locals: Vec<Sort>,
-    tokens: Vec<Option<u32>>,
+    tokens: Vec<NamedLocal>,
     root: TypedNode,
     table: NodeTable,
 }
@@ -59,7 +60,7 @@ impl TypedFunc {
         signature: TypeId,
         mut parameters: Vec<Option<u32>>,
         mut locals: Vec<Sort>,
-        mut tokens: Vec<Option<u32>>,
+        mut tokens: Vec<NamedLocal>,
         root: TypedNode,
     ) -> Result<TypedFunc, Memory>
         requires { IsTypedFunc (record { number = number; signature = signature; parameters = parameters.items; locals = map sort_view locals.items; tokens = tokens.items; root = root }) }
@@ -109,7 +110,7 @@ impl TypedFunc {
     }
 
     /// Which local each token names, if it names one, inside types too.
-    pub fn tokens(&self) -> &[Option<u32>]
+    pub fn tokens(&self) -> &[NamedLocal]
         ensures { result.now ≡ self.now.tokens }
     {
         &self.tokens
@@ -120,8 +121,8 @@ impl TypedFunc {
         ensures { result ≡ named_at self.now.tokens token }
     {
         match self.tokens.get(token as usize) {
-            Some(Some(local)) => Some(*local),
-            _ => None,
+            Some(named) => named.local(),
+            None => None,
         }
     }
 

@@ -10,12 +10,14 @@
 
 pub mod checked;
 pub mod constant;
+pub mod constant_type;
 pub mod env;
 pub mod form;
 pub mod func;
 pub mod laws;
 pub mod lists;
 pub mod locals;
+pub mod named_local;
 pub mod node;
 pub mod node_table;
 pub mod origin;
@@ -25,11 +27,13 @@ pub mod window;
 
 pub use checked::Checked;
 pub use constant::SharedConst;
+pub use constant_type::ConstantType;
 pub use env::Env;
 pub use form::{Form, Referent};
 pub use func::TypedFunc;
 pub use lists::StatementLists;
 pub use locals::Locals;
+pub use named_local::NamedLocal;
 pub use node::TypedNode;
 pub use node_table::{NodeTable, PartPlace};
 pub use origin::Origin;

@@ -5,7 +5,7 @@ ghost use Rattle.go_typed.specs.Trees.{typed, form_of, first_of, last_of, parts_
 ghost use Rattle.go_typed.specs.Views.{view, views, label_view};
 
 use crate::form::Form;
-use crate::sort::Label;
+use crate::sort::{Label, Sort};
 
 /// A node of a typed tree: its tokens are those from the number `first` up to `last`, without `last`. Tokens are counted from
 /// the first token of the function. A part that is left out has its place among the parts.
@@ -16,7 +16,11 @@ pub struct TypedNode {
     pub first: u32,
     /// The number of the token behind its last one.
     pub last: u32,
-    pub label: Label,
+    /// Whether a variable is named in it, within types too.
+    pub varies: bool,
+    /// Whether it has a call that is no constant.
+    pub calls: bool,
+    pub sort: Sort,
     pub parts: Vec<Option<TypedNode>>,
 }
 
@@ -36,7 +40,9 @@ impl TypedNode {
             form,
             first,
             last,
-            label,
+            varies: label.varies,
+            calls: label.calls,
+            sort: label.sort,
             parts,
         }
     }

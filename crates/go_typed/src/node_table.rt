@@ -18,7 +18,7 @@ pub struct PartPlace {
     /// The number of the node that it is a part of.
     pub above: u32,
     /// Its place among the parts of that node, from 0.
-    pub part: usize,
+    pub part: u32,
 }
 
 /// Where the nodes of a tree stand, and which of them are statement lists. Nodes are numbered from 0, each before those within
@@ -36,7 +36,7 @@ impl NodeTable {
     ///
     /// # Errors
     ///
-    /// Want of memory.
+    /// Want of memory, also for a node with more than 2^32 parts, there or left out.
     pub fn of(alloc: Global, tree: &TypedNode) -> Result<NodeTable, Memory>
         requires { size (view tree.now) < 2 ^ 32 }
         ensures { IfOk result (λ t. IsTableOf (view tree.now) t) }
@@ -65,7 +65,7 @@ impl NodeTable {
             if let Some(part) = part {
                 self.places.push(PartPlace {
                     above: number,
-                    part: index,
+                    part: narrow(index)?,
                 })?;
                 next = self.push_node(next, part)?;
             }
@@ -95,7 +95,7 @@ impl NodeTable {
         }
         let place = self.place(number - 1)?;
         let above = self.node(tree, place.above)?;
-        part_at(&above.parts, place.part)
+        part_at(&above.parts, place.part as usize)
     }
 
     /// The place of this number, if there are so many.
@@ -120,6 +120,13 @@ impl NodeTable {
         let node = self.list_node(number)?;
         self.node(tree, node)
     }
+}
+
+/// The number in 32 bits.
+fn narrow(number: usize) -> Result<u32, AllocError>
+    ensures { IfOk result (λ n. n ≡ number) }
+{
+    u32::try_from(number).map_err(|_| AllocError)
 }
 
 /// The part of this number, if it is there.

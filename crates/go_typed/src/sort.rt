@@ -3,6 +3,7 @@
 ghost use Rattle.std.specs.Prelude.{◌≡◌, IfOk};
 
 use crate::constant::SharedConst;
+use crate::constant_type::ConstantType;
 use go_base::Memory;
 use go_tree::object::Predeclared;
 use go_types::TypeId;
@@ -38,7 +39,7 @@ pub enum Sort {
     /// A value of a type (Expressions).
     Value(TypeId),
     /// A constant of a type (Constants).
-    Constant(TypeId, SharedConst),
+    Constant(ConstantType, SharedConst),
     /// An untyped value that is no constant (Operators, Comparison operators).
     Open(Untyped),
     /// An untyped constant; its kind is that of its value (Constants).

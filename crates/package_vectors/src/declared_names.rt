@@ -97,7 +97,7 @@ fn push_sort(
     match sort {
         Some(Sort::Value(ty)) => push_type(alloc, package, *ty, out),
         Some(Sort::Constant(ty, value)) => {
-            push_type(alloc, package, *ty, out)?;
+            push_type(alloc, package, ty.id(), out)?;
             push_value(alloc, value.get(), out)
         }
         Some(Sort::OpenConstant(value)) => {

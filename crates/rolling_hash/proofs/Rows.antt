@@ -7,7 +7,7 @@ use Rattle.go_typed.specs.Forms.{local_of}
 use Rattle.go_typed.specs.Funcs.{size, sizes}
 use Rattle.go_typed.specs.Packages.{is_below}
 use Rattle.go_typed.specs.Trees.{Sort, every}
-use Rattle.go_typed.specs.Views.{label_view, sort_view, view, views}
+use Rattle.go_typed.specs.Views.{label_at, sort_view, view, views}
 use Rattle.clone_window.specs.declared.outline.Outline.{Outline}
 use Rattle.clone_window.specs.Kinds.{outline}
 use Rattle.clone_window.specs.Masses.{is_hole, is_inside}
@@ -139,18 +139,18 @@ ends-more n parts i all ends ends' out out' part l e h ee oe =
 
 -- ---- a node by its fields
 
-pub opened-words : (n : Names) (inside defined : Bool) (owner : Sort ℕ) (x : TypedNode) → is_hole inside (out-TypedNode x).form (label_view (out-TypedNode x).label) ≡ false →
+pub opened-words : (n : Names) (inside defined : Bool) (owner : Sort ℕ) (x : TypedNode) → is_hole inside (out-TypedNode x).form (label_at (out-TypedNode x)) ≡ false →
     words (naming n) inside defined owner (view x)
-    ≡ own_words (naming n) (is_inside inside (out-TypedNode x).form (label_view (out-TypedNode x).label)) defined owner (outline (out-TypedNode x).form) (local_of (out-TypedNode x).form) (compared (out-TypedNode x).form)
-    (sort_view (out-TypedNode x).label.sort) (views (out-TypedNode x).parts.items)
-    ++ row_words (naming n) (is_inside inside (out-TypedNode x).form (label_view (out-TypedNode x).label)) (outline (out-TypedNode x).form) (sort_view (out-TypedNode x).label.sort) 0 (views (out-TypedNode x).parts.items)
+    ≡ own_words (naming n) (is_inside inside (out-TypedNode x).form (label_at (out-TypedNode x))) defined owner (outline (out-TypedNode x).form) (local_of (out-TypedNode x).form) (compared (out-TypedNode x).form)
+    (sort_view (out-TypedNode x).sort) (views (out-TypedNode x).parts.items)
+    ++ row_words (naming n) (is_inside inside (out-TypedNode x).form (label_at (out-TypedNode x))) (outline (out-TypedNode x).form) (sort_view (out-TypedNode x).sort) 0 (views (out-TypedNode x).parts.items)
 opened-words n inside defined owner x e =
     let y = out-TypedNode x in
-    let within = is_inside inside y.form (label_view y.label) in
+    let within = is_inside inside y.form (label_at y) in
     ap (words (naming n) inside defined owner) (view_out x)
-    ∙ ap (λ b. if b then hole_words (naming n) (sort_view y.label.sort) else
-    own_words (naming n) within defined owner (outline y.form) (local_of y.form) (compared y.form) (sort_view y.label.sort) (views y.parts.items)
-    ++ row_words (naming n) within (outline y.form) (sort_view y.label.sort) 0 (views y.parts.items)) e
+    ∙ ap (λ b. if b then hole_words (naming n) (sort_view y.sort) else
+    own_words (naming n) within defined owner (outline y.form) (local_of y.form) (compared y.form) (sort_view y.sort) (views y.parts.items)
+    ++ row_words (naming n) within (outline y.form) (sort_view y.sort) 0 (views y.parts.items)) e
 
 -- the words of a node one after the other
 pub own-joined : (old k o l b f c d s r : List Word) →
@@ -183,11 +183,11 @@ pub opened-size : (x : TypedNode) → size (view x) ≡ suc (sizes (views (out-T
 opened-size x = ap size (view_out x)
 
 pub record KnownOpen (n : Names) (x : TypedNode) : Type 0 where
-  pub sort : knows_sort n (sort_view (out-TypedNode x).label.sort) ≡ true
+  pub sort : knows_sort n (sort_view (out-TypedNode x).sort) ≡ true
   pub parts : knows_parts n (views (out-TypedNode x).parts.items) ≡ true
 
 pub opened-known : (n : Names) (x : TypedNode) → knows n (view x) ≡ true → KnownOpen n x
 opened-known n x h =
     let y = out-TypedNode x in
-    let p = and_parts (knows_sort n (sort_view y.label.sort)) (knows_parts n (views y.parts.items)) (sym (ap (knows n) (view_out x)) ∙ h) in
+    let p = and_parts (knows_sort n (sort_view y.sort)) (knows_parts n (views y.parts.items)) (sym (ap (knows n) (view_out x)) ∙ h) in
     record { sort = p.0; parts = p.1 }

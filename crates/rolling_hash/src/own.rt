@@ -220,10 +220,10 @@ fn push_declared(
     requires node { knows names (view node.now) ≡ true }
     ensures { OnOk result (shown out.new.items ≡ shown out.old.items ++ declared_words (naming names.entry) inside (view node.now)) }
 {
-    if is_hole(inside, node.form, &node.label) {
+    if is_hole(inside, node) {
         return Ok(());
     }
-    push_name(alloc, names, node.form, &node.label.sort, out)
+    push_name(alloc, names, node.form, &node.sort, out)
 }
 
 /// Puts the type and the value of a name of this form behind the other words.

@@ -32,7 +32,7 @@ pub fn final_fold(alloc: Global, names: Names<'_>, sort: &Sort) -> Result<u64, M
     match sort {
         Sort::Type(ty) => type_fold(alloc, names.checked, *ty),
         Sort::Value(ty) => type_fold(alloc, names.checked, *ty),
-        Sort::Constant(ty, _) => type_fold(alloc, names.checked, *ty),
+        Sort::Constant(ty, _) => type_fold(alloc, names.checked, ty.id()),
         Sort::Open(untyped) => Ok(text_fold(open_text(*untyped))),
         Sort::OpenConstant(value) => Ok(text_fold(constant_text(value.get()))),
         _ => Ok(text_fold(b"")),

@@ -55,10 +55,10 @@ fn push_words(
     requires node { knows names (view node.now) ≡ true }
     ensures { OnOk result (shown out.new.items ≡ shown out.old.items ++ words (naming names.entry) inside defined (sort_view owner.now) (view node.now)) }
 {
-    if is_hole(inside, node.form, &node.label) {
-        return push_hole(alloc, names, &node.label.sort, out);
+    if is_hole(inside, node) {
+        return push_hole(alloc, names, &node.sort, out);
     }
-    let within = is_inside(inside, node.form, &node.label);
+    let within = is_inside(inside, node);
     push_open(
         alloc,
         names,
@@ -66,7 +66,7 @@ fn push_words(
         defined,
         owner,
         node.form,
-        &node.label.sort,
+        &node.sort,
         &node.parts,
         out,
     )

@@ -8,9 +8,9 @@ use Rattle.go_typed.specs.Forms.{is_holder, is_statement_list, local_of}
 use Rattle.go_typed.specs.Funcs.{is_tiled, are_tiled, is_full, is_whole, are_whole, is_named_so, named_at, size, sizes}
 use Rattle.go_typed.specs.declared.form.Form.{Form}
 use Rattle.go_typed.specs.Trees.{Typed, typed, form_of, first_of, last_of, sort_has, every, every_part, every_form, forms_among}
-use Rattle.go_typed.specs.Views.{view, views, label_view, sort_view}
+use Rattle.go_typed.specs.Views.{view, views, label_at, sort_view}
 
-opened : (n : TypedNode) → view n ≡ typed (out-TypedNode n).form (out-TypedNode n).first (out-TypedNode n).last (label_view (out-TypedNode n).label) (views (out-TypedNode n).parts.items)
+opened : (n : TypedNode) → view n ≡ typed (out-TypedNode n).form (out-TypedNode n).first (out-TypedNode n).last (label_at (out-TypedNode n)) (views (out-TypedNode n).parts.items)
 opened n = search (rules, fold_out-TypedNode)
 
 pub tiled_opened : (n : TypedNode) → is_tiled (view n) ≡ are_tiled (out-TypedNode n).first (out-TypedNode n).last (views (out-TypedNode n).parts.items)
@@ -47,8 +47,8 @@ size_part (Some p ∷ ps) (suc i) part h = let k : size (view part) ≤ sizes (v
 
 -- ---- types and objects
 
-pub every_opened : (p : ℕ → Bool) (n : TypedNode) → every p (view n) ≡ (sort_has p (sort_view (out-TypedNode n).label.sort) && every_part p (views (out-TypedNode n).parts.items))
-every_opened p n = let P : Typed ℕ → Type 0 = λ x. every p x ≡ (sort_has p (sort_view (out-TypedNode n).label.sort) && every_part p (views (out-TypedNode n).parts.items)) in subst P (sym (opened n)) refl
+pub every_opened : (p : ℕ → Bool) (n : TypedNode) → every p (view n) ≡ (sort_has p (sort_view (out-TypedNode n).sort) && every_part p (views (out-TypedNode n).parts.items))
+every_opened p n = let P : Typed ℕ → Type 0 = λ x. every p x ≡ (sort_has p (sort_view (out-TypedNode n).sort) && every_part p (views (out-TypedNode n).parts.items)) in subst P (sym (opened n)) refl
 
 pub forms_opened : (p : Form → Bool) (n : TypedNode) → every_form p (view n) ≡ (p (out-TypedNode n).form && forms_among p (views (out-TypedNode n).parts.items))
 forms_opened p n = let P : Typed ℕ → Type 0 = λ x. every_form p x ≡ (p (out-TypedNode n).form && forms_among p (views (out-TypedNode n).parts.items)) in subst P (sym (opened n)) refl

@@ -3,15 +3,15 @@ ghost use Rattle.std.specs.Prelude.{◌≡◌, IfOk, IsTrue, map};
 ghost use Rattle.typed_parts.specs.Standing.{StandsOver};
 ghost use Rattle.go_typed.specs.Views.{sort_view};
 
-use crate::tests::{are_below, is_function, is_tiled, is_whole};
+use crate::tests::{are_below, is_function, is_tiled, is_whole, name_below};
 use go_base::Memory;
-use go_typed::{Sort, TypedFunc, TypedNode};
+use go_typed::{NamedLocal, Sort, TypedFunc, TypedNode};
 use go_types::TypeId;
 use std::alloc::Global;
 
 /// Whether the tree stands over all tokens of a function.
 #[tactic(auto, using(crate::proofs::Opened::form_opened, crate::proofs::Opened::first_opened, crate::proofs::Opened::last_opened))]
-fn stands_over(tokens: &[Option<u32>], root: &TypedNode) -> bool
+fn stands_over(tokens: &[NamedLocal], root: &TypedNode) -> bool
     ensures { IsTrue result → StandsOver tokens.now root.now }
 {
     is_function(root.form)
@@ -34,7 +34,7 @@ pub fn typed_func(
     signature: TypeId,
     parameters: Vec<Option<u32>>,
     locals: Vec<Sort>,
-    tokens: Vec<Option<u32>>,
+    tokens: Vec<NamedLocal>,
     root: TypedNode,
 ) -> Result<TypedFunc, Memory>
     ensures { IfOk result (λ f. f ≡ record { number = number; signature = signature; parameters = parameters.items; locals = map sort_view locals.items; tokens = tokens.items; root = root }) }
@@ -42,7 +42,7 @@ pub fn typed_func(
     let count = locals.len();
     if !stands_over(&tokens, &root)
         || !are_below(count, &parameters)
-        || !are_below(count, &tokens)
+        || !name_below(count, &tokens)
     {
         return Err(Memory);
     }

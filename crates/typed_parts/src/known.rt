@@ -18,7 +18,7 @@ fn is_known_sort(count: u64, sort: &Sort) -> bool
     match sort {
         Sort::Type(ty) => *ty < count,
         Sort::Value(ty) => *ty < count,
-        Sort::Constant(ty, _) => *ty < count,
+        Sort::Constant(ty, _) => ty.id() < count,
         Sort::Results(ty) => *ty < count,
         _ => true,
     }
@@ -63,7 +63,7 @@ fn is_known_object(count: u64, env: &Env, number: usize) -> bool
 fn has_known_types(count: u64, node: &TypedNode) -> bool
     ensures { result ≡ every (is_below count) (view node.now) }
 {
-    is_known_sort(count, &node.label.sort) && have_known_types(count, &node.parts)
+    is_known_sort(count, &node.sort) && have_known_types(count, &node.parts)
 }
 
 #[cycle(types)]

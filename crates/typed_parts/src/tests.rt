@@ -4,7 +4,7 @@ ghost use Rattle.go_typed.specs.Forms as forms;
 ghost use Rattle.go_typed.specs.Funcs.{is_tiled, are_tiled, is_full, is_whole, are_whole, is_named_so, named_at, are_below};
 ghost use Rattle.go_typed.specs.Views.{view, views};
 
-use go_typed::{Form, TypedNode};
+use go_typed::{Form, NamedLocal, TypedNode};
 
 /// Whether the parts of each node lie one after the other inside its range.
 #[cycle(tiled)]
@@ -59,11 +59,11 @@ fn local_of(form: Form) -> Option<u32>
 }
 
 /// The local that a token names, if it names one.
-fn named_at(tokens: &[Option<u32>], token: u32) -> Option<u32>
+fn named_at(tokens: &[NamedLocal], token: u32) -> Option<u32>
     ensures { result ≡ named_at tokens.now token }
 {
     if (token as usize) < tokens.len() {
-        tokens[token as usize]
+        tokens[token as usize].local()
     } else {
         None
     }
@@ -96,7 +96,7 @@ pub(crate) fn is_function(form: Form) -> bool
 /// their parts.
 #[cycle(whole)]
 #[tactic(auto, using(crate::proofs::Opened::whole_opened))]
-pub(crate) fn is_whole(tokens: &[Option<u32>], node: &TypedNode) -> bool
+pub(crate) fn is_whole(tokens: &[NamedLocal], node: &TypedNode) -> bool
     ensures { result ≡ is_whole tokens.now (view node.now) }
 {
     !is_holder(node.form)
@@ -106,7 +106,7 @@ pub(crate) fn is_whole(tokens: &[Option<u32>], node: &TypedNode) -> bool
 }
 
 #[cycle(whole)]
-fn are_whole(tokens: &[Option<u32>], parts: &[Option<TypedNode>]) -> bool
+fn are_whole(tokens: &[NamedLocal], parts: &[Option<TypedNode>]) -> bool
     ensures { result ≡ are_whole tokens.now (views parts.now) }
 {
     for part in parts {
@@ -126,6 +126,20 @@ pub(crate) fn are_below(count: usize, numbers: &[Option<u32>]) -> bool
     for number in numbers {
         if let Some(number) = number {
             if *number as usize >= count {
+                return false;
+            }
+        }
+    }
+    true
+}
+
+/// Whether the locals that tokens name lie below `count`.
+pub(crate) fn name_below(count: usize, tokens: &[NamedLocal]) -> bool
+    ensures { result ≡ are_below count tokens.now }
+{
+    for token in tokens {
+        if let Some(number) = token.local() {
+            if number as usize >= count {
                 return false;
             }
         }

@@ -1,6 +1,6 @@
 use Rattle.std.proofs.Common.{◌≡◌, ap, sym, ◌∙◌, arith}
 use Rattle.go_typed.specs.declared.node.TypedNode.{out-TypedNode}
-use Rattle.go_typed.specs.Views.{views, label_view}
+use Rattle.go_typed.specs.Views.{views, label_at}
 use Rattle.clone_window.specs.Caps.{capped}
 use Rattle.clone_window.specs.Masses as specs
 use Rattle.clone_window.specs.Masses.{mass, masses}
@@ -18,7 +18,7 @@ weigh-returns-in_ok-masses-clause-rows t c =
 pub weigh-returns-in_ok-parts-clause-mass : goal.weigh-returns-in_ok-parts-clause-mass
 weigh-returns-in_ok-parts-clause-mass t c =
     let n = out-TypedNode c.args.node.now in
-    let inside = specs.is_inside c.args.inside n.form (label_view n.label) in
+    let inside = specs.is_inside c.args.inside n.form (label_at n) in
     let e : c.in_ok-parts.parts ≡ capped (masses inside (views n.parts.items)) =
     c.in_ok-parts.ensures.mass
     ∙ ap (λ a. capped (masses a (views c.deref-else-is_statement_list.result.now))) c.is_inside-within.ensures

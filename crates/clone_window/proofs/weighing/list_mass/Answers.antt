@@ -3,7 +3,7 @@ use Rattle.std.specs.Prelude.{sum}
 use Rattle.go_typed.specs.declared.node.TypedNode.{out-TypedNode}
 use Rattle.go_typed.specs.Forms.{is_statement_list}
 use Rattle.go_typed.specs.Trees.{form_of, parts_of}
-use Rattle.go_typed.specs.Views.{view, views, label_view}
+use Rattle.go_typed.specs.Views.{view, views, label_at}
 use Rattle.clone_window.specs.Caps.{capped}
 use Rattle.clone_window.specs.Masses.{mass, each_mass}
 use Rattle.clone_window.proofs.Opened.{view_out}
@@ -22,6 +22,6 @@ returns c =
     ∙ ap (λ t. capped (sum (map capped (each_mass (parts_of t))))) (view_out c.args.list.now)
     ∙ sum-capped (each_mass ps) in
     c.mass_over.ensures (sum (each_mass ps)) parts
-    ∙ ap capped (sym (list-mass n.form n.first n.last (label_view n.label) ps form))
+    ∙ ap capped (sym (list-mass n.form n.first n.last (label_at n) ps form))
     ∙ ap (λ t. capped (mass false t)) (sym (view_out c.args.list.now))
     ∙ ap (λ b. capped (mass b (view c.args.list.now))) (sym c.if-inside.false)

@@ -32,4 +32,4 @@ returns-clause-exact c =
     let t = c.type_node.new.types in
     let x = seen t c.in_ok-typed.typed in
     judged_there c.args.types.now t c.count.ensures.table c.in_ok-typed.ensures.grows (names c.args.types.now c.args.scope.now) refl c.args.context c.requires.context (view c.args.node.now) x None c.in_ok-typed.ensures.exact (sym c.in_default.is ∙ c.refused.ensures)
-    ∙ ap (λ y. let r : Result Part TypeFault = Ok y in r) (sym (c.give.ensures.tree ∙ ap (λ k. given k x) c.taken-take.ensures.tree))
+    ∙ ap (λ y. let r : Result Part TypeFault = Ok y in r) (sym (c.in_ok-give.ensures.tree ∙ ap (λ k. given k x) c.taken-take.ensures.tree))

@@ -27,7 +27,7 @@ returns-clause-tree c =
     let same : ps ≡ c.give_all.new.parts = refilled c.args.parts.len c.give_all.new.parts c.args.parts.items c.args.parts.ok.0 (c.give_all.auto.parts ∙ ap length c.deref_mut.ensures.value) in
     let taken : map (take_seen t) c.deref-4.result.now ≡ takes s k h ys = ap (map (take_seen t)) c.deref-4.ensures.value ∙ c.in_ok-takes.ensures.tree ∙ ap (λ ns. takes s k h (map g ns)) c.deref-3.ensures.value in
     let given : map g ps ≡ all_given (takes s k h ys) ys =
-    ap (map g) same ∙ c.give_all.ensures.tree ∙ ap (λ ks. all_given ks (map g c.deref_mut.result.now)) taken ∙ ap (λ ns. all_given (takes s k h ys) (map g ns)) c.deref_mut.ensures.value in
+    ap (map g) same ∙ c.in_ok-give_all.ensures.tree ∙ ap (λ ks. all_given ks (map g c.deref_mut.result.now)) taken ∙ ap (λ ns. all_given (takes s k h ys) (map g ns)) c.deref_mut.ensures.value in
     seen_made c.new.result c.in_ok-form.form i j c.label-label.result ps t c.new.ensures
     ∙ ap (λ (l : Label TypeTree). let p : Part = typed c.in_ok-form.form i j l (row (map g ps)) in p) (c.label-label.ensures.label ∙ ap (λ ns. label c.in_ok-form.form x (map g ns)) c.deref-2.ensures.value)
     ∙ ap (λ (f : Form). made f i j x ys (map g ps)) (c.in_ok-form.ensures ∙ ap (λ ns. form_by s k h i j (map g ns)) c.deref.ensures.value)

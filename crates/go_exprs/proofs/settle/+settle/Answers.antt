@@ -58,7 +58,7 @@ returns-after-loop-part-clause-tree t c =
     let g = option_map (seen c.args.types.now) in
     let f = option_map (settled (type_of c.args.types.now.shapes c.args.of)) in
     let takes_node : takes_type (sort_of (seen c.args.types.now c.args.node.now)) ≡ true = ap takes_type (sym c.sort_of.ensures.tree) ∙ sym c.takes_type.ensures ∙ c.if-takes_type.true in
-    settled_then c.args.types.now (type_of c.args.types.now.shapes c.args.of) c.args.node.now _ _ ns ms takes_node refl refl refl c.retype.ensures.tree refl refl refl refl refl refl refl refl c.deref_mut-part-items.ensures.value c.loop-part.auto.part-items
+    settled_then c.args.types.now (type_of c.args.types.now.shapes c.args.of) c.args.node.now _ _ ns ms takes_node refl refl refl c.retype.ensures.tree refl refl refl refl refl refl refl refl refl refl c.deref_mut-part-items.ensures.value c.loop-part.auto.part-items
     (sym (ap (map g) (take_all c.loop-part.part-index ns (omega arith))) ∙ c.loop-part.invariant.parts ∙ ap (λ zs. map f (map g zs)) (take_all c.loop-part.part-index ms (omega arith)))
 
 pub returns-after-loop-part-clause-known : goal.returns-after-loop-part-clause-known

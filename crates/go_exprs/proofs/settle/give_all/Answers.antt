@@ -18,9 +18,9 @@ loop-number-preserved c =
     let i = c.loop-number.number in
     record {
       long = length-set c.loop-number.parts i c.give_part.new.part ∙ c.loop-number.invariant.long;
-      known = known_set (length t.shapes) c.loop-number.parts i c.give_part.new.part c.loop-number.invariant.known c.give_part.ensures.known;
+      known = known_set (length t.shapes) c.loop-number.parts i c.give_part.new.part c.loop-number.invariant.known c.in_ok-give_part.ensures.known;
       parts = given_step (option_map (seen t)) (take_seen t) c.args.takes.now c.loop-number.parts i (get_or c.args.takes.now i take.Stay) take.Stay c.index-parts-number.result c.give_part.new.part _ (omega arith) (omega arith) refl c.index-parts-number.is
-          (c.give_part.ensures.tree ∙ ap (λ o. take_optional (take_seen t (get_or c.args.takes.now i take.Stay)) (option_map (seen t) o)) (sym c.index-parts-number.is)) c.loop-number.invariant.parts;
+          (c.in_ok-give_part.ensures.tree ∙ ap (λ o. take_optional (take_seen t (get_or c.args.takes.now i take.Stay)) (option_map (seen t) o)) (sym c.index-parts-number.is)) c.loop-number.invariant.parts;
     }
 
 pub returns-clause-tree : goal.returns-clause-tree

@@ -15,7 +15,7 @@ returns-clause-found t c =
     let n = c.args.node.now in
     let ps = c.deref-part-items.result.now in
     let i = c.loop-part.part-index in
-    let own = waiting rights (out-TypedNode n).first (out-TypedNode n).last (sort_seen table (out-TypedNode n).label.sort) in
+    let own = waiting rights (out-TypedNode n).first (out-TypedNode n).last (sort_seen table (out-TypedNode n).sort) in
     let ended : length ps ≤ i = omega (arith, c.loop-part-test.false) in
     let before : map f c.loop-part.found.items ≡ map f c.args.found.now.items ++ all_late_arrays rights (all_seen table ps) =
     sym (append-nil (map f c.loop-part.found.items)) ∙ sym (ap (λ qs. map f c.loop-part.found.items ++ all_late_arrays rights (all_seen table qs)) (drop_all i ps ended)) ∙ c.loop-part.invariant.found in

@@ -2,7 +2,7 @@ use Rattle.std.proofs.Common.{◌≡◌, ◌∙◌, ◌++◌, ◌+◌, ◌-◌, 
 use Rattle.go_typed.specs.declared.node.TypedNode.{TypedNode, out-TypedNode}
 use Rattle.go_typed.specs.Forms.{local_of}
 use Rattle.go_typed.specs.Funcs.{size, sizes}
-use Rattle.go_typed.specs.Views.{label_view, sort_view, view, views}
+use Rattle.go_typed.specs.Views.{label_at, sort_view, view, views}
 use Rattle.clone_window.specs.Kinds.{outline}
 use Rattle.clone_window.specs.Masses.{is_inside}
 use Rattle.clone_window.specs.Sameness.{compared}
@@ -62,12 +62,12 @@ push_words-returns t c =
     let n = naming c.args.names in
     let y = out-TypedNode c.args.node.now in
     let old = shown c.args.out.now.items in
-    let within = is_inside c.args.inside y.form (label_view y.label) in
+    let within = is_inside c.args.inside y.form (label_at y) in
     weaker-ok c.push_open.result (λ e.
     e
-    ∙ ap (λ b. old ++ (own_words n b c.args.defined (sort_view c.args.owner.now) (outline y.form) (local_of y.form) (compared y.form) (sort_view y.label.sort) (views c.deref.result.now)
-    ++ row_words n b (outline y.form) (sort_view y.label.sort) 0 (views c.deref.result.now))) c.is_inside-within.ensures
-    ∙ ap (λ l. old ++ (own_words n within c.args.defined (sort_view c.args.owner.now) (outline y.form) (local_of y.form) (compared y.form) (sort_view y.label.sort) (views l)
-    ++ row_words n within (outline y.form) (sort_view y.label.sort) 0 (views l))) c.deref.ensures.value
+    ∙ ap (λ b. old ++ (own_words n b c.args.defined (sort_view c.args.owner.now) (outline y.form) (local_of y.form) (compared y.form) (sort_view y.sort) (views c.deref.result.now)
+    ++ row_words n b (outline y.form) (sort_view y.sort) 0 (views c.deref.result.now))) c.is_inside-within.ensures
+    ∙ ap (λ l. old ++ (own_words n within c.args.defined (sort_view c.args.owner.now) (outline y.form) (local_of y.form) (compared y.form) (sort_view y.sort) (views l)
+    ++ row_words n within (outline y.form) (sort_view y.sort) 0 (views l))) c.deref.ensures.value
     ∙ ap (λ ws. old ++ ws) (sym (opened-words c.args.names c.args.inside c.args.defined (sort_view c.args.owner.now) c.args.node.now (sym c.is_hole.ensures ∙ c.if-is_hole.false))))
     c.push_open.ensures

@@ -26,7 +26,7 @@ returns-in-Constant c =
     let old = c.args.self.now in
     let vs = views old.values.items in
     subst (λ (q : Plan). Goes p (begins p x q) old c.constant.result c.constant.new.self) (sym c.in-Constant.is)
-    (goes_same p (begins p x plan.Constant) (gives (constant_in (sort_seen p.types (out-TypedNode x).label.sort))) old c.constant.result c.constant.new.self (c.constant.ensures p) (λ n s. begins_constant p n x s vs))
+    (goes_same p (begins p x plan.Constant) (gives (constant_in (sort_seen p.types (out-TypedNode x).sort))) old c.constant.result c.constant.new.self (c.constant.ensures p) (λ n s. begins_constant p n x s vs))
 
 pub returns-in-Nil : goal.returns-in-Nil
 returns-in-Nil c =
