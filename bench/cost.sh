@@ -173,22 +173,22 @@ chain() {
 
 # ---- tables
 
-# A row for a package of functions of one size.
+# A row for a package of functions of one size: its check, and an edit of it with the check behind it.
 size_row() {
-    local folder bytes seen checked
+    local folder bytes seen checked held both most reply
     folder=$(package "size$1" functions "$1") || return 1
     bytes=$(wc -c <"$folder/a.go")
     seen=$(check 'classes 0' "$folder") || return 1
-    checked=${seen% *}
+    read -r checked held <<<"$seen"
     seen=$(cost $'classes\nedit a.go 13 13 1\n\n\nclasses' --min 32 --mass 1000 "$folder") || return 1
-    read -r both memory reply <<<"$seen"
+    read -r both most reply <<<"$seen"
     [ "$reply" = 'classes 0' ] || { echo 'cost.sh: the edit is not answered' >&2; return 1; }
-    echo "| $bytes | $checked | $((both - checked)) | $memory | $((memory * 1024 / bytes)) |"
+    echo "| $bytes | $checked | $held | $((held * 1024 / bytes)) | $((both - checked)) | $most | $((most * 1024 / bytes)) |"
 }
 
 table_of_sizes() {
-    echo '| Bytes | First check, ms | Edit and check, ms | Memory, kB | Memory for a byte |'
-    echo '|---|---|---|---|---|'
+    echo '| Bytes | First check, ms | Memory, kB | For a byte | Edit and check, ms | Memory with both, kB | For a byte |'
+    echo '|---|---|---|---|---|---|---|'
     for size in "${sizes[@]}"; do size_row "$size" || return 1; done
 }
 
