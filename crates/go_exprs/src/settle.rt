@@ -1,5 +1,5 @@
 //! Untyped values take types.
-ghost use Rattle.std.specs.Prelude.{◌≡◌, ◌<◌, ◌∷◌, [], OnOk, length, map};
+ghost use Rattle.std.specs.Prelude.{◌≡◌, ◌<◌, ◌^◌, ◌∷◌, [], OnErr, OnOk, length, map};
 ghost use Rattle.std.specs.Option.{option_map};
 ghost use Rattle.std.specs.List.{All};
 ghost use Rattle.go_types.specs.Tables.{type_of};
@@ -54,11 +54,12 @@ pub fn settle(types: &Types, of: ConstantType, node: &mut TypedNode)
 ///
 /// # Errors
 ///
-/// Want of memory.
+/// Want of memory, and only in a table of more than 2^32 types.
 pub fn give(types: &Types, basics: Basics, take: Take, node: &mut TypedNode) -> Result<(), Memory>
     requires basics { AreBasics types.now basics }
     requires take { KnownTake (length types.now.shapes) take }
     requires node { Known (length types.now.shapes) node.old }
+    ensures refused { OnErr result (2 ^ 32 < length types.now.shapes) }
     ensures tree { OnOk result (seen types.now node.new ≡ given (take_seen types.now take) (seen types.now node.old)) }
     ensures known { OnOk result (Known (length types.now.shapes) node.new) }
 {
@@ -85,6 +86,7 @@ fn give_part(
     requires basics { AreBasics types.now basics }
     requires take { KnownTake (length types.now.shapes) take }
     requires part { AllKnown (length types.now.shapes) (part.old ∷ []) }
+    ensures refused { OnErr result (2 ^ 32 < length types.now.shapes) }
     ensures tree { OnOk result (option_map (seen types.now) part.new ≡ take_optional (take_seen types.now take) (option_map (seen types.now) part.old)) }
     ensures known { OnOk result (AllKnown (length types.now.shapes) (part.new ∷ [])) }
 {
@@ -98,7 +100,7 @@ fn give_part(
 ///
 /// # Errors
 ///
-/// Want of memory.
+/// Want of memory, and only in a table of more than 2^32 types.
 pub fn give_all(
     types: &Types,
     basics: Basics,
@@ -108,6 +110,7 @@ pub fn give_all(
     requires basics { AreBasics types.now basics }
     requires takes { All (KnownTake (length types.now.shapes)) takes.now }
     requires parts { AllKnown (length types.now.shapes) parts.old }
+    ensures refused { OnErr result (2 ^ 32 < length types.now.shapes) }
     ensures tree { OnOk result (map (option_map (seen types.now)) parts.new ≡ all_given (map (take_seen types.now) takes.now) (map (option_map (seen types.now)) parts.old)) }
     ensures known { OnOk result (AllKnown (length types.now.shapes) parts.new) }
 {
