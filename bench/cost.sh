@@ -19,6 +19,8 @@ read -ra sizes <<<"${SIZES:-16384 65536 262144 1048576}"
 room=$(mktemp -d) || exit 1
 trap 'rm -rf "$room"' EXIT
 ticks=$(getconf CLK_TCK)
+# as `goclone` runs it
+export GLIBC_TUNABLES=glibc.malloc.mmap_threshold=131072:glibc.malloc.tcache_count=0
 
 # ---- measuring
 
