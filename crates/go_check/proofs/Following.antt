@@ -7,6 +7,7 @@ use Rattle.go_base.specs.Gives.{Gives, Meets, Unless, ◌>>=◌}
 use Rattle.go_tree.specs.Failures.{Failure}
 use Rattle.go_tree.specs.Faults.{reported}
 use Rattle.go_tree.specs.File.{FileTree}
+use Rattle.go_tree.specs.Units.{Unit}
 use Rattle.go_tree.specs.Uses as names
 use Rattle.go_tree.specs.Uses.{UsesView}
 use Rattle.go_typed.specs.Contents.{Content, content, IsPackageOf}
@@ -20,49 +21,52 @@ use Rattle.go_package.specs.Answer.{Environment, package_answer, unless}
 use Rattle.go_package.specs.Checked.{Typing, names_of, texts_by, texts_of, AreRead, IsReported, IsCheckedPackage, names_answer, bodies_answer, sources_answer, content_of, files_answer}
 use Rattle.go_functions.specs.Functions.{check_failure}
 use Rattle.go_functions.specs.Functions.{specified}
-use Rattle.go_check.specs.Checks.{sources_in, bodies_behind, declarations_behind}
+use Rattle.go_check.specs.Checks.{sources_in, bodies_behind, declarations_behind, declarations_answer}
 use Rattle.go_check.proofs.FilesRead.{units_are, texts_are}
 
--- where the phase before gives a value
-pub gives_behind : {A : Type 0} (r : Result A Failure) (x : A) (next : A → Result Content Failure) (a : Result PackageView CheckError) → r ≡ Ok x → Gives content check_failure a (next x) → Gives content check_failure a (r >>= next)
-gives_behind r x next a e h = subst (λ z. Gives content check_failure a (z >>= next)) (sym e) h
+module _ {A X Y : Type 0} (view : X → Y) where
+  -- where the phase before gives a value
+  pub gives_behind : (r : Result A Failure) (x : A) (next : A → Result Y Failure) (a : Result X CheckError) → r ≡ Ok x → Gives view check_failure a (next x) → Gives view check_failure a (r >>= next)
+  gives_behind r x next a e h = subst (λ z. Gives view check_failure a (z >>= next)) (sym e) h
 
--- where it fails
-pub fails_behind : {A : Type 0} (r : Result A Failure) (next : A → Result Content Failure) (f : Option Failure) (e : CheckError) (a : Result PackageView CheckError) → Unless f (λ g. r ≡ Err g) → check_failure e ≡ f → a ≡ Err e
-    → Gives content check_failure a (r >>= next)
-fails_behind r next f e a h is at = subst (λ z. Gives content check_failure z (r >>= next)) (sym at) (by (check_failure e) (subst (λ z. Unless z (λ g. r ≡ Err g)) (sym is) h))
-  where
-    by : (f : Option Failure) → Unless f (λ g. r ≡ Err g) → Unless f (λ g. (r >>= next) ≡ Err g)
-    by None h = tt
-    by (Some g) h = ap (λ z. z >>= next) h
+  -- where it fails
+  pub fails_behind : (r : Result A Failure) (next : A → Result Y Failure) (f : Option Failure) (e : CheckError) (a : Result X CheckError) → Unless f (λ g. r ≡ Err g) → check_failure e ≡ f → a ≡ Err e
+      → Gives view check_failure a (r >>= next)
+  fails_behind r next f e a h is at = subst (λ z. Gives view check_failure z (r >>= next)) (sym at) (by (check_failure e) (subst (λ z. Unless z (λ g. r ≡ Err g)) (sym is) h))
+    where
+      by : (f : Option Failure) → Unless f (λ g. r ≡ Err g) → Unless f (λ g. (r >>= next) ≡ Err g)
+      by None h = tt
+      by (Some g) h = ap (λ z. z >>= next) h
+
+-- names without a fault mean something
+pub names_sound : (us : List Unit) (uses : UsesView) → reported us ≡ None → uses ≡ names.uses us → names_answer us ≡ Ok uses
+names_sound us uses sound is =
+    ap (λ o. unless o (names.uses us)) sound ∙ ap (λ u. let r : Result UsesView Failure = Ok u in r) (sym is)
+
+-- names with a fault
+pub names_fault : (us : List Unit) (o : Option Fault) → Unless o (λ f. reported us ≡ Some (failure_of f)) → Unless (option_map failure_of o) (λ g. names_answer us ≡ Err g)
+names_fault us None h = tt
+names_fault us (Some f) h = ap (λ o. unless o (names.uses us)) h
 
 module _ (texts : List (List ℕ)) (files : List FileTree) where
-  regrouped : (r : Result Environment Failure) (uses : UsesView) → ((r >>= λ e. bodies_answer (sources_in files) (specified files) uses e) >>= λ t. Ok (content_of texts files (sources_in files) t)) ≡
-      (r >>= λ e. bodies_behind texts files uses e)
-  regrouped (Ok e) uses = refl
-  regrouped (Err g) uses = refl
-
   abbrev all : Result UsesView Failure → Result Content Failure
   all r = (r >>= λ u. package_answer (sources_in files) u >>= λ e. bodies_answer (sources_in files) (specified files) u e) >>= λ t. Ok (content_of texts files (sources_in files) t)
 
-  -- the answer where names have no fault
-  pub names_sound : (uses : UsesView) → reported (resolving.units_of files) ≡ None → uses ≡ names.uses (resolving.units_of files) → files_answer texts files ≡ declarations_behind texts files uses
-  names_sound uses sound is =
-      ap (λ us. all (names_answer us)) (units_are files)
-      ∙ ap (λ o. all (unless o (names.uses (resolving.units_of files)))) sound
-      ∙ ap (λ u. let r : Result UsesView Failure = Ok u in all r) (sym is)
-      ∙ regrouped (package_answer (sources_in files) uses) uses
+  abbrev pub behind : UsesView × Environment → Result Content Failure
+  behind d = bodies_behind texts files d.0 d.1
 
-  pub names_fail : (g : Failure) → reported (resolving.units_of files) ≡ Some g → files_answer texts files ≡ Err g
-  names_fail g h = ap (λ us. all (names_answer us)) (units_are files) ∙ ap (λ o. all (unless o (names.uses (resolving.units_of files)))) h
+  regrouped_behind : (u : UsesView) (r : Result Environment Failure) → ((r >>= λ e. bodies_answer (sources_in files) (specified files) u e) >>= λ t. Ok (content_of texts files (sources_in files) t))
+      ≡ ((r >>= λ e. Ok (u, e)) >>= behind)
+  regrouped_behind u (Ok e) = refl
+  regrouped_behind u (Err g) = refl
 
-  pub names_fault : (o : Option Fault) (e : CheckError) (a : Result PackageView CheckError) → Unless o (λ f. reported (resolving.units_of files) ≡ Some (failure_of f)) → check_failure e ≡ option_map failure_of o → a ≡ Err e
-      → Gives content check_failure a (files_answer texts files)
-  names_fault o e a h is at = subst (λ z. Gives content check_failure z (files_answer texts files)) (sym at) (subst (λ z. Unless z (λ g. files_answer texts files ≡ Err g)) (sym is) (by o h))
-    where
-      by : (o : Option Fault) → Unless o (λ f. reported (resolving.units_of files) ≡ Some (failure_of f)) → Unless (option_map failure_of o) (λ g. files_answer texts files ≡ Err g)
-      by None h = tt
-      by (Some f) h = names_fail (failure_of f) h
+  regrouped : (r : Result UsesView Failure) → all r ≡ ((r >>= λ u. declarations_behind files u) >>= behind)
+  regrouped (Ok u) = regrouped_behind u (package_answer (sources_in files) u)
+  regrouped (Err g) = refl
+
+  -- the answer, phase by phase
+  pub files_phases : files_answer texts files ≡ (declarations_answer files >>= behind)
+  files_phases = ap (λ us. all (names_answer us)) (units_are files) ∙ regrouped (names_answer (resolving.units_of files))
 
 -- ---- the whole check
 

@@ -12,10 +12,13 @@ use Rattle.go_typed.specs.Scopes.{EnvView}
 use Rattle.go_typed.specs.Views.{seen}
 use Rattle.go_package.specs.Answer.{Environment, package_answer}
 use Rattle.go_package.specs.Bodies.{Functions, functions_from, those_of, variables_of}
-use Rattle.go_package.specs.Checked.{bodies_answer, content_of}
+use Rattle.go_package.specs.Checked.{names_answer, bodies_answer, content_of}
 use Rattle.go_package.specs.Sources.{Source, source_of}
+use Rattle.go_package_types.specs.Answers.{environment_seen}
 use Rattle.go_functions.specs.Functions.{package_in, around_in, specified, functions_seen}
+use Rattle.go_scopes.specs.Resolve.{units_of}
 use Rattle.go_check.specs.declared.bodies.Bodies.{Bodies}
+use Rattle.go_check.specs.declared.phases.Declarations.{Declarations}
 
 abbrev pub sources_in : List FileTree → List Source
 sources_in files = map source_of files
@@ -29,12 +32,20 @@ pub record ShowsBodies (old new : Table) (files : List FileTree) (uses : UsesVie
   pub functions : functions_behind old files uses env ≡ Ok (functions_seen new b.functions.items)
   pub variables : variables_of (package_in files uses) (around_in old env) (rights_of new) (those_of entity.Variable (specified files)) ≡ map (seen new) b.variables.items
 
--- the package behind its declarations, and behind its names
+-- the package behind its names and its declarations
 abbrev pub bodies_behind : List (List ℕ) → List FileTree → UsesView → Environment → Result Content Failure
 bodies_behind names files uses e = bodies_answer (sources_in files) (specified files) uses e >>= λ t. Ok (content_of names files (sources_in files) t)
 
-abbrev pub declarations_behind : List (List ℕ) → List FileTree → UsesView → Result Content Failure
-declarations_behind names files uses = package_answer (sources_in files) uses >>= λ e. bodies_behind names files uses e
+-- what the names of a package mean and what its declarations come to, behind its names, and of its files
+abbrev pub declarations_behind : List FileTree → UsesView → Result (UsesView × Environment) Failure
+declarations_behind files uses = package_answer (sources_in files) uses >>= λ e. Ok (uses, e)
+
+abbrev pub declarations_answer : List FileTree → Result (UsesView × Environment) Failure
+declarations_answer files = names_answer (units_of files) >>= λ u. declarations_behind files u
+
+-- the same as the program holds it
+abbrev pub declared : Declarations → UsesView × Environment
+declared d = (d.uses, environment_seen d.types d.env)
 
 -- whether it is the shape of a declared type
 abbrev pub declared_at : Option Shape → Bool

@@ -44,20 +44,20 @@ pub fn node_of(number: usize, full: bool) -> usize {
 }
 
 impl Graph {
-    fn new(alloc: Global) -> Graph {
-        Graph {
-            edges: Vec::new(alloc),
-            declared: HashMap::new(alloc),
+    /// A graph with room for the nodes of so many declarations.
+    fn new(alloc: Global, count: usize) -> Result<Graph, AllocError> {
+        Ok(Graph {
+            edges: Vec::with_capacity(alloc, count.saturating_mul(2))?,
+            declared: HashMap::with_capacity(alloc, count)?,
             parts: HashMap::new(alloc),
             alloc,
-        }
+        })
     }
 
     /// A new node.
-    fn add_node(&mut self) -> Result<usize, AllocError> {
-        let node = self.edges.len();
+    fn add_node(&mut self) -> Result<(), AllocError> {
         self.edges.push(Vec::new(self.alloc))?;
-        Ok(node)
+        Ok(())
     }
 
     /// The one node needs the other one.
@@ -80,11 +80,11 @@ impl Graph {
 
     /// The node of a part.
     fn part(&mut self, place: Place) -> Result<usize, AllocError> {
-        if let Some(node) = self.parts.get(&place).copied() {
-            return Ok(node);
+        let next = self.edges.len();
+        let node = *self.parts.entry(place)?.or_insert(next);
+        if node == next {
+            self.add_node()?;
         }
-        let node = self.add_node()?;
-        self.parts.insert(place, node)?;
         Ok(node)
     }
 
@@ -119,25 +119,35 @@ impl Graph {
         self.add_need(a.file, partial_part(site), name, node_of(number, false))
     }
 
-    /// A declaration needs what stands in the parts of its specification.
-    fn add_parts(
+    /// A declaration needs what stands in the part, if something does: where it is needed itself in full, in part, or either way.
+    fn add_part(
         &mut self,
         number: usize,
-        d: &Found<'_>,
-        source: u32,
-        full: bool,
+        place: Place,
+        fully: bool,
+        partly: bool,
     ) -> Result<(), AllocError> {
-        let node = node_of(number, full);
-        let own = if full { Part::Full } else { Part::Partial };
-        for part in [
-            Part::Always,
-            Part::Value(d.declaration.column as usize),
-            own,
-        ] {
-            let place = ((d.file, source), part);
-            if let Some(to) = self.parts.get(&place).copied() {
-                self.add_edge(node, to, Reason::Part)?;
+        let Some(to) = self.parts.get(&place).copied() else {
+            return Ok(());
+        };
+        for (full, needs) in [(true, fully), (false, partly)] {
+            if needs {
+                self.add_edge(node_of(number, full), to, Reason::Part)?;
             }
+        }
+        Ok(())
+    }
+
+    /// A declaration needs what stands in the parts of its specification.
+    fn add_parts(&mut self, number: usize, d: &Found<'_>, source: u32) -> Result<(), AllocError> {
+        let column = d.declaration.column as usize;
+        for (part, fully, partly) in [
+            (Part::Always, true, true),
+            (Part::Value(column), true, true),
+            (Part::Full, true, false),
+            (Part::Partial, false, true),
+        ] {
+            self.add_part(number, ((d.file, source), part), fully, partly)?;
         }
         Ok(())
     }
@@ -150,8 +160,7 @@ impl Graph {
             Reason::Weaker,
         )?;
         if let Some(source) = d.declaration.source {
-            self.add_parts(number, d, source, true)?;
-            self.add_parts(number, d, source, false)?;
+            self.add_parts(number, d, source)?;
         }
         Ok(())
     }
@@ -163,7 +172,7 @@ pub fn graph_of(
     lookups: &[Asked<'_>],
     declared: &[Found<'_>],
 ) -> Result<Graph, AllocError> {
-    let mut graph = Graph::new(alloc);
+    let mut graph = Graph::new(alloc, declared.len())?;
     graph.add_declared(declared)?;
     for (name, a) in lookups.iter().enumerate() {
         graph.add_lookup(name, a)?;

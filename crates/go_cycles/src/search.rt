@@ -159,7 +159,7 @@ fn components(alloc: Global, edges: &[Vec<Edge>]) -> Result<Vec<usize>, AllocErr
 /// Ranks by which no declaration needs one of a higher rank.
 pub fn ranks(alloc: Global, graph: &Graph, declared: &[Found<'_>]) -> Result<Ranks, AllocError> {
     let components = components(alloc, &graph.edges)?;
-    let mut ranks = HashMap::new(alloc);
+    let mut ranks = HashMap::with_capacity(alloc, declared.len())?;
     for (number, d) in declared.iter().enumerate() {
         ranks.insert(
             (d.file, d.declaration.name),

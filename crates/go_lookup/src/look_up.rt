@@ -19,48 +19,39 @@ use go_base::Memory;
 use go_tree::meant::Meant;
 use std::alloc::Global;
 
-/// The names of the files that are looked up, where the package has these meanings.
-fn asked_in_files<'a>(
-    alloc: Global,
-    sorted: &Sorted<'a>,
-    units: &'a [Unit<'a>],
-) -> Result<Vec<Asked<'a>>, Memory>
-    requires few { length units.now ≤ 256 }
-    requires sorted { IsSorted sorted.now }
-    requires locals { (n : ℕ) → AreSwept 0 (locals_of n (all_of sorted.now)) × AreNested (locals_of n (all_of sorted.now)) }
-    requires orderly { AreOrderly (units_view units.now) }
-    ensures { IfOk result (λ v. map asked_view v.items ≡ asked_from (all_of sorted.now) 0 (units_view units.entry.now)) }
-{
-    let mut asked = Vec::new(alloc);
-    for (number, unit) in units.iter().enumerate() {
-        let file = number as u32;
-        let told = event_meanings(alloc, sorted, file, unit)?;
-        push_asked(&mut asked, file, unit, &told)?;
-    }
-    asked.shrink_to_fit();
-    Ok(asked)
+/// What is looked up in a package, and what it means.
+#[derive(Drop)]
+pub struct LookedUp<'a> {
+    /// The names that are looked up, in order, with their meanings.
+    pub asked: Vec<Asked<'a>>,
+    /// The objects of the tokens of each file.
+    pub objects: Vec<Vec<Meant>>,
 }
 
-/// The objects of the tokens of each file, where the package has these meanings.
-fn objects_in_files<'a>(
+/// What is looked up in the files, and what it means, where the package has these meanings.
+fn looked_up_in_files<'a>(
     alloc: Global,
     sorted: &Sorted<'a>,
     units: &'a [Unit<'a>],
-) -> Result<Vec<Vec<Meant>>, Memory>
+) -> Result<LookedUp<'a>, Memory>
     requires few { length units.now ≤ 256 }
     requires sorted { IsSorted sorted.now }
     requires locals { (n : ℕ) → AreSwept 0 (locals_of n (all_of sorted.now)) × AreNested (locals_of n (all_of sorted.now)) }
     requires orderly { AreOrderly (units_view units.now) }
-    ensures { IfOk result (λ o. map (λ v. v.items) o.items ≡ objects_from (all_of sorted.now) 0 (units_view units.entry.now)) }
+    ensures asked { IfOk result (λ l. map asked_view l.asked.items ≡ asked_from (all_of sorted.now) 0 (units_view units.entry.now)) }
+    ensures objects { IfOk result (λ l. map (λ v. v.items) l.objects.items ≡ objects_from (all_of sorted.now) 0 (units_view units.entry.now)) }
 {
     let owners = owners_of(alloc, &sorted.all)?;
+    let mut asked = Vec::new(alloc);
     let mut objects = Vec::new(alloc);
     for (number, unit) in units.iter().enumerate() {
         let file = number as u32;
         let told = event_meanings(alloc, sorted, file, unit)?;
+        push_asked(&mut asked, file, unit, &told)?;
         objects.push(token_objects(alloc, &owners, file, unit, &told)?)?;
     }
-    Ok(objects)
+    asked.shrink_to_fit();
+    Ok(LookedUp { asked, objects })
 }
 
 /// The names of the files that are looked up in parts of declarations, where the package has these meanings.
@@ -86,7 +77,7 @@ fn sited_in_files<'a>(
 }
 
 /// The names of a package with these entries that are looked up in parts of declarations, in order, with their meanings: those of
-/// `names_asked` on which it rests what declarations need.
+/// `looked_up` on which it rests what declarations need.
 ///
 /// # Errors
 ///
@@ -105,40 +96,22 @@ pub fn sited_names<'a>(
     sited_in_files(alloc, &sorted, units)
 }
 
-/// The names of a package with these entries that are looked up, in order, with their meanings.
+/// What is looked up in a package with these entries, and what it means.
 ///
 /// # Errors
 ///
 /// Want of memory.
-pub fn names_asked<'a>(
+pub fn looked_up<'a>(
     alloc: Global,
     units: &'a [Unit<'a>],
     entries: &'a [Entry<'a>],
-) -> Result<Vec<Asked<'a>>, Memory>
+) -> Result<LookedUp<'a>, Memory>
     requires few { length units.now ≤ 256 }
     requires orderly { AreOrderly (units_view units.now) }
     requires entries { map entry_view entries.now ≡ meanings (units_view units.now) }
-    ensures { IfOk result (λ v. map asked_view v.items ≡ asked_from (meanings (units_view units.entry.now)) 0 (units_view units.entry.now)) }
+    ensures asked { IfOk result (λ l. map asked_view l.asked.items ≡ asked_from (meanings (units_view units.entry.now)) 0 (units_view units.entry.now)) }
+    ensures objects { IfOk result (λ l. map (λ v. v.items) l.objects.items ≡ objects (units_view units.entry.now)) }
 {
     let sorted = by_block(alloc, meanings(alloc, entries)?)?;
-    asked_in_files(alloc, &sorted, units)
-}
-
-/// The objects of the tokens of each file of a package with these entries.
-///
-/// # Errors
-///
-/// Want of memory.
-pub fn objects_meant<'a>(
-    alloc: Global,
-    units: &'a [Unit<'a>],
-    entries: &'a [Entry<'a>],
-) -> Result<Vec<Vec<Meant>>, Memory>
-    requires few { length units.now ≤ 256 }
-    requires orderly { AreOrderly (units_view units.now) }
-    requires entries { map entry_view entries.now ≡ meanings (units_view units.now) }
-    ensures { IfOk result (λ o. map (λ v. v.items) o.items ≡ objects (units_view units.entry.now)) }
-{
-    let sorted = by_block(alloc, meanings(alloc, entries)?)?;
-    objects_in_files(alloc, &sorted, units)
+    looked_up_in_files(alloc, &sorted, units)
 }

@@ -1,6 +1,8 @@
 -- Which objects pass with all that they need.
-use Rattle.std.proofs.Common.{◌≡◌, ◌∙◌, ℕ, zero, suc, ◌<◌, ◌+◌, Bool, true, false, ◌&&◌, ◌||◌, not, List, [], ◌∷◌, length, map, Option, Some, is_some, refl, ap, sym, arith}
+use Rattle.std.proofs.Common.{◌≡◌, ◌∙◌, ℕ, zero, suc, ◌<◌, ◌+◌, Bool, true, false, ◌&&◌, ◌||◌, not, List, [], ◌∷◌, length, map, replicate, Option, Some, is_some, refl, ap, sym, true≢false, arith}
+use Rattle.std.proofs.lemmas.List.{length-replicate}
 use Rattle.std.specs.Prelude.{slice_get}
+use Rattle.std.specs.Bool.{beq}
 use Rattle.std.specs.List.{list_any}
 use Rattle.std.specs.HashMap.{HashMap}
 use Rattle.std.specs.HashMap as hash
@@ -11,7 +13,7 @@ use Rattle.go_package.specs.Sources.{Package}
 use Rattle.go_needs.specs.declared.needs.Needs.{Needs}
 use Rattle.go_needs.specs.declared.needs.Passing.{Passing}
 use Rattle.go_needs.specs.declared.owners.Owner.{Owner}
-use Rattle.go_needs.specs.Blocked.{passing_of, passings}
+use Rattle.go_needs.specs.Blocked.{passing_of, passings, not_passing}
 use Rattle.go_needs.specs.Levels.{near, fails_at}
 use Rattle.go_needs.specs.Parts.{Place, same_place}
 use Rattle.go_needs.specs.Passing.{ArePassing}
@@ -103,3 +105,40 @@ passing_is x m p ds ss test reach t l = record {
 
     reaches : Reaches m p (everything x p ds t) (failing_by test ss)
     reaches = reach p (everything x p ds t) (failing_by test ss) t.calls (λ n h. not_at test ss n (omega (arith, h, many)))
+
+-- ---- where none passes by itself
+
+none_at : (bs : List Bool) (n : ℕ) → list_any (λ b. beq b true) bs ≡ false → fails_at bs n ≡ false
+none_at [] n e = refl
+none_at (true ∷ bs) n e = absurd (true≢false e)
+none_at (false ∷ bs) zero e = refl
+none_at (false ∷ bs) (suc n) e = none_at bs n e
+
+copied_at : {X : Type 0} (m n : ℕ) (x y : X) → slice_get (replicate m x) n ≡ Some y → x ≡ y
+copied_at zero n x y e = absurd (grind (arith, e))
+copied_at (suc m) zero x y e = some_is x y e
+copied_at (suc m) (suc n) x y e = copied_at m n x y e
+
+not_once : (test : State → Bool) (os : List Outline) (ss : List State) (n : ℕ) → test (state_of ss n) ≡ false → passes test os ss at_once n ≡ false
+not_once test os ss n e = ap (λ b. b && all_pass test ss (needs_of at_once (slice_get os n))) e
+
+not_full : (test : State → Bool) (os : List Outline) (ss : List State) (n : ℕ) → test (state_of ss n) ≡ false → passes test os ss in_full n ≡ false
+not_full test os ss n e = ap (λ b. b && all_pass test ss (needs_of in_full (slice_get os n))) e
+
+pub none_is : (x : Needs) (p : Package) (ds : List Specification) (ss : List State) (test : State → Bool)
+    → list_any (λ b. beq b true) (map test ss) ≡ false
+    → TellsNeeds x p ds → length ss ≡ length p.uses.package_level → ArePassing test (outlines p ds) ss (replicate (length x.owners.items) not_passing)
+none_is x p ds ss test none t l = record {
+  as_many = length-replicate many not_passing ∙ (t.calls.as_many ∙ sym (as_many_outlines x p ds t));
+  at_once = λ n v e. ap (λ y. y.at_once) (sym (copied_at many n not_passing v e)) ∙ sym (not_once test (outlines p ds) ss n (fails n v e));
+  in_full = λ n v e. ap (λ y. y.in_full) (sym (copied_at many n not_passing v e)) ∙ sym (not_full test (outlines p ds) ss n (fails n v e));
+}
+  where
+    many : ℕ
+    many = length x.owners.items
+
+    low_at : (n : ℕ) (v : Passing) → slice_get (replicate many not_passing) n ≡ Some v → n < length ss
+    low_at n v e = let b = below (replicate many not_passing) n v e in let k = length-replicate many not_passing in let o : many ≡ length ss = t.calls.as_many ∙ sym l in omega (arith, b, k, o)
+
+    fails : (n : ℕ) (v : Passing) → slice_get (replicate many not_passing) n ≡ Some v → test (state_of ss n) ≡ false
+    fails n v e = sym (tested_at test ss n (low_at n v e)) ∙ none_at (map test ss) n none

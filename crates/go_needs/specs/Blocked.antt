@@ -16,6 +16,10 @@ abbrev pub passings : (Place → Option ℕ) → List Bool → ℕ → List Owne
 passings g bs n [] = []
 passings g bs n (o ∷ os) = passing_of g bs n o ∷ passings g bs (suc n) os
 
+-- the answer for an object that doesn't pass by itself
+abbrev pub not_passing : Passing
+not_passing = record { at_once = false; in_full = false }
+
 -- whether one that fails is needed by one of the columns below c
 abbrev pub any_below : (Place → Option ℕ) → Owner → ℕ → Bool
 any_below g o zero = false

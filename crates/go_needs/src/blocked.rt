@@ -1,9 +1,9 @@
 //! Which objects pass with all that they need, and which block the rule of a specification.
 
-ghost use Rattle.std.specs.Prelude.{◌≡◌, not, IfOk, map, slice_get};
+ghost use Rattle.std.specs.Prelude.{◌≡◌, not, IfOk, map, replicate, slice_get};
 ghost use Rattle.std.specs.HashMap as hash;
 ghost use Rattle.go_package.specs.Verdicts.{is_in};
-ghost use Rattle.go_needs.specs.Blocked.{passing_of, passings, any_below, any_column, any_there, flags_from, blocks_at, blocking};
+ghost use Rattle.go_needs.specs.Blocked.{passing_of, passings, not_passing, any_below, any_column, any_there, flags_from, blocks_at, blocking};
 ghost use Rattle.go_needs.specs.Levels.{fails_at};
 ghost use Rattle.go_needs.specs.Parts.{same_place};
 
@@ -51,6 +51,17 @@ pub fn passings(
         all.push(passing_of(nearest, tests, number, owner))?;
     }
     Ok(all)
+}
+
+/// The answers for so many objects where none passes by itself.
+pub fn none_passing(alloc: Global, count: usize) -> Result<Vec<Passing>, AllocError>
+    ensures { IfOk result (λ v. v.items ≡ replicate count not_passing) }
+{
+    let none = Passing {
+        at_once: false,
+        in_full: false,
+    };
+    vec![in alloc; none; count]
 }
 
 /// Whether one of the columns below this one needs an object that fails.

@@ -46,11 +46,12 @@ fn note(nearest: &mut Nearest, place: Option<Place>, level: Option<usize>) -> Re
     let Some(level) = level else {
         return Ok(());
     };
-    let lowest = match nearest.get(&place).copied() {
-        Some(old) => level.min(old),
-        None => level,
-    };
-    nearest.insert(place, lowest)?;
+    match nearest.get_mut(&place) {
+        Some(lowest) => *lowest = level.min(*lowest),
+        None => {
+            nearest.insert(place, level)?;
+        }
+    }
     Ok(())
 }
 

@@ -3,6 +3,8 @@
 ghost use Rattle.std.specs.Prelude.{◌≡◌, ◌≤◌, ℕ, Bool, List, Some, true, IfOk, IfSome, length, map, nat_lt, slice_get, is_some};
 ghost use Rattle.go_names.specs.Scopes.{AreOrderly};
 ghost use Rattle.go_tree.specs.Declarations.{found};
+ghost use Rattle.go_tree.specs.File.{FileTree};
+ghost use Rattle.go_scopes.specs.Resolve.{units_of};
 ghost use Rattle.go_lookup.specs.Views.{units_view};
 ghost use Rattle.go_declarations.specs.Views.{seen_all};
 ghost use Rattle.go_package.specs.Declarations as declarations;
@@ -15,7 +17,7 @@ ghost use Rattle.go_needs.specs.Ranks.{AreRanks, rank_by};
 ghost use Rattle.go_needs.specs.Calls.{calls_of, fits};
 ghost use Rattle.go_needs.specs.Tells.{TellsDeclared, TellsNeeds, all_owners, names_asked};
 
-use crate::blocked::{any_column, blocking, failing, flags, passings};
+use crate::blocked::{any_column, blocking, failing, flags, none_passing, passings};
 use crate::bounds::{Bound, are_bounded, levels_under};
 use crate::calls::{Call, calls_of};
 use crate::declaring::{Declaring, declaring_at, declaring_of, table_of};
@@ -33,8 +35,6 @@ use go_lookup::found::all_found;
 use go_lookup::look_up::sited_names;
 use go_lookup::unit::Unit;
 use go_scopes::names::entries_of;
-use go_scopes::resolve::units_of;
-use go_tree::file::File;
 use go_tree::uses::Uses;
 use std::alloc::Global;
 
@@ -102,24 +102,24 @@ fn calls_in<'a>(
     calls_of(alloc, uses, &held.owners, &all, &asked)
 }
 
-/// What the objects of a package need, whose names mean this and which has these specifications. The files are numbered from 0 by
-/// their places.
+/// What the objects of a package need, whose files have these units, whose names mean this and which has these specifications. The
+/// files are numbered from 0 by their places.
 ///
 /// # Errors
 ///
 /// Want of memory.
-pub fn needs_of(
+pub fn needs_of<'a>(
     alloc: Global,
-    files: &[File],
+    units: &'a [Unit<'a>],
     uses: &Uses,
     specifications: &[Specification<'_>],
 ) -> Result<Needs, Memory>
-    requires { length files.now ≤ 256 }
-    ensures { IfOk result (λ n. TellsNeeds n (package_of (map source_of files.now) uses.now) (seen_all specifications.now)) }
+    requires few { length units.now ≤ 256 }
+    requires orderly { AreOrderly (units_view units.now) }
+    ensures { IfOk result (λ n. (fs : List FileTree) → units_view units.entry.now ≡ units_of fs → TellsNeeds n (package_of (map source_of fs) uses.now) (seen_all specifications.now)) }
 {
-    let units = units_of(alloc, files)?;
-    let held = held_of(alloc, uses, &units, specifications)?;
-    let calls = calls_in(alloc, uses, &units, &held)?;
+    let held = held_of(alloc, uses, units, specifications)?;
+    let calls = calls_in(alloc, uses, units, &held)?;
     Ok(Needs {
         declaring: held.declaring,
         owners: held.owners,
@@ -140,8 +140,18 @@ impl Needs {
         declaring_at(&self.declaring, number)
     }
 
+    /// Of each object whether it passes a test with all that it needs, by a search from those that fail it.
+    fn passing_by_search(&self, alloc: Global, tests: &[bool]) -> Result<Vec<Passing>, Memory>
+        ensures { IfOk result (λ v. (p : Package) (ds : List declarations.Specification) (ss : List State) (test : State → Bool) → TellsNeeds self.now p ds →
+            length ss ≡ length p.uses.package_level → tests.now ≡ map test ss → ArePassing test (outlines p ds) ss v.items) }
+    {
+        let fails = failing(alloc, tests)?;
+        let nearest = reached(alloc, &self.owners, &self.calls, &fails)?;
+        Ok(passings(alloc, &nearest, tests, &self.owners)?)
+    }
+
     /// Of each object whether it passes a test with all that it needs, at once or through others. `tests` says which objects pass by
-    /// themselves.
+    /// themselves: where none does, none passes with what it needs either, and nothing is searched.
     ///
     /// # Errors
     ///
@@ -150,9 +160,11 @@ impl Needs {
         ensures { IfOk result (λ v. (p : Package) (ds : List declarations.Specification) (ss : List State) (test : State → Bool) → TellsNeeds self.now p ds →
             length ss ≡ length p.uses.package_level → tests.now ≡ map test ss → ArePassing test (outlines p ds) ss v.items) }
     {
-        let fails = failing(alloc, tests)?;
-        let nearest = reached(alloc, &self.owners, &self.calls, &fails)?;
-        Ok(passings(alloc, &nearest, tests, &self.owners)?)
+        if tests.contains(&true) {
+            self.passing_by_search(alloc, tests)
+        } else {
+            Ok(none_passing(alloc, self.owners.len())?)
+        }
     }
 
     /// Whether these numbers are above no rank of an object and of what it needs, at once or through others. It is told of ranks and

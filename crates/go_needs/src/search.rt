@@ -5,7 +5,7 @@
 use crate::calls::Call;
 use crate::levels::{Levels, level_of};
 use crate::owners::Owner;
-use crate::parts::{Part, Place, own_part};
+use crate::parts::{Part, Place};
 use std::alloc::{AllocError, Global};
 use std::collections::HashMap;
 
@@ -20,6 +20,14 @@ const NO_LEVELS: Levels = Levels {
 struct Step {
     number: usize,
     full: bool,
+}
+
+/// An object that needs what stands in a part: where it is needed itself in part, in full, or either way.
+#[derive(Clone, Copy, Debug)]
+struct User {
+    number: usize,
+    partly: bool,
+    fully: bool,
 }
 
 /// An object that fails, and its rank.
@@ -41,7 +49,7 @@ pub struct Graded {
 #[derive(Drop)]
 struct Search {
     levels: Vec<Levels>,
-    users: HashMap<Place, Vec<Step>>,
+    users: HashMap<Place, Vec<User>>,
     /// The parts in which each object is called for in part.
     partial: Vec<Vec<Place>>,
     /// The parts in which each object is called for in full.
@@ -56,7 +64,7 @@ struct Search {
 
 /// So many empty rows.
 fn rows(alloc: Global, count: usize) -> Result<Vec<Vec<Place>>, AllocError> {
-    let mut rows = Vec::new(alloc);
+    let mut rows = Vec::with_capacity(alloc, count)?;
     for _ in 0..count {
         rows.push(Vec::new(alloc))?;
     }
@@ -91,13 +99,14 @@ impl Search {
     }
 
     /// The object needs what stands in the part.
-    fn add_user(&mut self, alloc: Global, place: Place, step: Step) -> Result<(), AllocError> {
-        let mut own = match self.users.remove(&place) {
-            Some(own) => own,
-            None => Vec::new(alloc),
-        };
-        own.push(step)?;
-        self.users.insert(place, own)?;
+    fn add_user(&mut self, alloc: Global, place: Place, user: User) -> Result<(), AllocError> {
+        if let Some(row) = self.users.get_mut(&place) {
+            row.push(user)?;
+            return Ok(());
+        }
+        let mut row = Vec::new(alloc);
+        row.push(user)?;
+        self.users.insert(place, row)?;
         Ok(())
     }
 
@@ -107,10 +116,18 @@ impl Search {
             return Ok(());
         };
         let spot = (owner.file, source);
-        for full in [false, true] {
-            for part in [Part::Always, Part::Value(owner.column), own_part(full)] {
-                self.add_user(alloc, (spot, part), Step { number, full })?;
-            }
+        for (part, partly, fully) in [
+            (Part::Always, true, true),
+            (Part::Value(owner.column), true, true),
+            (Part::Partial, true, false),
+            (Part::Full, false, true),
+        ] {
+            let user = User {
+                number,
+                partly,
+                fully,
+            };
+            self.add_user(alloc, (spot, part), user)?;
         }
         Ok(())
     }
@@ -132,11 +149,22 @@ impl Search {
         Ok(())
     }
 
+    /// Gives levels to an object that needs what has one.
+    fn put_user(&mut self, user: User, grade: usize) -> Result<(), AllocError> {
+        let number = user.number;
+        for (full, needs) in [(false, user.partly), (true, user.fully)] {
+            if needs {
+                self.put(Step { number, full }, grade)?;
+            }
+        }
+        Ok(())
+    }
+
     /// Gives levels to all that need what stands in the part.
     fn spread(&mut self, place: Place, grade: usize) -> Result<(), AllocError> {
         if let Some(users) = self.users.remove(&place) {
-            for step in users {
-                self.put(step, grade)?;
+            for user in users {
+                self.put_user(user, grade)?;
             }
         }
         Ok(())

@@ -4,6 +4,8 @@ ghost use Rattle.std.specs.List.{list_all};
 ghost use Rattle.go_base.specs.Gives.{Gives};
 ghost use Rattle.go_tree.specs.Faults.{reported};
 ghost use Rattle.go_tree.specs.Uses as names;
+ghost use Rattle.go_names.specs.Scopes.{AreOrderly};
+ghost use Rattle.go_lookup.specs.Views.{units_view};
 ghost use Rattle.go_scopes.specs.Resolve.{units_of};
 ghost use Rattle.type_tests.specs.Extends.{Extends};
 ghost use Rattle.go_typed.specs.Packages.{referents, is_there};
@@ -24,6 +26,7 @@ use go_declarations::laws::literals_of_specifications_are_read;
 use go_declarations::specifications;
 use go_in_order::judge_in_order;
 use go_judging::{World, first, rounds};
+use go_lookup::unit::Unit;
 use go_needs::needs_of;
 use go_tree::file::File;
 use go_tree::uses::Uses;
@@ -103,22 +106,25 @@ fn judged(alloc: Global, types: &mut Types, world: &World<'_>, size: u64) -> Res
     }
 }
 
-/// The types, constants, variables and functions of a package, by what its names mean (Go specification, "Constant declarations",
-/// "Type declarations", "Variable declarations", "Function declarations"). Its declared types are added to the table in the order of
-/// files and places, which has none before; each has its right side afterwards.
+/// The types, constants, variables and functions of a package with these files and units, by what its names mean (Go specification,
+/// "Constant declarations", "Type declarations", "Variable declarations", "Function declarations"). Its declared types are added to the
+/// table in the order of files and places, which has none before; each has its right side afterwards.
 ///
 /// # Errors
 ///
 /// `Fault` where a rule fails in the declarations: of all that fail the one at the least place, and of several there that with the
 /// least code. `Memory` where memory ran out.
-pub fn type_package(
+pub fn type_package<'a>(
     alloc: Global,
     files: &[File],
+    units: &'a [Unit<'a>],
     uses: &Uses,
     types: &mut Types,
 ) -> Result<Env, TypeError>
     requires few { length files.now ≤ 256 }
     requires lexed { AreLexedFiles 0 files.now }
+    requires units { units_view units.now ≡ units_of files.now }
+    requires orderly { AreOrderly (units_view units.now) }
     requires sound { reported (units_of files.now) ≡ None }
     requires uses { uses.now ≡ names.uses (units_of files.now) }
     requires fresh { types.old.rights ≡ [] }
@@ -132,7 +138,7 @@ pub fn type_package(
     literals_read();
     literals_of_specifications_are_read();
     let specifications = specifications(alloc, files)?;
-    let needs = needs_of(alloc, files, uses, &specifications)?;
+    let needs = needs_of(alloc, units, uses, &specifications)?;
     let objects = uses.package_objects();
     let numbers = referents(alloc, objects)?;
     let nothing = Vec::new(alloc);

@@ -10,10 +10,8 @@ ghost use Rattle.go_lookup.specs.Tables.{AreCounted, AreInside};
 ghost use Rattle.go_tree.specs.Declarations.{found};
 ghost use Rattle.go_tree.specs.Failures.{least, least_from};
 ghost use Rattle.go_tree.specs.Faults.{lookup_faults, unused_faults, placed_faults, name_faults_by, reported};
-ghost use Rattle.go_tree.specs.Lookups.{asked_from};
-ghost use Rattle.go_tree.specs.Meanings.{meanings};
 ghost use Rattle.go_tree.specs.Uses.{uses};
-ghost use Rattle.go_lookup.specs.Views.{unit_view, units_view, found_view, entry_view, asked_view};
+ghost use Rattle.go_lookup.specs.Views.{unit_view, units_view, found_view, asked_view};
 ghost use Rattle.go_scopes.specs.Resolve.{unit_of, units_of, refusal_of};
 ghost use Rattle.go_scopes.specs.Views.{failure_of};
 
@@ -29,8 +27,8 @@ use go_base::{Fault, Memory};
 use go_lookup::asked::Asked;
 use go_lookup::declared::uses_of;
 use go_lookup::found::{Found, all_found, new_among};
-use go_lookup::look_up::{names_asked, objects_meant};
-use go_lookup::meaning::{Entry, entries};
+use go_lookup::look_up::looked_up;
+use go_lookup::meaning::entries;
 use go_lookup::unit::Unit;
 use go_names::laws::{files_are_orderly, locals_stand_inside_functions, names_are_in_order};
 use go_names::walk::events;
@@ -82,8 +80,12 @@ pub fn units_of<'a>(alloc: Global, files: &'a [File]) -> Result<Vec<Unit<'a>>, A
     Ok(units)
 }
 
-/// What the names mean; or the fault that is reported.
-fn resolve_units(alloc: Global, units: &[Unit<'_>]) -> Result<Uses, ResolveError>
+/// The same of files whose names are told already, as `units_of` does.
+///
+/// # Errors
+///
+/// Those of `resolve`.
+pub fn resolve_units(alloc: Global, units: &[Unit<'_>]) -> Result<Uses, ResolveError>
     requires few { length units.now ≤ 256 }
     requires orderly { AreOrderly (units_view units.now) }
     requires counted { AreCounted (units_view units.now) }
@@ -96,29 +98,11 @@ fn resolve_units(alloc: Global, units: &[Unit<'_>]) -> Result<Uses, ResolveError
     }
     let declared = new_among(alloc, &all)?;
     let entries = entries(alloc, units, &declared)?;
-    if let Some(fault) = entered_faults(alloc, units, &all, &declared, &entries)? {
+    let looked_up = looked_up(alloc, units, &entries)?;
+    if let Some(fault) = name_faults(alloc, units, &all, &declared, &looked_up.asked)? {
         return Err(ResolveError::Fault(fault));
     }
-    let objects = objects_meant(alloc, units, &entries)?;
-    Ok(uses_of(alloc, objects, &declared)?)
-}
-
-/// The least fault of the rules on names, where the package has these entries.
-fn entered_faults<'a>(
-    alloc: Global,
-    units: &'a [Unit<'a>],
-    all: &[Found<'_>],
-    declared: &[Found<'a>],
-    entries: &'a [Entry<'a>],
-) -> Result<Option<Fault>, Memory>
-    requires few { length units.now ≤ 256 }
-    requires orderly { AreOrderly (units_view units.now) }
-    requires entries { map entry_view entries.now ≡ meanings (units_view units.now) }
-    requires all { map found_view all.now ≡ found (units_view units.now) }
-    ensures { IfOk result (λ f. option_map failure_of f ≡ least (name_faults_by (units_view units.now) (map found_view declared.now) (asked_from (meanings (units_view units.now)) 0 (units_view units.now)))) }
-{
-    let asked = names_asked(alloc, units, entries)?;
-    name_faults(alloc, units, all, declared, &asked)
+    Ok(uses_of(alloc, looked_up.objects, &declared)?)
 }
 
 /// The rules on names that are looked up.

@@ -1,23 +1,18 @@
-use Rattle.std.proofs.Common.{rules, ◌≡◌, ◌∙◌, map, refl, sym, ap}
+use Rattle.std.proofs.Common.{◌∙◌, map, refl, sym, ap}
 use Rattle.go_declarations.specs.Views.{seen_all}
 use Rattle.go_tree.specs.Declarations.{found}
 use Rattle.go_lookup.specs.Views.{units_view}
-use Rattle.go_scopes.specs.Resolve.{units_of}
 use Rattle.go_package.specs.Sources.{package_of, source_of}
 use Rattle.go_needs.specs.Tells.{names_asked}
 use Rattle.go_needs.proofs.Telling.{units_same, are_calls}
 use Rattle.go_needs.proofs.needs.needs_of.Goals as goal
 
 pub returns : goal.returns
-returns c =
-    let fs = c.args.files.now in
+returns c fs same =
     let p = package_of (map source_of fs) c.args.uses.now in
     let ds = seen_all c.args.specifications.now in
-    let units = units_view c.in_ok-units.units.items in
-    let same : units ≡ units_of fs = search rules in
+    let units = units_view c.args.units.now in
     let whole = units_same fs ∙ sym same in
-    let first = whole ∙ sym (ap units_view c.deref.ensures.value) in
-    let second = whole ∙ sym (ap units_view c.deref-2.ensures.value) in
-    let told = c.in_ok-held.ensures p refl (ap found first) in
-    let calls = are_calls c.in_ok-held.held p ds (units_view c.deref-2.result.now) c.in_ok-calls.calls.items told (ap names_asked second) c.in_ok-calls.ensures.calls c.in_ok-calls.ensures.fits in
+    let told = c.in_ok-held.ensures p refl (ap found whole) in
+    let calls = are_calls c.in_ok-held.held p ds units c.in_ok-calls.calls.items told (ap names_asked whole) c.in_ok-calls.ensures.calls c.in_ok-calls.ensures.fits in
     record { declaring = told.declaring; owners = told.owners; groups = told.groups; calls = calls }

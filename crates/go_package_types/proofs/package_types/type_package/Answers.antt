@@ -31,7 +31,7 @@ judged-requires-clause-fits c =
     let seen : seen_all specs ≡ specifications 0 (map source_of fs) = ap seen_all c.deref-2.ensures.value ∙ c.in_ok-specifications.ensures in
     let same = ap seen_all (c.deref.ensures.value ∙ sym c.deref-2.ensures.value) in
     record {
-      needs = subst (TellsNeeds c.in_ok-needs.needs p) same c.in_ok-needs.ensures;
+      needs = subst (TellsNeeds c.in_ok-needs.needs p) same (c.in_ok-needs.ensures fs c.requires.units);
       env = c.new-counted.ensures
           ∙ ap (λ xs. let e : EnvView = record { objects = map sort_view xs; referents = c.in_ok-numbers.numbers.items } in e) c.new-nothing.ensures.items
           ∙ ap (λ rs. let e : EnvView = record { objects = []; referents = rs } in e) (c.in_ok-numbers.ensures ∙ ap referents c.package_objects-objects.ensures.objects);

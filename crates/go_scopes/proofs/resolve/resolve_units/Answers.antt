@@ -12,4 +12,4 @@ uses_of-requires c =
     let us = units_view c.args.units.now in
     let clauses : least (clause_faults us) ≡ None = first_of (search rules, grind (arith, common_steps)) in
     let declared : map found_view c.deref-8.result.now ≡ declarations us = first_of (search rules, grind (arith, common_steps)) in
-    known_complete us (map (λ v. v.items) c.in_ok-objects.objects.items) (map found_view c.deref-8.result.now) c.requires.orderly c.requires.counted c.requires.inside clauses c.in_ok-objects.ensures declared
+    known_complete us (map (λ v. v.items) c.in_ok-looked_up.looked_up.objects.items) (map found_view c.deref-8.result.now) c.requires.orderly c.requires.counted c.requires.inside clauses c.in_ok-looked_up.ensures.objects declared

@@ -1,22 +1,15 @@
-use Rattle.std.proofs.Common.{rules, ◌≡◌, ◌∙◌, map, not, subst, sym, ap}
-use Rattle.std.specs.HashMap as hash
+use Rattle.std.proofs.Common.{rules, ◌≡◌, ◌∙◌, true, false, length, map, replicate, subst, sym, ap}
+use Rattle.std.specs.Bool.{beq}
+use Rattle.std.specs.List.{list_any}
 use Rattle.go_package.specs.Knowledge.{outlines}
-use Rattle.go_needs.specs.Blocked.{passings}
-use Rattle.go_needs.specs.Parts.{same_place}
+use Rattle.go_needs.specs.Blocked.{not_passing}
 use Rattle.go_needs.specs.Passing.{ArePassing}
-use Rattle.go_needs.proofs.Passes.{passing_is}
-use Rattle.go_needs.proofs.Settled.{reach_on}
+use Rattle.go_needs.proofs.Passes.{none_is}
 use Rattle.go_needs.proofs.needs.Needs.passing.Goals as goal
 
-pub returns : goal.returns
-returns c p ds ss test t l e =
+pub returns-in_ok-none_passing : goal.returns-in_ok-none_passing
+returns-in_ok-none_passing c p ds ss test t l e =
     let self = c.args.self.now in
-    let m = c.in_ok-nearest.nearest in
-    let fails : c.in_ok-fails.fails.items ≡ map not c.args.tests.now = search rules in
-    let failing : c.in_ok-fails.fails.items ≡ map not (map test ss) = fails ∙ ap (map not) e in
-    let out : c.in_ok-passings.field-0.items ≡ passings (hash.get same_place m) c.args.tests.now 0 self.owners.items = search rules in
-    subst (ArePassing test (outlines p ds) ss) (sym (out ∙ ap (λ bs. passings (hash.get same_place m) bs 0 self.owners.items) e))
-    (passing_is self m p ds ss test
-    (reach_on m self.owners.items c.deref.result.now self.calls.items c.deref-2.result.now (map not (map test ss)) c.deref-3.result.now
-    c.deref.ensures.value c.deref-2.ensures.value (c.deref-3.ensures.value ∙ failing) c.in_ok-nearest.ensures)
-    t l)
+    let none : list_any (λ b. beq b true) (map test ss) ≡ false = sym (ap (list_any (λ b. beq b true)) e) ∙ sym c.if-contains.ensures.value in
+    let out : c.in_ok-none_passing.field-0.items ≡ replicate (length self.owners.items) not_passing = search rules in
+    subst (ArePassing test (outlines p ds) ss) (sym out) (none_is self p ds ss test none t l)

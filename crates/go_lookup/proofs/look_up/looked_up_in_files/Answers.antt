@@ -8,7 +8,7 @@ use Rattle.go_lookup.proofs.Walks.{map_push}
 use Rattle.go_lookup.specs.Views.{meaning_view, units_view, asked_view}
 use Rattle.go_lookup.specs.Sorted.{all_of}
 use Rattle.go_lookup.proofs.Told.{orderly_at, drop_at, asked_more}
-use Rattle.go_lookup.proofs.look_up.objects_in_files.Goals as goal
+use Rattle.go_lookup.proofs.look_up.looked_up_in_files.Goals as goal
 
 pub event_meanings-requires-clause-orderly : goal.event_meanings-requires-clause-orderly
 event_meanings-requires-clause-orderly c =
@@ -28,9 +28,14 @@ loop-number-preserved c =
     let back : drop i units ≡ unit ∷ rest = drop_at units i unit less ∙ ap (λ x. x ∷ rest) (sym c.index-units-number.is) in
     let next : suc i ≡ i + 1 = omega arith in
     let owns : Owns c.in_ok-owners.owners ms = subst (λ l. Owns c.in_ok-owners.owners (map meaning_view l)) c.deref.ensures.value c.in_ok-owners.ensures in
-    ap (λ l. map tokens l ++ objects_from ms (i + 1) (units_view rest)) c.in_ok-push.ensures.items
-    ∙ map_push tokens c.loop-number.objects.items c.in_ok-token_objects.field-0 (objects_from ms (i + 1) (units_view rest))
-    ∙ ap (λ o. map tokens c.loop-number.objects.items ++ (o ∷ objects_from ms (i + 1) (units_view rest))) (c.in_ok-token_objects.ensures ms owns (ap (map (option_map meaning_view)) c.deref-in-loop-number.ensures.value ∙ c.in_ok-told.ensures))
-    ∙ ap (λ k. map tokens c.loop-number.objects.items ++ (token_objects ms i unit.tokens.now unit.events.items 0 (length unit.tokens.now.tokens) ∷ objects_from ms k (units_view rest))) (sym next)
-    ∙ ap (λ l. map tokens c.loop-number.objects.items ++ objects_from ms i (units_view l)) (sym back)
-    ∙ c.loop-number.invariant
+    record {
+      asked = asked_more ms units i unit (map asked_view c.loop-number.asked.items) _ _ less c.index-units-number.is
+          (c.in_ok-push_asked.ensures ms (ap (map (option_map meaning_view)) c.deref-in-loop-number.ensures.value ∙ c.in_ok-told.ensures)) c.loop-number.invariant.asked;
+      objects = ap (λ l. map tokens l ++ objects_from ms (i + 1) (units_view rest)) c.in_ok-push.ensures.items
+          ∙ map_push tokens c.loop-number.objects.items c.in_ok-token_objects.field-0 (objects_from ms (i + 1) (units_view rest))
+          ∙ ap (λ o. map tokens c.loop-number.objects.items ++ (o ∷ objects_from ms (i + 1) (units_view rest)))
+          (c.in_ok-token_objects.ensures ms owns (ap (map (option_map meaning_view)) c.deref-in-loop-number-2.ensures.value ∙ c.in_ok-told.ensures))
+          ∙ ap (λ k. map tokens c.loop-number.objects.items ++ (token_objects ms i unit.tokens.now unit.events.items 0 (length unit.tokens.now.tokens) ∷ objects_from ms k (units_view rest))) (sym next)
+          ∙ ap (λ l. map tokens c.loop-number.objects.items ++ objects_from ms i (units_view l)) (sym back)
+          ∙ c.loop-number.invariant.objects;
+    }
