@@ -1,5 +1,5 @@
 -- What is found so far stays so in a table with more types.
-use Rattle.std.proofs.Common.{◌≡◌, ℕ, List, [], ◌∷◌, length, map, Option, refl, ap, sym, ◌∙◌}
+use Rattle.std.proofs.Common.{◌≡◌, ℕ, List, [], ◌∷◌, length, Option, refl, ap, sym, ◌∙◌}
 use Rattle.std.specs.Option.{option_map}
 use Rattle.go_types.specs.Tables.{Table, IsTable, type_of}
 use Rattle.type_tests.specs.Extends.{Extends, Grows}

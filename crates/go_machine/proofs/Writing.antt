@@ -6,7 +6,7 @@ use Rattle.go_meaning.specs.Values as meant
 use Rattle.go_meaning.specs.Values.{nth, index_below, whole_of}
 use Rattle.go_meaning.specs.Computations as meaning
 use Rattle.go_meaning.specs.Computations.{World, Outcome, Ends, Comp, go_on, end_by, give, read, then_do, write}
-use Rattle.go_meaning.specs.Operations.{Operation, Deed, Gives, Traps, Cell, ReadVariable, SetCell, WriteVariable, cell, found, length_of, perform, done, operate, with_cells}
+use Rattle.go_meaning.specs.Operations.{Operation, Deed, Gives, Traps, Cell, SetCell, cell, found, length_of, perform, done, operate, with_cells}
 use Rattle.go_meaning.specs.Doings.{Doing}
 use Rattle.go_values.specs.declared.panic.Stop.{Stop}
 use Rattle.go_values.specs.declared.panic.Stop.TheVariants as stop
@@ -17,14 +17,13 @@ use Rattle.go_values.specs.declared.value.Value.{Value}
 use Rattle.go_values.specs.declared.panic.Panic.{Panic}
 use Rattle.go_values.specs.Worlds.{world_view}
 use Rattle.go_runs.specs.declared.exit.Exit.{Exit}
-use Rattle.go_runs.specs.declared.exit.Exit.TheVariants as exit
 use Rattle.go_runs.specs.declared.machine.Machine.{Machine}
 use Rattle.go_runs.specs.Machines.{outcome, ends, IsExitOf, IsLeft, Reads}
 use Rattle.go_runs.specs.Targets.{Reached, root_read, root_written}
 use Rattle.go_runs.specs.declared.targets.Root.{Root}
 use Rattle.go_runs.specs.declared.targets.Root.TheVariants as root
 use Rattle.go_runs.specs.declared.targets.Target.{Target}
-use Rattle.go_runs.proofs.Placing.{reads_by, reads_local, writes_by}
+use Rattle.go_runs.proofs.Placing.{reads_local, writes_by}
 use Rattle.go_runs.proofs.Steps.{on_left}
 
 pub written_local : (k : ℕ) (v : meant.Value) (d : ℕ) (m m1 : Machine) → views m1.frame.items ≡ slice_set (views m.frame.items) k v → m1.world ≡ m.world → m1.turns ≡ m.turns → outcome (write k v) d m ≡ ends (meaning.Next []) m1
