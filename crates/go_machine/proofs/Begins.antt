@@ -48,9 +48,6 @@ pub out_itself : (l : Ending → Comp) → SameOut l l
 out_itself l = (λ us. same_refl (l (Return us)), (same_refl (l Break), (same_refl (l Continue), (same_refl (l Fallthrough), λ k. same_refl (l (Panics k))))))
 
 module _ (p : PackageView) (n : ℕ) (x : TypedNode) (r : Rest) (vs : List Value) where
-  begins_gives : (v : Value) → Same (then_rest (give (v ∷ [])) r vs) (r.go (vs ++ v ∷ []))
-  unfolding before end_by
-  begins_gives v d f w t = refl
 
   module _ (end : ℕ) (e : end ≡ length (parts_of p n x)) where
     all_parts : values_of (drop 0 (take end (parts_of p n x))) ≡ values_of (parts_of p n x)

@@ -14,9 +14,6 @@ same_refl c d f w t = refl
 pub same_sym : (c c' : Comp) → Same c c' → Same c' c
 same_sym c c' h d f w t = sym (h d f w t)
 
-pub same_trans : (c c1 c2 : Comp) → Same c c1 → Same c1 c2 → Same c c2
-same_trans c c1 c2 h g d f w t = h d f w t ∙ g d f w t
-
 -- on the way out the two rests are the same
 abbrev pub SameOut : (Ending → Comp) → (Ending → Comp) → Type 0
 SameOut k k' = ((us : List Value) → Same (k (Return us)) (k' (Return us))) × (Same (k Break) (k' Break) × (Same (k Continue) (k' Continue) × (Same (k Fallthrough) (k' Fallthrough) × ((p : _) → Same (k (Panics p)) (k' (Panics p))))))

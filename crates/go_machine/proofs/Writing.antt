@@ -5,7 +5,7 @@ use Rattle.std.specs.Prelude.{slice_set}
 use Rattle.go_meaning.specs.Values as meant
 use Rattle.go_meaning.specs.Values.{nth, index_below, whole_of}
 use Rattle.go_meaning.specs.Computations as meaning
-use Rattle.go_meaning.specs.Computations.{World, Outcome, Ends, Comp, go_on, end_by, give, read, then_do, write}
+use Rattle.go_meaning.specs.Computations.{World, Ends, Comp, end_by, give, read, then_do, write}
 use Rattle.go_meaning.specs.Operations.{Operation, Deed, Gives, Traps, Cell, SetCell, cell, found, length_of, perform, done, operate, with_cells}
 use Rattle.go_meaning.specs.Doings.{Doing}
 use Rattle.go_values.specs.declared.panic.Stop.{Stop}
@@ -33,10 +33,6 @@ written_local k v d m m1 f w t = ap (λ fr. Ends (meaning.Next []) fr (world_vie
 pub written_nothing : (d : ℕ) (m : Machine) → outcome (give []) d m ≡ ends (meaning.Next []) m
 unfolding end_by
 written_nothing d m = refl
-
-pub then_is : (c : Comp) (k : List meant.Value → Comp) (d : ℕ) (m : Machine) (us : List meant.Value) → outcome c d m ≡ ends (meaning.Next us) m → outcome (then_do c k) d m ≡ outcome (k us) d m
-unfolding then_do
-then_is c k d m us e = ap (λ (o : Outcome). go_on o (λ vs f1 w1 t1. k vs d f1 w1 t1)) e
 
 pub then_left : (c : Comp) (k : List meant.Value → Comp) (d : ℕ) (m : Machine) (e : Exit) → IsLeft e m (outcome c d m) → IsLeft e m (outcome (then_do c k) d m)
 unfolding then_do

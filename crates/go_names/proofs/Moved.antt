@@ -7,7 +7,7 @@ use Rattle.go_grammar.specs.declared.kind.Kind.{Kind}
 use Rattle.go_grammar.specs.declared.kind.Kind.TheVariants as kind
 use Rattle.go_grammar.specs.declared.kind.Sort.{Sort}
 use Rattle.go_grammar.specs.declared.kind.Sort.TheVariants as sort
-use Rattle.go_grammar.specs.Trees.{Tree, node, Trees, none, more, skip, kind_of, first}
+use Rattle.go_grammar.specs.Trees.{Tree, node, Trees, none, more, skip}
 use Rattle.go_grammar.specs.Grammar.{is_name, is_parameter, ends_from, ends_named, count}
 use Rattle.go_tree.specs.Views.{part_at}
 use Rattle.go_tree.specs.declared.context.Block.{Block}
@@ -37,12 +37,6 @@ less_moved : (n i j : ℕ) → nat_lt (n + i) (n + j) ≡ nat_lt i j
 less_moved n i j = grind (arith, nat_tests)
 
 -- ---- rows of parts
-
-kind_moved : (n : ℕ) (p : Tree) → kind_of (moved n p) ≡ kind_of p
-kind_moved n (node k i j ps) = refl
-
-first_moved : (n : ℕ) (p : Tree) → first (moved n p) ≡ n + first p
-first_moved n (node k i j ps) = refl
 
 count_moved : (n : ℕ) (ps : Trees) → count (all_moved n ps) ≡ count ps
 count_moved n none = refl

@@ -111,9 +111,6 @@ new4_lexes = lexes_by_test 0 new4_pieces refl
 abbrev words4 : List TokenKind
 words4 = kinds_of.Identifier ∷ []
 
-abbrev all4 : List TokenKind
-all4 = kinds_of.Identifier ∷ kinds_of.Period ∷ []
-
 abbrev new5_pieces : List (List ℕ)
 new5_pieces = codes "w" ∷ []
 
@@ -127,9 +124,6 @@ new5_lexes = lexes_by_test 0 new5_pieces refl
 abbrev words5 : List TokenKind
 words5 = kinds_of.Identifier ∷ []
 
-abbrev all5 : List TokenKind
-all5 = kinds_of.Identifier ∷ kinds_of.Semicolon ∷ []
-
 abbrev new6_pieces : List (List ℕ)
 new6_pieces = codes "z1" ∷ []
 
@@ -142,9 +136,6 @@ new6_lexes = lexes_by_test 0 new6_pieces refl
 
 abbrev words6 : List TokenKind
 words6 = kinds_of.Identifier ∷ []
-
-abbrev all6 : List TokenKind
-all6 = kinds_of.Identifier ∷ kinds_of.Period ∷ []
 
 abbrev tail_pieces : List (List ℕ)
 tail_pieces = []
