@@ -87,9 +87,6 @@ is_open x = is_some (open_kind x)
 abbrev pub is_constant : Stands → Bool
 is_constant x = is_some (constant_of x)
 
-abbrev pub is_value : Stands → Bool
-is_value x = is_some (own_type x) || is_open x
-
 abbrev pub is_unknown : Stands → Bool
 is_unknown sort.Unknown = true
 is_unknown _ = false

@@ -40,9 +40,6 @@ module _ (s : Scope) (h : Hint) (row : List (Option Node)) (i : ℕ) (d : Option
   there : (n : Node) → get_or row i d ≡ Some n → rest i ≡ view n ∷ rest (i + 1)
   there n is = ap (λ ns. trees_of (views ns)) (drop_step row i (Some n) d lt (sym is))
 
-  pub gap_parts : (xs : List Part) (due : List Part) → get_or row i d ≡ None → xs ++ map (typing s h) (rest i) ≡ due → xs ++ map (typing s h) (rest (i + 1)) ≡ due
-  gap_parts xs due is before = ap (λ ts. xs ++ map (typing s h) ts) (sym (gap is)) ∙ before
-
   pub gap_faults : (o due : Option TypeFault) → get_or row i d ≡ None → earlier o (least (values_faults s h (rest i))) ≡ due → earlier o (least (values_faults s h (rest (i + 1)))) ≡ due
   gap_faults o due is before = ap (λ ts. earlier o (least (values_faults s h ts))) (sym (gap is)) ∙ before
 
