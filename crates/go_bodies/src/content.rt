@@ -4,13 +4,13 @@ ghost use Rattle.std.specs.List.{AllByRecursion};
 ghost use Rattle.std.specs.Option.{option_map};
 ghost use Rattle.go_types.specs.Tables.{type_of};
 ghost use Rattle.go_typed.specs.Contents.{func_content};
-ghost use Rattle.go_typed.specs.Scopes.{local_sort};
+ghost use Rattle.go_typed.specs.Scopes.{local_sort, KnownLocals};
 ghost use Rattle.go_typed.specs.Views.{seen, sort_seen, sort_view, Known, KnownSort, AllKnown};
 ghost use Rattle.go_rules.specs.Scopes.{Scope};
 ghost use Rattle.go_stmts.specs.Bodies.{numbers_from, function_read};
 ghost use Rattle.go_stmts.specs.Frames.{Frame, local_stands};
 ghost use Rattle.go_stmts.specs.Laying.{local_named};
-ghost use Rattle.go_stmt_rules.specs.Seen.{locals_in, KnownLocals};
+ghost use Rattle.go_stmt_rules.specs.Seen.{locals_in};
 ghost use Rattle.go_body_frames.specs.State.{object_at, KnownSurroundings};
 ghost use Rattle.go_bodies.specs.Bodies.{KnownFunction};
 

@@ -4,10 +4,11 @@ ghost use Rattle.std.specs.List.{AllByRecursion};
 ghost use Rattle.std.specs.Option.{option_map};
 ghost use Rattle.go_types.specs.Tables.{type_of, rights_of};
 ghost use Rattle.go_typed.specs.Views.{seen, sort_seen, Known, AllKnown, KnownSort};
+ghost use Rattle.go_typed.specs.Scopes.{KnownLocals};
 ghost use Rattle.go_rules.specs.TypeNodes.{second, part_type, entry_type, entry_of, entry_types, parts_in};
 ghost use Rattle.go_stmts.specs.Frames.{Frame};
 ghost use Rattle.go_stmts.specs.Reading.{head, first_parts, signature_results, with_parameter, with_parameters};
-ghost use Rattle.go_stmt_rules.specs.Seen.{locals_in, types_seen, KnownLocals};
+ghost use Rattle.go_stmt_rules.specs.Seen.{locals_in, types_seen};
 ghost use Rattle.go_body_frames.specs.Signatures.{entries_seen, KnownEntry};
 
 use go_base::Memory;
