@@ -22,6 +22,7 @@ use Rattle.go_typed.specs.declared.form.Form.TheVariants as form
 use Rattle.go_typed.specs.declared.form.Referent.{Referent}
 use Rattle.go_typed.specs.declared.form.Referent.TheVariants as referent
 use Rattle.go_typed.specs.Trees.{Sort, Nothing, Println, Builtin, IsType, Constant, OpenConstant, Label, Typed, Typeds, none, more, skip, form_of, label_of, sort_of}
+use Rattle.go_typed.specs.Forms.{is_default}
 use Rattle.go_typed.specs.Operators.{op_of}
 use Rattle.go_typed.specs.Trees as trees
 use Rattle.go_meaning.specs.Values.{Function, zero_value, const_value}
@@ -167,10 +168,6 @@ object_plan rights _ t = plans.Skip
 -- the names, their type if it is written, their values if there are any
 abbrev pub specified_plan : Rights → ℕ → Typeds TypeTree → Plan
 specified_plan rights n ps = if is_there (part_at ps (suc n)) then plans.AssignTo n else plans.ZeroTo n (zero_in rights (type_there (part_at ps n)))
-
-abbrev pub is_default : Form → Bool
-is_default form.Default = true
-is_default f = false
 
 -- the place of the default clause among the parts, or that behind all
 abbrev pub default_at : Typeds TypeTree → ℕ
