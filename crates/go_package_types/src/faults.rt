@@ -21,7 +21,6 @@ ghost use Rattle.go_judging.specs.World.{package_in, outlines_in, specifications
 ghost use Rattle.go_package_types.specs.Known.{Tells};
 ghost use Rattle.go_package_types.specs.Merged as merging;
 
-use crate::earliest::{earlier, is_earlier};
 use crate::stands::specification_stands;
 use go_base::{Fault, Memory};
 use go_declarations::Specification;
@@ -29,6 +28,7 @@ use go_judging::World;
 use go_judging::scope::{locals_at, scope_in, tokens_of};
 use go_lookup::unit::bytes_of;
 use go_rules::TypeFault;
+use go_scopes::failure::{earlier, is_earlier};
 use go_specifications::specification_fault;
 use go_tokens::tokens::Tokens;
 use go_type_rules::Standing;
