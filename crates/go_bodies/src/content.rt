@@ -14,10 +14,11 @@ ghost use Rattle.go_stmt_rules.specs.Seen.{locals_in};
 ghost use Rattle.go_body_frames.specs.State.{object_at, KnownSurroundings};
 ghost use Rattle.go_bodies.specs.Bodies.{KnownFunction};
 
-use crate::signature::{parameters, signature_type};
+use crate::signature::signature_type;
 use go_base::Memory;
 use go_body_frames::Surroundings;
 use go_body_frames::beginning::local_named;
+use go_body_frames::signature::parameters;
 use go_frames::parameters::entry_names;
 use go_typed::{Locals, NamedLocal, Sort, TypedFunc, TypedNode};
 use go_types::Types;
