@@ -5,7 +5,7 @@
 #![tactic(auto)]
 
 mod circle;
-mod columns;
+pub mod columns;
 mod graph;
 pub mod needs;
 pub mod order;
