@@ -9,7 +9,7 @@ pub mod columns;
 mod graph;
 pub mod needs;
 pub mod order;
-mod ranks;
+pub mod ranks;
 pub mod rounds;
 mod search;
 mod walk;
