@@ -5,7 +5,8 @@ use Rattle.go_cycles.specs.declared.ranks.Part.{Part}
 use Rattle.go_cycles.specs.declared.ranks.Part.TheVariants as part
 use Rattle.go_needs.specs.Levels.{nearer, here, near_in}
 use Rattle.go_cycles.specs.Ranks.{Place, same_place, own_part}
-use Rattle.go_needs.proofs.Standing.{IsOwnPart, place_sound, place_itself}
+use Rattle.go_cycles.proofs.Ranked.{place_sound}
+use Rattle.go_needs.proofs.Standing.{IsOwnPart, place_itself}
 
 pub left_none : (a b : Option ℕ) → nearer a b ≡ None → a ≡ None
 left_none None b e = refl
