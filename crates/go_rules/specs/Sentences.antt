@@ -24,7 +24,7 @@ use Rattle.go_typed.specs.Trees.{sort_of, parts_of, list_of}
 use Rattle.go_typed.specs.Trees as sort
 use Rattle.go_rules.specs.declared.fault.TypeFault.{TypeFault}
 use Rattle.go_rules.specs.Faults.{judged, reported}
-use Rattle.go_rules.specs.Sorts.{Stands}
+use Rattle.go_rules.specs.Sorts.{Stands, known}
 use Rattle.go_rules.specs.Scopes.{Needed, in_full, Scope, Hint, value}
 use Rattle.go_rules.specs.Typing.{typing, faults}
 
@@ -118,10 +118,6 @@ locals =
 
 abbrev pub functions : List Stands
 functions = (sort.Value (function (row ([])) (row ((integer integer_kind.Int) ∷ text ∷ [])))) ∷ (sort.Value (function (row ([])) (row ([])))) ∷ []
-
-abbrev pub known : Option Stands → Stands
-known (Some x) = x
-known None = sort.Unknown
 
 abbrev pub sorts : Needed → Object → Stands
 sorts need (object.Local f n) = known (slice_get locals n)

@@ -81,6 +81,11 @@ constant_of (sort.Constant t c) = Some c
 constant_of (sort.OpenConstant c) = Some c
 constant_of _ = None
 
+-- what it is, or unknown
+abbrev pub known : Option Stands → Stands
+known (Some x) = x
+known None = sort.Unknown
+
 abbrev pub is_open : Stands → Bool
 is_open x = is_some (open_kind x)
 

@@ -7,7 +7,7 @@ use Rattle.go_grammar.specs.Trees.{Tree}
 use Rattle.go_tree.specs.declared.node.Node.{Node}
 use Rattle.go_tree.specs.Views.{view, views}
 use Rattle.go_rules.specs.declared.fault.TypeFault.{TypeFault}
-use Rattle.go_rules.specs.Faults.{least, earlier}
+use Rattle.go_rules.specs.Faults.{least, earlier, joined}
 use Rattle.go_rules.specs.Settling.{Part}
 use Rattle.go_rules.specs.Scopes.{Scope, Hint}
 use Rattle.go_rules.specs.Tables.{Parts, present}
@@ -15,7 +15,7 @@ use Rattle.go_rules.specs.Typing.{typing, faults}
 use Rattle.go_rules.proofs.Firsts.{least_append, earlier_assoc}
 use Rattle.go_exprs.proofs.Nodes.{drop_step}
 use Rattle.go_package.specs.Declarations.{trees_of}
-use Rattle.go_package.specs.Verdicts.{joined, values_faults}
+use Rattle.go_package.specs.Verdicts.{values_faults}
 
 -- a part that is there is one of the trees
 pub tree_at : (row : List (Option Node)) (i : ℕ) (n : Node) → slice_get row i ≡ Some (Some n) → (c : ℕ) × (slice_get (trees_of (views row)) c ≡ Some (view n))
