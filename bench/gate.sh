@@ -134,9 +134,9 @@ counts() {
     done
 }
 
-# Prints the table of what was seen.
+# Prints the table of what was seen. The dearest crates have rows of their own, and the others stand in one with their sums.
 table() {
-    counts | awk -v ticks="$ticks" '
+    counts | awk -v ticks="$ticks" -v rows=45 '
         function minutes(n) { return n > 0 ? sprintf("%.1f", n / ticks / 60) : "" }
         function names(list,   n, parts, i, text) {
             n = split(list, parts, " ")
@@ -155,14 +155,10 @@ table() {
         function row(name, p, t, e, number) {
             return "| " name " | " minutes(p) " | " minutes(t) " | " minutes(e) (number ? " (" number ")" : "") " | " minutes(p + t + e) " |"
         }
-        FILENAME == "-" { if ($1 == "edits") of[$2] = $3; else has_tests[$2] = 1; next }
-        FILENAME ~ /facts$/ { word = $1; sub(/^[a-z]+ ?/, ""); fact[word] = $0; next }
-        FILENAME ~ /times$/ { if ($1 == "proof") proof[$2] += $3; else if ($1 == "tests") tests[$2] += $3; else if ($1 == "edits") edits[$2] += $3; next }
-        FILENAME ~ /log$/ {
-            if ($1 == "rt:" && $3 == "is" && $4 == "kept:") kept[$2] = 1
-            if ($0 ~ /^[0-9]+ passed, [0-9]+ failed/) last = $0
-            next
-        }
+        part == "counts" { if ($1 == "edits") of[$2] = $3; else has_tests[$2] = 1; next }
+        part == "facts" { word = $1; sub(/^[a-z]+ ?/, ""); fact[word] = $0; next }
+        part == "times" { if ($1 == "proof") proof[$2] += $3; else if ($1 == "tests") tests[$2] += $3; else if ($1 == "edits") edits[$2] += $3; next }
+        part == "log" { if ($0 ~ /^[0-9]+ passed, [0-9]+ failed/) last = $0; next }
         /^[a-z]/ { name = $1; sub(/:$/, "", name); order[++count] = name; text = $0; sub(/^[^:]*:/, "", text); below[name] = text }
         END {
             printf "%s, %d processors, %s: %d minutes by the clock, in which other programs of the machine took %.0f processor minutes.", fact["date"], fact["processors"], fact["kit"], fact["seconds"] / 60, (fact["machine"] - fact["rt"]) / ticks / 60
@@ -171,15 +167,17 @@ table() {
             for (i = 1; i <= count; i++) {
                 name = order[i]
                 sum = proof[name] + tests[name] + edits[name]
+                dearer = 0
+                for (j = 1; j <= count; j++) dearer += proof[order[j]] + tests[order[j]] + edits[order[j]] > sum
                 p += proof[name]; t += tests[name]; e += edits[name]; number += of[name]
                 if (!proof[name]) lacking = lacking " " name; else proved = proved " " name
                 if (tests[name] == 0 && name in has_tests && proof[name]) untested = untested " " name
                 if (edits[name] == 0 && name in of && proof[name]) untried = untried " " name
-                if (sum >= 60 * ticks) print row("`" name "`", proof[name], tests[name], edits[name], of[name])
-                else if (sum > 0) { small++; smalls = smalls " " name; sp += proof[name]; st += tests[name]; se += edits[name]; sn += of[name] }
+                if (sum > 0 && dearer < rows) print row("`" name "`", proof[name], tests[name], edits[name], of[name])
+                else if (sum > 0) { smalls = smalls (smalls == "" ? "" : ", ") "`" name "` " minutes(sum); sp += proof[name]; st += tests[name]; se += edits[name]; sn += of[name] }
                 if (chain(name) > longest) { longest = chain(name); ends = name }
             }
-            if (small) print row(names(smalls), sp, st, se, sn)
+            if (smalls != "") print row(smalls, sp, st, se, sn)
             rest = fact["rt"] - p - t - e
             print "| `rt` itself, links, runs of tests and programs |  |  |  | " minutes(rest) " |"
             print "| All | " minutes(p) " | " minutes(t) " | " minutes(e) " (" number + 0 ") | " minutes(p + t + e + (rest > 0 ? rest : 0)) " |\n"
@@ -190,7 +188,7 @@ table() {
             if (untested != "") print "\nTests that were kept, or not come to: those of " names(untested) "."
             if (untried != "") print "\nWrong bodies that were kept, or not come to: those of " names(untried) "."
         }
-    ' - "$room/facts" "$room/times" "$room/log" crates.txt
+    ' part=counts - part=facts "$room/facts" part=times "$room/times" part=log "$room/log" part=crates crates.txt
 }
 
 # Puts the table into docs/GATE.md, between its marks.
