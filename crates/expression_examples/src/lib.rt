@@ -1,4 +1,4 @@
-//! Worked examples of expressions: source texts and the types that their expressions have, or their faults.
+//! Worked examples of expressions in each context: their types there, or their faults.
 //!
 //! The tests stand in a crate of their own, since the check of a crate with tests proves it twice.
 #![tactic(auto)]

@@ -7,13 +7,9 @@ ghost use Rattle.go_exprs.specs.Literals.{AllRead};
 
 use crate::known::{are_known, is_in_table};
 use go_contexts::{Context, TypeError, type_expr};
-use go_exprs::engine::type_node;
-use go_rules::{Hint, TypeError as TokenError};
 use go_tokens::tokens::Tokens;
 use go_tree::node::Node;
 use go_tree::uses::Uses;
-use go_type_rules::Scope;
-use go_type_rules::predeclared::basics;
 use go_typed::{Env, Locals, TypedNode};
 use go_types::Types;
 use std::alloc::Global;
@@ -50,23 +46,4 @@ pub fn value(
         node,
         context,
     )
-}
-
-/// The typed tree of a node in a type's place. Where a number is none of the table, it answers want of memory.
-pub fn type_at(
-    alloc: Global,
-    tokens: &Tokens,
-    names: Names<'_>,
-    types: &mut Types,
-    node: &Node,
-) -> Result<TypedNode, TokenError>
-    requires { AllRead (word tokens.now) (view node.now) }
-{
-    types.count();
-    if !are_known(types, names.env, names.locals) {
-        return Err(TokenError::Memory);
-    }
-    let basics = basics(alloc, types)?;
-    let scope = Scope::of_body(tokens, names.uses, names.env, names.locals, basics, 0);
-    type_node(alloc, types, &scope, Hint::TypePlace, node)
 }

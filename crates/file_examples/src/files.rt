@@ -1,7 +1,7 @@
-//! How many levels a file may have, and what a file answers.
+//! What a file answers.
 
 use go_grammar::kind::Kind;
-use go_parse::{ParseError, parse};
+use go_parse::parse;
 use go_tokens::lex::lex;
 use go_tree::file::File;
 use go_tree::node::Node;
@@ -10,7 +10,7 @@ use std::alloc::Global;
 use std::test::Fail;
 
 /// The file of this number with this text.
-pub fn parsed(alloc: Global, number: u32, text: &str) -> Result<File, Fail> {
+fn parsed(alloc: Global, number: u32, text: &str) -> Result<File, Fail> {
     if text.len() > 1_048_576 {
         return Err("a file has at most 1 MiB".into());
     }
@@ -30,32 +30,14 @@ fn text_of<'a>(file: &File, node: &Node, text: &'a str) -> Result<&'a str, Fail>
     )
 }
 
-/// A text of five pieces, where so many copies of the second one and of the fourth one stand.
-fn nested(alloc: Global, pieces: [&'static str; 5], count: u32) -> Result<String, Fail> {
-    let [start, open, inner, close, end] = pieces;
-    let mut text = start.to_string(alloc)?;
+/// A file with so many declarations of a type, and an empty line behind them.
+fn with_types(alloc: Global, count: u32) -> Result<String, Fail> {
+    let mut text = String::from_str(alloc, "package p\n")?;
     for _ in 0..count {
-        text.push_str(open)?;
+        text.push_str("type T int\n")?;
     }
-    text.push_str(inner)?;
-    for _ in 0..count {
-        text.push_str(close)?;
-    }
-    text.push_str(end)?;
+    text.push_str("\n\n")?;
     Ok(text)
-}
-
-/// Whether a file has a tree.
-fn has_tree(alloc: Global, text: &str) -> Result<bool, Fail> {
-    if text.len() > 1_048_576 {
-        return Err("a file has at most 1 MiB".into());
-    }
-    let tokens = lex(alloc, 7, text.as_bytes())?;
-    match parse(alloc, &tokens) {
-        Ok(_) => Ok(true),
-        Err(ParseError::Fault(_)) => Ok(false),
-        Err(error) => Err(error.into()),
-    }
 }
 
 /// Each call on a file.
@@ -90,11 +72,7 @@ fn reads_a_file(rt: HostRuntime) -> Result<(), Fail> {
 #[test]
 fn reads_the_longest_file(rt: HostRuntime) -> Result<(), Fail> {
     let alloc = rt.alloc();
-    let text = nested(
-        alloc,
-        ["package p\n", "type T int\n", "", "", "\n\n"],
-        95_324,
-    )?;
+    let text = with_types(alloc, 95_324)?;
     assert_eq!(rt; text.len(), 1_048_576);
     let file = parsed(alloc, 0, text.as_str())?;
     assert_eq!(rt; file.declarations().len(), 95_324);
@@ -158,30 +136,5 @@ fn numbers_statement_lists(rt: HostRuntime) -> Result<(), Fail> {
         assert_eq!(rt; text_of(&file, node, text)?, *wanted, "{number}");
     }
     assert!(rt; lists.get(9).is_none());
-    Ok(())
-}
-
-/// The greatest number of copies with which a file has a tree. Lists, headers and `else` are no levels.
-#[test]
-fn counts_levels(rt: HostRuntime) -> Result<(), Fail> {
-    for (pieces, most) in [
-        (["package p; func f() {", "{", "", "}", "}"], 98_u32),
-        (
-            ["package p; func f() {", "if a {} else ", "{}", "", "}"],
-            97,
-        ),
-        (["package p; func f() { a = a", "+a", "", "", "}"], 96),
-        (["package p; func f(a ", "func(b ", "T", ")", ")"], 32),
-        (["package p; type T ", "[]", "T", "", ""], 97),
-        (["package p; var x = T{", "{", "", "}", "}"], 97),
-        (["package p; var x = ", "(", "1", ")", ""], 97),
-    ] {
-        let text = nested(rt.alloc(), pieces, most)?;
-        assert!(rt; has_tree(rt.alloc(), text.as_str())?, "{most}");
-        let text = nested(rt.alloc(), pieces, most.saturating_add(1))?;
-        assert!(rt; !has_tree(rt.alloc(), text.as_str())?, "{most}");
-        let text = nested(rt.alloc(), pieces, 20_000)?;
-        assert!(rt; !has_tree(rt.alloc(), text.as_str())?, "{most}");
-    }
     Ok(())
 }

@@ -12,9 +12,8 @@ use go_scopes::names::entries_of;
 use go_scopes::repeated::{NamePlace, redeclared_names, repeated_parameters};
 use go_scopes::resolve::{resolve, units_of};
 use go_tokens::lex::lex;
-use go_tree::context::{Block, Entity, Scope};
 use go_tree::file::File;
-use go_tree::object::{Declared, Object, Predeclared};
+use go_tree::object::{Object, Predeclared};
 use std::alloc::Global;
 use std::test::Fail;
 
@@ -145,31 +144,6 @@ fn objects(rt: HostRuntime) -> Result<(), Fail> {
     Ok(())
 }
 
-#[test]
-fn declarations(rt: HostRuntime) -> Result<(), Fail> {
-    let alloc = rt.alloc();
-    let mut files = Vec::new(alloc);
-    files.push(file(alloc, 0, PACKAGE)?)?;
-    if files.len() > 256 {
-        return Err("a package has at most 256 files".into());
-    }
-    let uses = resolve(alloc, &files)?;
-    let function = Declared {
-        file: 0,
-        name: 12,
-        entity: Entity::Function,
-        block: Block::Package,
-        scope: Scope { from: 11, to: 39 },
-    };
-    assert_eq!(rt; uses.files(), 1);
-    assert_eq!(rt; uses.functions(), 2);
-    assert!(rt; uses.package_objects().get(1) == Some(&function));
-    assert!(rt; uses.locals(0).map(|locals| locals.len()) == Some(2));
-    assert!(rt; uses.declaration(Object::Package(1)) == Some(function));
-    assert!(rt; uses.declaration(Object::Import) == None);
-    Ok(())
-}
-
 /// The file of this number of a package of 256, whose 20 constants have the values of those of the next file.
 fn chained(alloc: Global, number: u32) -> Result<String, Fail> {
     let mut text = String::from_str(alloc, "package p\n")?;
@@ -200,87 +174,6 @@ fn many_files(rt: HostRuntime) -> Result<(), Fail> {
     let uses = resolve(alloc, &files)?;
     assert_eq!(rt; uses.package_objects().len(), 5120);
     assert!(rt; uses.object(0, 6) == Some(Object::Package(20)));
-    Ok(())
-}
-
-/// What is shown of a declaration: whether it needs itself, and whether it has a rank.
-type Shown = (Option<bool>, bool);
-
-/// It needs itself.
-const ITSELF: Shown = (Some(true), false);
-
-/// It doesn't, but another declaration of the package does.
-const OTHER: Shown = (Some(false), false);
-
-/// None of the package does.
-const NONE: Shown = (Some(false), true);
-
-/// Packages of a file, and which of their declarations need themselves.
-const CYCLES: [(&[u8], &[Shown]); 9] = [
-    (
-        b"package p\ntype A struct { b B }\ntype B struct { c C }\ntype C struct { a A }",
-        &[ITSELF, ITSELF, ITSELF],
-    ),
-    (
-        b"package p\ntype A struct { b B }\ntype B struct { c C }\ntype C int",
-        &[NONE, NONE, NONE],
-    ),
-    (b"package p\ntype A []A", &[NONE]),
-    (b"package p\ntype A [len(A{})]int", &[ITSELF]),
-    (
-        b"package p\ntype A struct { b B }\ntype B []A",
-        &[NONE, NONE],
-    ),
-    // An array's length needs all that the type's right side names.
-    (
-        b"package p\ntype A [len(B{})]int\ntype B []A",
-        &[ITSELF, OTHER],
-    ),
-    // What leads to a circle isn't on it.
-    (
-        b"package p\ntype A struct { b B }\ntype B struct { c C }\ntype C struct { b B }",
-        &[OTHER, ITSELF, ITSELF],
-    ),
-    (
-        b"package p\ntype A [len(B{})]int\ntype B []C\ntype C []B",
-        &[NONE, NONE, NONE],
-    ),
-    // Each constant needs its own value.
-    (
-        b"package p\nconst a, b = b, 1\nfunc f(x [a]int) { f(x) }",
-        &[NONE, NONE, NONE, NONE],
-    ),
-];
-
-/// What the ranks and the circles show of each declaration of a file.
-fn shown(alloc: Global, text: &[u8]) -> Result<Vec<Shown>, Fail> {
-    let mut files = Vec::new(alloc);
-    files.push(file(alloc, 0, text)?)?;
-    let units = units_of(alloc, &files)?;
-    if units.len() > 256 {
-        return Err("a package has at most 256 files".into());
-    }
-    let all = all_found(alloc, &units)?;
-    let declared = new_among(alloc, &all)?;
-    let entries = entries(alloc, &units, &declared)?;
-    let asked = sited_names(alloc, &units, &entries)?;
-    let order = order_of(alloc, &asked, &declared)?;
-    let rounds = declared.len().saturating_mul(2);
-    let mut shown = Vec::new(alloc);
-    for d in &declared {
-        let itself = order.shown(alloc, &asked, rounds, d)?;
-        shown.push((itself, order.rank(d).is_some()))?;
-    }
-    Ok(shown)
-}
-
-/// The ranks show of each declaration that it doesn't need itself, or else a circle that it does, so that the rounds of the
-/// definition are never needed. Where none needs itself, each has a rank.
-#[test]
-fn cycles(rt: HostRuntime) -> Result<(), Fail> {
-    for (text, wanted) in CYCLES {
-        assert!(rt; shown(rt.alloc(), text)?.as_slice() == wanted);
-    }
     Ok(())
 }
 
