@@ -5,7 +5,7 @@ pub mod Begins
 pub mod Changes
 pub mod Depths
 pub mod Endings
-pub mod Examples
+pub mod DerivationExamples
 pub mod Kept
 pub mod Mild
 pub mod Operands

@@ -64,7 +64,7 @@ result = node kind.File 0 42 (skip
     (more (node kind.FunctionDeclaration 17 29 (more (signature 19) (more (node kind.Block 21 29 (more (node kind.For 22 28 (skip (more (node kind.Block 23 28 (more (called 24) none)) none))) none)) none)))
     (more (node kind.FunctionDeclaration 30 41 (more (signature 32) (more (node kind.Block 34 41 (more (count_up 35) (more (count_down 38) none))) none))) none))))
 
-pub record Examples : Type 0 where
+pub record DerivationExamples : Type 0 where
   -- both operands at once
   pub both_operands : Derives new_sum_tokens expression new_sum
   -- two runs in one list and a run in another, and a function at the end

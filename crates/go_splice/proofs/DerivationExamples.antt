@@ -164,5 +164,5 @@ three_runs =
     let changed_file : IsFile new_tokens (become (moved_by calls) file (patch_of sites)) = file_sites_changed file_tokens calls file sites file_before refl ascending (first_sits, (second_sits, (third_sits, tt))) refl (omega arith) in
     with_one_more new_tokens helper_tokens (become (moved_by calls) file (patch_of sites)) helper changed_file (read_stands helper_tokens 40 100 category.Declaration 0 helper refl).0 refl refl refl (omega arith)
 
-pub all : Examples
+pub all : DerivationExamples
 all = record { both_operands = both_operands; three_runs = three_runs }
