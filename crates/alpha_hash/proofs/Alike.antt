@@ -16,7 +16,7 @@ use Rattle.alpha_hash.specs.Alike.{AreAlike, NamesAgree}
 use Rattle.alpha_hash.specs.Hash.{text_fold}
 use Rattle.alpha_hash.specs.Naming.{Naming, final_text}
 use Rattle.alpha_hash.specs.Words.{Word, number, named, begins_with_list, last_list, length_if, is_at, lengths_at, row_length, one_if, kind_words, operator_words, local_words, object_words, field_words, compared_words, defined_words, constant_words, blank_words, name_words, declared_words, all_declared, constants_words, own_words, hole_words, is_defined, words, row_words, window_words}
-use Rattle.alpha_hash.proofs.Texts.{name-is, literals-text, finals-text, alike-texts}
+use Rattle.alpha_hash.proofs.WordTexts.{name-is, literals-text, finals-text, alike-texts}
 
 -- ---- rows of locals
 

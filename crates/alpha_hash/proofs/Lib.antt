@@ -1,5 +1,5 @@
 pub mod Terms
-pub mod Texts
+pub mod WordTexts
 pub mod Alike
 pub mod Windows
 pub mod Functions

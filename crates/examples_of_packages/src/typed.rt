@@ -59,7 +59,7 @@ fn parameters(alloc: Global, types: &mut Types) -> Result<Locals, Fail> {
 }
 
 /// The type of a value.
-fn answer(types: &Types, typed: &TypedNode) -> Answer {
+fn answer_of(types: &Types, typed: &TypedNode) -> Answer {
     let of = match &typed.sort {
         Sort::Value(of) => *of,
         Sort::Constant(of, _) => of.id(),
@@ -94,7 +94,7 @@ fn first_value(
         return Err("no value".into());
     };
     match value(alloc, file.tokens(), names, types, node, context) {
-        Ok(typed) => Ok(answer(types, &typed)),
+        Ok(typed) => Ok(answer_of(types, &typed)),
         Err(TypeError::Fault(fault)) => {
             let span = fault.span;
             Ok(Answer::Fault(fault.code.number(), span.start, span.end))
