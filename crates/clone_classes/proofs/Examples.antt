@@ -1,77 +1,14 @@
--- Worked examples of classes and of listings.
-use Rattle.std.proofs.Common.{◌≡◌, ℕ, ◌%◌, Bool, false, List, [], ◌∷◌, refl}
-use Rattle.std.specs.Prelude.{nat_eq, replicate}
-use Rattle.go_typed.specs.declared.form.Form.{Form}
-use Rattle.go_typed.specs.declared.form.Form.TheVariants as form
-use Rattle.go_typed.specs.declared.form.Referent.TheVariants as referent
-use Rattle.go_typed.specs.Trees.{Sort, Nothing, Value, Results, Typed, typed, Typeds, none, more}
-use Rattle.clone_window.specs.Windows.{run_at}
-use Rattle.clone_classes.specs.Classes.{classes}
-use Rattle.clone_classes.specs.Listing.{listing}
-use Rattle.clone_same.specs.Bodies.{Body}
+-- The worked examples hold.
+use Rattle.std.proofs.Common.{refl}
+use Rattle.clone_classes.specs.Examples.{Examples}
 
--- ---- numbers that are the same where they leave the same remainder
-
-abbrev same : ℕ → ℕ → Bool
-same x y = nat_eq (x % 10) (y % 10)
-
--- groups of two or more, in the order of their first members
-two_groups : classes same (11 ∷ 5 ∷ 32 ∷ 21 ∷ 42 ∷ 31 ∷ []) ≡ (11 ∷ 21 ∷ 31 ∷ []) ∷ (32 ∷ 42 ∷ []) ∷ []
-two_groups = refl
-
-none_alike : classes same (1 ∷ 2 ∷ 3 ∷ []) ≡ []
-none_alike = refl
-
-no_windows : classes same [] ≡ []
-no_windows = refl
-
--- ---- packages
-
-abbrev bare : Form → Sort ℕ → List (Typed ℕ) → Typed ℕ
-bare f s ps = typed f 0 0 (record { sort = s; varies = false; calls = false }) (parts ps) where
-  parts : List (Typed ℕ) → Typeds ℕ
-  parts [] = none
-  parts (p ∷ ps) = more p (parts ps)
-
--- `f()`
-abbrev called : Typed ℕ
-called = bare form.Expression Nothing (bare form.Call (Results 0) (bare (form.Object (referent.Function 0)) (Value 0) [] ∷ []) ∷ [])
-
--- `a = b`
-abbrev assigned : ℕ → ℕ → Typed ℕ
-assigned a b = bare (form.Assign 1) Nothing (bare (form.Local a) (Value 1) [] ∷ bare (form.Local b) (Value 1) [] ∷ [])
-
-abbrev body : List (Sort ℕ) → List (Typed ℕ) → Body ℕ
-body sorts ss = record { locals = sorts; root = bare form.Function Nothing (bare form.Block Nothing ss ∷ []) }
-
--- fields have no names, or each type names its fields by its number
-abbrev unnamed : ℕ → ℕ → List ℕ
-unnamed t k = []
-
-abbrev numbered : ℕ → ℕ → List ℕ
-numbered t k = t ∷ []
-
--- `func f() {}` and `func g() { f(); f(); f(); f() }`: windows of a class may overlap
-overlapping : listing nat_eq unnamed (record { fewest = 2; least = 6 }) (body [] [] ∷ body [] (replicate 4 called) ∷ [])
-    ≡ (run_at 1 0 0 2 ∷ run_at 1 0 1 2 ∷ run_at 1 0 2 2 ∷ []) ∷ (run_at 1 0 0 3 ∷ run_at 1 0 1 3 ∷ []) ∷ []
-overlapping = refl
-
--- `a = b; b = a` in f, `a = a; a = a` in g, `a = b; a = b` in k
-abbrev two : List (Sort ℕ)
-two = Value 1 ∷ Value 1 ∷ []
-
-not_one_to_one : listing nat_eq unnamed (record { fewest = 2; least = 6 })
-    (body two (assigned 0 1 ∷ assigned 1 0 ∷ []) ∷ body two (assigned 0 0 ∷ assigned 0 0 ∷ []) ∷ body two (assigned 0 1 ∷ assigned 0 1 ∷ []) ∷ []) ≡ []
-not_one_to_one = refl
-
--- `f().x` where the call gives a value of this type
-abbrev selected : ℕ → Typed ℕ
-selected t = bare form.Expression Nothing (bare (form.Selector 0) (Value 1) (bare form.Call (Value t) (bare (form.Object (referent.Function 0)) (Value 0) [] ∷ []) ∷ []) ∷ [])
-
--- fields of one place that have different names, and that have one name
-other_names : listing nat_eq numbered (record { fewest = 2; least = 6 }) (body [] (replicate 2 (selected 2)) ∷ body [] (replicate 2 (selected 3)) ∷ []) ≡ []
-other_names = refl
-
-one_name : listing nat_eq unnamed (record { fewest = 2; least = 6 }) (body [] (replicate 2 (selected 2)) ∷ body [] (replicate 2 (selected 3)) ∷ [])
-    ≡ (run_at 0 0 0 2 ∷ run_at 1 0 0 2 ∷ []) ∷ []
-one_name = refl
+pub all : Examples
+all = record {
+  two_groups = refl;
+  none_alike = refl;
+  no_windows = refl;
+  overlapping = refl;
+  not_one_to_one = refl;
+  other_names = refl;
+  one_name = refl;
+}

@@ -1,5 +1,5 @@
 -- How windows are grouped one by one.
-use Rattle.std.proofs.Common.{◌≡◌, ◌∙◌, ℕ, zero, suc, ◌+◌, Bool, true, false, List, [], ◌∷◌, ◌++◌, filter, take, drop, length, Some, slice_get, refl, sym, ap, arith}
+use Rattle.std.proofs.Common.{◌≡◌, ◌∙◌, ℕ, zero, suc, ◌+◌, Bool, true, false, List, [], ◌∷◌, ◌++◌, filter, drop, length, Some, slice_get, refl, sym, ap, arith}
 use Rattle.std.specs.Prelude.{◌||◌, not, nat_eq, nat_lt, if◌then◌else◌}
 use Rattle.std.specs.List.{list_any}
 use Rattle.std.proofs.lemmas.Bool.{eqb-true, and_parts}
@@ -11,7 +11,7 @@ use Rattle.go_typed.specs.Packages.{are_numbered}
 use Rattle.clone_window.specs.declared.bounds.Bounds.{Bounds}
 use Rattle.clone_window.specs.Windows.{windows}
 use Rattle.clone_same.specs.Bodies.{body_of, bodies_of}
-use Rattle.clone_classes.specs.Classes.{class_led_by, classes_from}
+use Rattle.clone_classes.specs.Classes.{class_led_by}
 use Rattle.clone_classes.specs.Listing.{windows_of_all}
 
 -- some pass where the ones that are kept are some
@@ -21,10 +21,6 @@ some-kept {A} test w (x ∷ xs) = step (test x) (some-kept test w xs) where
   step : (b : Bool) → nat_lt 1 (length (w ∷ filter test xs)) ≡ list_any test xs → nat_lt 1 (length (w ∷ (if b then x ∷ filter test xs else filter test xs))) ≡ (b || list_any test xs)
   step true e = grind arith
   step false e = e
-
--- The class that a window leads, by the tests of the windows in front of it and behind it.
-pub none-led : {A : Type 0} (same : A → A → Bool) (earlier : List A) (w : A) (later : List A) → list_any (same w) earlier ≡ true → class_led_by same earlier w later ≡ []
-none-led same earlier w later e = ap (λ b. if b || not (list_any (same w) later) then [] else (w ∷ filter (same w) later) ∷ []) e
 
 pub led-if : {A : Type 0} (same : A → A → Bool) (earlier : List A) (w : A) (later : List A) → list_any (same w) earlier ≡ false →
     class_led_by same earlier w later ≡ (if nat_lt 1 (length (w ∷ filter (same w) later)) then (w ∷ filter (same w) later) ∷ [] else [])
@@ -42,26 +38,6 @@ rest-from : {A : Type 0} (xs : List A) (i : ℕ) (x : A) → slice_get xs i ≡ 
 rest-from [] i x e = cc
 rest-from (y ∷ xs) zero x e = ap (λ z. z ∷ xs) (same_Some y x e)
 rest-from (y ∷ xs) (suc i) x e = rest-from xs i x e ∙ (let n : suc (i + 1) ≡ suc i + 1 = omega arith in ap (λ k. x ∷ drop k (y ∷ xs)) n)
-
-front-to : {A : Type 0} (xs : List A) (i : ℕ) (x : A) → slice_get xs i ≡ Some x → take (i + 1) xs ≡ take i xs ++ x ∷ []
-front-to [] i x e = cc
-front-to (y ∷ xs) zero x e = ap (λ z. z ∷ []) (same_Some y x e)
-front-to (y ∷ xs) (suc i) x e = (let n : suc i + 1 ≡ suc (i + 1) = omega arith in ap (λ k. take k (y ∷ xs)) n) ∙ ap (λ l. y ∷ l) (front-to xs i x e)
-
-pub classes-next : {A : Type 0} (same : A → A → Bool) (xs : List A) (i : ℕ) (x : A) → slice_get xs i ≡ Some x →
-    classes_from same (take i xs) (drop i xs) ≡ class_led_by same (take i xs) x (drop (i + 1) xs) ++ classes_from same (take (i + 1) xs) (drop (i + 1) xs)
-classes-next same xs i x e =
-    ap (classes_from same (take i xs)) (rest-from xs i x e)
-    ∙ ap (λ l. class_led_by same (take i xs) x (drop (i + 1) xs) ++ classes_from same l (drop (i + 1) xs)) (sym (front-to xs i x e))
-
-pub classes-step : {A : Type 0} (same : A → A → Bool) (xs : List A) (i : ℕ) (x : A) (all old new : List (List A)) → slice_get xs i ≡ Some x →
-    all ≡ old ++ classes_from same (take i xs) (drop i xs) → new ≡ old ++ class_led_by same (take i xs) x (drop (i + 1) xs) →
-    all ≡ new ++ classes_from same (take (i + 1) xs) (drop (i + 1) xs)
-classes-step same xs i x all old new e h n =
-    h
-    ∙ ap (λ l. old ++ l) (classes-next same xs i x e)
-    ∙ sym (append_assoc old (class_led_by same (take i xs) x (drop (i + 1) xs)) (classes_from same (take (i + 1) xs) (drop (i + 1) xs)))
-    ∙ ap (λ l. l ++ classes_from same (take (i + 1) xs) (drop (i + 1) xs)) (sym n)
 
 -- ---- the functions of a package
 

@@ -1,5 +1,5 @@
 pub mod Ends
-mod Examples
+pub mod Examples
 pub mod Grouping
 pub mod Groups
 pub mod Heads

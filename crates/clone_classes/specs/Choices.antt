@@ -3,6 +3,7 @@ use Rattle.std.specs.Prelude.{◌≡◌, ℕ, suc, Bool, ◌&&◌, nat_eq, nat_l
 use Rattle.std.specs.List.{list_any}
 use Rattle.go_typed.specs.declared.window.Window.{Window}
 use Rattle.go_typed.specs.Trees.{Typeds, none, more, skip, first_of, last_of}
+use Rattle.clone_window.specs.Spans.{last_from}
 use Rattle.clone_same.specs.Bodies.{Body, statements_at}
 use Rattle.clone_classes.specs.declared.choose.Choice.{Choice}
 use Rattle.clone_classes.specs.declared.choose.Choice.TheVariants as choice
@@ -11,12 +12,6 @@ use Rattle.clone_classes.specs.declared.choose.ChooseError.TheVariants as error
 use Rattle.clone_classes.specs.declared.place.Place.{Place}
 
 -- ---- where windows lie
-
--- the token behind the last part, or this one where there is no part
-abbrev pub last_from : {T : Type 0} → ℕ → Typeds T → ℕ
-last_from j none = j
-last_from j (more p ps) = last_from (last_of p) ps
-last_from j (skip ps) = last_from j ps
 
 -- from the first token of statements up to the one behind the last, of a function of some number
 abbrev pub place_over : {T : Type 0} → ℕ → Typeds T → Place

@@ -4,3 +4,4 @@ pub mod Ends
 pub mod Heads
 pub mod Listing
 pub mod Orders
+pub mod Examples

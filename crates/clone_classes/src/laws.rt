@@ -10,6 +10,12 @@ ghost use Rattle.clone_classes.specs.Heads.{same_between};
 ghost use Rattle.clone_classes.specs.Listing.{windows_of_all, listing};
 ghost use Rattle.clone_same.specs.Bodies.{Body, are_same};
 ghost use Rattle.clone_window.specs.Fields.{FieldNames};
+ghost use Rattle.clone_classes.specs.Examples.{Examples};
+
+/// Classes and listings of some windows, worked out by hand.
+pub fn examples()
+    ensures { Examples }
+{}
 
 /// Sameness is an equivalence on the windows of a package, whatever equivalence tells identical types, and whatever names fields have.
 pub fn sameness_is_an_equivalence()

@@ -4,10 +4,11 @@ ghost use Rattle.std.specs.Prelude.{◌≡◌, map, IfOk};
 ghost use Rattle.std.specs.List.{list_any};
 ghost use Rattle.go_typed.specs.Views.{views};
 ghost use Rattle.clone_same.specs.Bodies.{bodies_of};
-ghost use Rattle.clone_classes.specs.Choices.{last_from, meets, place_of, place_over};
+ghost use Rattle.clone_classes.specs.Choices.{meets, place_of, place_over};
 ghost use Rattle.clone_classes.specs.Ends.{is_behind, reaches};
 
 use clone_window::run::statements;
+use clone_window::span::last_from;
 use go_base::Memory;
 use go_typed::checked::Checked;
 use go_typed::node::TypedNode;
@@ -101,17 +102,4 @@ fn place_over(func: u32, statements: &[Option<TypedNode>]) -> Place
             to: 0,
         },
     }
-}
-
-/// The number of the token behind the last of some parts, or this one where there are none.
-fn last_from(last: u32, parts: &[Option<TypedNode>]) -> u32
-    ensures { result ≡ last_from last (views parts.now) }
-{
-    let mut last = last;
-    for part in parts {
-        if let Some(node) = part {
-            last = node.last;
-        }
-    }
-    last
 }

@@ -81,9 +81,6 @@ pub record Came (old : Taken) (left : List ℕ) (now : Taken) (after : Option (L
   pub pending : now.pending ≡ old.pending ++ more
   pub count : now.count ≡ old.count + length more
 
-pub nothing_came : (old : Taken) (left : List ℕ) (after : Option (List ℕ)) → after ≡ Some left → Came old left old after
-nothing_came old left after e = record { more = []; rest = left; whole = refl; told = e; pending = sym (append-nil old.pending); count = omega arith }
-
 take_over : (n : ℕ) (xs ys : List ℕ) → take (length xs + n) (xs ++ ys) ≡ xs ++ take n ys
 take_over n [] ys = ap (λ k. take k ys) (let e : 0 + n ≡ n = omega arith in e)
 take_over n (x ∷ xs) ys = ap (λ k. take k (x ∷ (xs ++ ys))) (let e : suc (length xs) + n ≡ suc (length xs + n) = omega arith in e) ∙ ap (λ l. x ∷ l) (take_over n xs ys)
@@ -148,7 +145,3 @@ pub comes_none : (old : Taken) (left : List ℕ) (now : Taken) (middle : Option 
     IsBeginning now.pending → Gets now c.rest (Err e) new after → Comes old left (Err e) new after
 comes_none old left now middle errors.Failed new after c begun g = (c.more, c.rest, c.whole, g.0, subst IsBeginning c.pending begun, ap (λ (t : Taken). t.count) g.1 ∙ c.count)
 comes_none old left now middle errors.Memory new after c begun g = tt
-
-pub comes_stop : (old : Taken) (left : List ℕ) (now : Taken) (e : IntakeError) (new fresh : Taken) (after : Option (List ℕ)) → Finds now (Err e) new → Comes old left (Err e) fresh after
-comes_stop old left now errors.Failed new fresh after f = absurd f
-comes_stop old left now errors.Memory new fresh after f = tt

@@ -1,25 +1,20 @@
 -- What a listing shows of windows is the same over other words for types, and the program's bytes are those of the definition.
-use Rattle.std.proofs.Common.{◌≡◌, ◌∙◌, ℕ, suc, false, List, [], ◌∷◌, ◌++◌, length, map, Option, Some, None, slice_get, ap, refl, sym}
+use Rattle.std.proofs.Common.{◌≡◌, ◌∙◌, ℕ, suc, false, List, [], ◌∷◌, ◌++◌, length, map, Option, slice_get, ap, refl, sym}
 use Rattle.std.proofs.lemmas.List.{length-map}
-use Rattle.std.proofs.lemmas.Option.{slice_get-map}
 use Rattle.std.specs.Prelude.{unwrap_or, codes}
 use Rattle.std.specs.Fmt.{decimal}
 use Rattle.std.specs.List.{flat_map}
-use Rattle.std.specs.Option.{option_map}
 use Rattle.go_base.specs.declared.Span.{Span}
 use Rattle.go_base.specs.Optional.{◌>>=◌}
 use Rattle.go_typed.specs.declared.window.Window.{Window}
-use Rattle.go_typed.specs.Funcs.{FuncView}
-use Rattle.go_typed.specs.Packages.{PackageView}
 use Rattle.go_typed.specs.Windows.{Range}
 use Rattle.clone_window.specs.Masses.{masses}
-use Rattle.clone_window.specs.Spans.{ByteRange, bytes_of, nowhere, places_from, span_there, window_range, window_span}
-use Rattle.clone_same.specs.Bodies.{body_of, statements_at}
+use Rattle.clone_window.specs.Spans.{ByteRange, bytes_of, nowhere, places_from, span_there}
 use Rattle.clone_window.specs.Fields.{FieldNames}
 use Rattle.clone_script.specs.declared.listing.ListedClass.{ListedClass}
 use Rattle.clone_script.specs.Listing as script
 use Rattle.clone_script.specs.Listing.{member_line, class_reply}
-use Rattle.clone_replies.specs.Classes.{Listed, ShownClass, bytes_over, listed_package, shown_class, statements_in, window_bytes}
+use Rattle.clone_replies.specs.Classes.{Listed, ShownClass, bytes_over, shown_class, statements_in, window_bytes}
 use Rattle.clone_replies.specs.Listing.{class_text, classes_text, listing_text, member_text, shown}
 use Rattle.clone_replies.proofs.Mapped.{body-mapped, masses-mapped, range-mapped, statements-at-mapped}
 
@@ -52,17 +47,6 @@ module _ {T U : Type 0} (g : T → U) (fields : FieldNames U) where
   all-shown-mapped l [] = refl
   all-shown-mapped l (ws ∷ wss) = ap (λ x. x ∷ map (shown_class (listed-mapped l)) wss) (shown-mapped l ws) ∙ ap (λ xs. shown_class l ws ∷ xs) (all-shown-mapped l wss)
 
--- ---- the bytes of windows of the program's packages
-
-found-bytes : (p : PackageView) (w : Window) (f : Option FuncView) →
-    (f >>= λ x. window_range x w >>= λ r. slice_get (places_from 0 p.files) w.func >>= span_there p.files r) ≡ bytes_over p.files w.func (statements_at (option_map body_of f) w)
-found-bytes p w None = refl
-found-bytes p w (Some f) = refl
-
-pub package-bytes : (p : PackageView) (w : Window) → unwrap_or (window_span p w) nowhere ≡ window_bytes (listed_package p) w
-package-bytes p w =
-    ap (λ r. unwrap_or r nowhere) (found-bytes p w (slice_get p.functions w.func))
-    ∙ ap (λ o. unwrap_or (bytes_over p.files w.func (statements_at o w)) nowhere) (sym (slice_get-map body_of p.functions w.func))
 
 -- ---- the text of what is shown
 

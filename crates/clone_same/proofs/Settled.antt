@@ -195,9 +195,6 @@ pub record SettledSoFar (table : ℕ → Option ℕ) (xs ys : List ℕ) (i : ℕ
   pub settled : is_settled (take i (zip xs ys)) ≡ true
   pub partners : (q : ℕ) → table q ≡ partner q (take i (zip xs ys))
 
-pub settled-begin : (table : ℕ → Option ℕ) (xs ys : List ℕ) → ((q : ℕ) → table q ≡ None) → SettledSoFar table xs ys 0
-settled-begin table xs ys h = record { settled = refl; partners = h }
-
 pub settled-again : (table : ℕ → Option ℕ) (xs ys : List ℕ) (i a b : ℕ) → slice_get xs i ≡ Some a → slice_get ys i ≡ Some b → table a ≡ Some b →
     SettledSoFar table xs ys i → SettledSoFar table xs ys (i + 1)
 settled-again table xs ys i a b e f t h =

@@ -1,8 +1,6 @@
 -- How a run ends.
 use Rattle.std.proofs.Common.{◌≡◌, ℕ, List, [], ◌++◌, Option, Some, Result, Ok, Err, inl, inr, refl, ap, ◌∙◌, append_assoc}
 use Rattle.go_base.specs.declared.bytes.FileText.{FileText}
-use Rattle.port_io.specs.declared.sink.SinkError.{SinkError}
-use Rattle.port_io.specs.declared.sink.SinkError.TheVariants as sink
 use Rattle.port_io.specs.Held.{Held}
 use Rattle.clone_intake.specs.declared.step.End.{End}
 use Rattle.clone_intake.specs.Taking.{outcome_of}
@@ -13,14 +11,10 @@ use Rattle.clone_folder.specs.Opening.{opened}
 use Rattle.clone_server.specs.declared.stop.Stop.{Stop}
 use Rattle.clone_server.specs.declared.stop.Stop.TheVariants as stop
 use Rattle.clone_server.specs.Session.{Settings, Answering, outcome_status, outcome_text}
-use Rattle.clone_server.specs.Serving.{sink_stop, WritesAll, AtEnd, Runs}
+use Rattle.clone_server.specs.Serving.{AtEnd, Runs}
 use Rattle.clone_server.specs.Run.{Closes, RunsFiles, Untouched, RunsFolder, RunsWords}
 use Rattle.clone_server.proofs.Written.{leaves_all}
 use Rattle.clone_server.proofs.Standing.{stands_first}
-
-pub closes_stop : (line : List ℕ) (status : ℕ) (before : List ℕ) (e : SinkError) (written : Option (List ℕ)) → WritesAll (Err e) before line written → Closes line status before (Err (sink_stop e)) written
-closes_stop line status before sink.Failed written w = w
-closes_stop line status before sink.Memory written w = (w.0, w.2)
 
 -- memory ran out before the line was written
 pub closes_before : (line : List ℕ) (status : ℕ) (before : List ℕ) (written : Option (List ℕ)) → written ≡ Some before → Closes line status before (Err stop.Memory) written

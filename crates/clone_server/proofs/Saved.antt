@@ -1,7 +1,6 @@
 -- Files that are put into a folder, one after the other.
-use Rattle.std.proofs.Common.{◌≡◌, ℕ, zero, suc, ◌+◌, List, [], ◌∷◌, ◌++◌, length, take, drop, Option, Some, slice_get, Ok, Err, refl, sym, ap, subst, ◌∙◌, add-one}
+use Rattle.std.proofs.Common.{◌≡◌, ℕ, zero, suc, ◌+◌, List, [], ◌∷◌, ◌++◌, take, drop, Option, Some, slice_get, Ok, Err, refl, sym, ap, subst, ◌∙◌, add-one}
 use Rattle.std.proofs.lemmas.List.{take-append-drop}
-use Rattle.std.proofs.Math.Seq.{take-length}
 use Rattle.go_base.specs.declared.bytes.FileText.{FileText}
 use Rattle.port_io.specs.declared.folder.FolderError.{FolderError}
 use Rattle.port_io.specs.declared.folder.FolderError.TheVariants as folder
@@ -32,9 +31,6 @@ write_ok o new ch held dir name bytes w e f = here (subst (λ x. Writes (Ok tt) 
     here : Writes (Ok tt) (Some held) new (Some dir) name bytes → new ≡ Some (with_file held dir name bytes)
     here h = h
 
-pub saved_none : (held : Held) (dir : List ℕ) (fs : List FileText) (o : Option Held) → o ≡ Some held → o ≡ Some (with_files held dir (take 0 fs))
-saved_none held dir fs o e = e
-
 pub saved_more : (held : Held) (dir : List ℕ) (fs : List FileText) (n : ℕ) (f : FileText) (o new : Option Held) (ch : Option (List ℕ)) → slice_get fs n ≡ Some f →
     o ≡ Some (with_files held dir (take n fs)) → ch ≡ Some dir → Writes (Ok tt) o new ch f.name f.bytes → new ≡ Some (with_files held dir (take (n + 1) fs))
 saved_more held dir fs n f o new ch at e c w =
@@ -53,6 +49,3 @@ saved_stop held dir fs n f o new ch folder.Memory at eo ec w =
 -- memory ran out before the next file was written
 pub saved_front : (held : Held) (dir : List ℕ) (fs : List FileText) (n : ℕ) (o : Option Held) → o ≡ Some (with_files held dir (take n fs)) → Saves (Err folder.Memory) held dir fs o
 saved_front held dir fs n o e = (take n fs, drop n fs, sym (take-append-drop n fs), e)
-
-pub saved_all : (held : Held) (dir : List ℕ) (fs : List FileText) (n : ℕ) (o : Option Held) → n ≡ length fs → o ≡ Some (with_files held dir (take n fs)) → o ≡ Some (with_files held dir fs)
-saved_all held dir fs n o e h = h ∙ ap (λ k. Some (with_files held dir (take k fs))) e ∙ ap (λ l. Some (with_files held dir l)) (take-length fs)

@@ -1,4 +1,4 @@
-mod Examples
+pub mod Examples
 pub mod Opened
 pub mod Equivalence
 pub mod Pairing

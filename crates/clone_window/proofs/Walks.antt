@@ -1,9 +1,8 @@
 -- The windows of a row of parts, part by part.
 use Rattle.std.proofs.Common.{◌≡◌, ℕ, zero, suc, ◌+◌, ◌-◌, ◌^◌, ◌<◌, ◌≤◌, false, List, [], ◌∷◌, ◌++◌, length, take, drop, get_or, Option, Some, subst, refl, sym, ap, ◌∙◌, arith, length-append, length-drop, append_assoc, drop-cons}
-use Rattle.std.proofs.lemmas.List.{append-nil}
 use Rattle.go_typed.specs.declared.window.Window.{Window}
 use Rattle.go_typed.specs.declared.node.TypedNode.{TypedNode}
-use Rattle.go_typed.specs.Trees.{Typed, Typeds, none, more, skip}
+use Rattle.go_typed.specs.Trees.{Typed, Typeds, more, skip}
 use Rattle.go_typed.specs.Funcs.{size, sizes}
 use Rattle.go_typed.specs.Lists.{statement_lists, lists_among}
 use Rattle.go_typed.specs.Views.{view, views}
@@ -25,12 +24,6 @@ drop-tail zero [] ys x h = cc
 drop-tail zero (z ∷ xs) ys x h = let e : xs ≡ ys = cc in e
 drop-tail (suc i) [] ys x h = cc
 drop-tail (suc i) (z ∷ xs) ys x h = drop-tail i xs ys x h
-
-pub drop-some : {A : Type 0} (i : ℕ) (xs ys : List A) (x : A) → drop i xs ≡ x ∷ ys → i < length xs
-drop-some zero [] ys x h = cc
-drop-some zero (z ∷ xs) ys x h = omega arith
-drop-some (suc i) [] ys x h = cc
-drop-some (suc i) (z ∷ xs) ys x h = let k : i < length xs = drop-some i xs ys x h in omega arith
 
 take-whole : {A : Type 0} (xs : List A) (n : ℕ) → length xs ≤ n → take n xs ≡ xs
 take-whole [] zero h = refl
@@ -58,10 +51,6 @@ pub record AmongLeft (bounds : Bounds) (func first next : ℕ) (all left : Typed
   pub table_left : take (length (weights_among left)) (drop next table) ≡ weights_among left
   pub windows : old ++ windows_among bounds func first all ≡ out ++ windows_among bounds func next left
 
-pub among-begin : (bounds : Bounds) (func first : ℕ) (all : Typeds ℕ) (table : List (List ℕ)) (old : List Window) → first + sizes all < 2 ^ 32 →
-    take (length (weights_among all)) (drop first table) ≡ weights_among all → AmongLeft bounds func first first all all table old old
-among-begin bounds func first all table old h t = record { number = refl; room = h; table_left = t; windows = refl }
-
 pub among-more : (bounds : Bounds) (func first next next' : ℕ) (all : Typeds ℕ) (p : Typed ℕ) (ps : Typeds ℕ) (table : List (List ℕ)) (old out out' : List Window) →
     AmongLeft bounds func first next all (more p ps) table old out → next' ≡ next + list_count p → out' ≡ out ++ windows_in bounds func next p →
     AmongLeft bounds func first next' all ps table old out'
@@ -85,10 +74,6 @@ pub among-skip : (bounds : Bounds) (func first next : ℕ) (all ps : Typeds ℕ)
     AmongLeft bounds func first next all (skip ps) table old out → AmongLeft bounds func first next all ps table old out
 among-skip bounds func first next all ps table old out h = record { number = h.number; room = h.room; table_left = h.table_left; windows = h.windows }
 
-pub among-end : (bounds : Bounds) (func first next : ℕ) (all : Typeds ℕ) (table : List (List ℕ)) (old out : List Window) →
-    AmongLeft bounds func first next all none table old out → (next ≡ first + length (lists_among all)) × (out ≡ old ++ windows_among bounds func first all)
-among-end bounds func first next all table old out h = (omega (arith, h.number), sym (h.windows ∙ append-nil out))
-
 -- ---- a statement list
 
 -- The same, with the masses of the statements from the present part on.
@@ -99,11 +84,6 @@ pub record AlongLeft (bounds : Bounds) (func list ahead first next index : ℕ) 
   pub masses_left : drop index masses ≡ row_masses left
   pub table_left : take (length (weights_among left)) (drop next table) ≡ weights_among left
   pub windows : old ++ windows_along bounds func list ahead first 0 all ≡ out ++ windows_along bounds func list ahead next index left
-
-pub along-begin : (bounds : Bounds) (func list ahead first : ℕ) (all : Typeds ℕ) (masses : List ℕ) (table : List (List ℕ)) (old : List Window) →
-    first + sizes all < 2 ^ 32 → masses ≡ row_masses all → take (length (weights_among all)) (drop first table) ≡ weights_among all →
-    AlongLeft bounds func list ahead first first 0 all all masses table old old
-along-begin bounds func list ahead first all masses table old h e t = record { number = refl; room = h; small = omega arith; masses_left = e; table_left = t; windows = refl }
 
 -- the rows of the next part
 pub along-row : (bounds : Bounds) (func list ahead first next index : ℕ) (all : Typeds ℕ) (p : Typed ℕ) (ps : Typeds ℕ) (masses : List ℕ) (table : List (List ℕ)) (old out : List Window) →
@@ -136,11 +116,6 @@ pub along-skip : (bounds : Bounds) (func list ahead first next index : ℕ) (all
     AlongLeft bounds func list ahead first next index all (skip ps) masses table old out → AlongLeft bounds func list ahead first next index all ps masses table old out
 along-skip bounds func list ahead first next index all ps masses table old out h =
     record { number = h.number; room = h.room; small = h.small; masses_left = h.masses_left; table_left = h.table_left; windows = h.windows }
-
-pub along-end : (bounds : Bounds) (func list ahead first next index : ℕ) (all : Typeds ℕ) (masses : List ℕ) (table : List (List ℕ)) (old out : List Window) →
-    AlongLeft bounds func list ahead first next index all none masses table old out →
-    (next ≡ first + length (lists_among all)) × (out ≡ old ++ windows_along bounds func list ahead first 0 all)
-along-end bounds func list ahead first next index all masses table old out h = (omega (arith, h.number), sym (h.windows ∙ append-nil out))
 
 -- ---- the calls for a part
 

@@ -7,3 +7,4 @@ pub mod Shown
 pub mod Spans
 pub mod Sameness
 pub mod Fields
+pub mod Examples

@@ -7,6 +7,7 @@
 #![tactic(auto)]
 
 pub mod bounds;
+pub mod laws;
 pub mod mass;
 pub mod outline;
 pub mod run;

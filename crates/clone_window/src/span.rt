@@ -86,7 +86,7 @@ fn range_over(statements: &[Option<TypedNode>]) -> Option<TokenRange>
 }
 
 /// The number of the token behind the last of some parts, or this one where there are none.
-fn last_from(last: u32, parts: &[Option<TypedNode>]) -> u32
+pub fn last_from(last: u32, parts: &[Option<TypedNode>]) -> u32
     ensures { result ≡ last_from last (views parts.now) }
 {
     let mut last = last;

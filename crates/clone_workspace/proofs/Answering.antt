@@ -5,19 +5,7 @@ use Rattle.go_base.specs.declared.bytes.FileText.{FileText}
 use Rattle.clone_script.specs.declared.command.Command.{Command}
 use Rattle.clone_script.specs.declared.command.Command.TheVariants as command
 use Rattle.clone_server.specs.Session.{Settings}
-use Rattle.clone_texts.specs.Replies.{TextReply}
 use Rattle.clone_workspace.specs.Answers.{Answers, PackageReply, IsListing, IsNumbers, IsRun, bounds_of}
-
-pub of-text : (s : Settings) (texts : List FileText) (c : Command) (reply : List ℕ) (after : List FileText) → TextReply texts c reply after → Answers s texts c reply after
-of-text s texts (command.Edit name start end text) reply after h = h
-of-text s texts (command.Add name text) reply after h = h
-of-text s texts (command.Remove name) reply after h = h
-of-text s texts (command.Show name) reply after h = h
-of-text s texts command.Classes reply after h = absurd h
-of-text s texts command.Stat reply after h = absurd h
-of-text s texts (command.Run turns input) reply after h = absurd h
-of-text s texts command.Save reply after h = absurd h
-of-text s texts command.Quit reply after h = absurd h
 
 pub of-classes : (s : Settings) (texts : List FileText) (c : Command) (reply : List ℕ) (after : List FileText) → c ≡ command.Classes →
     PackageReply (IsListing (bounds_of s)) texts reply → after ≡ texts → Answers s texts c reply after

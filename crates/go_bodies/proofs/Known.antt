@@ -10,13 +10,12 @@ use Rattle.go_typed.specs.declared.node.TypedNode.{TypedNode}
 use Rattle.go_typed.specs.declared.sort.Sort as program
 use Rattle.go_typed.specs.Contents.{FuncContent, func_content}
 use Rattle.go_typed.specs.Funcs.{FuncView}
-use Rattle.go_typed.specs.Scopes.{LocalsView, local_sort}
+use Rattle.go_typed.specs.Scopes.{LocalsView, local_sort, KnownLocals}
 use Rattle.go_typed.specs.Trees.{Sort, SortHas, sort_mapped}
 use Rattle.go_typed.specs.Views.{seen, sort_view, KnownSort, Known}
 use Rattle.go_rules.specs.Settling.{Part}
 use Rattle.go_rules.specs.Sorts.{Stands}
 use Rattle.go_exprs.proofs.Stays.{sort_same, node_stays}
-use Rattle.go_stmt_rules.specs.Seen.{KnownLocals}
 use Rattle.go_bodies.specs.Bodies.{KnownFunction}
 
 pub local_known : (n k : ℕ) (ls : LocalsView) (x : Sort ℕ) → KnownLocals n ls → local_sort (slice_get ls.sorts k) ≡ Some x → SortHas (λ t. t < n) x

@@ -12,7 +12,7 @@ use Rattle.go_types.specs.Changes.{IsDeclared}
 use Rattle.go_types.proofs.Places.{get_last, get_within}
 use Rattle.go_types.proofs.Underlyings.{declared_type}
 use Rattle.type_tests.specs.Extends.{Extends}
-use Rattle.type_tests.proofs.Extending.{extends_self, tree_stays}
+use Rattle.type_tests.proofs.Extending.{tree_stays}
 use Rattle.type_tests.proofs.Interning.{declared_rights}
 use Rattle.go_exprs.proofs.Stays.{longer}
 use Rattle.go_rules.proofs.Parts.{drop_step}
@@ -31,9 +31,6 @@ next_type old new i ok now d =
       count = omega (arith, size);
       rights = declared_rights old new i ok d;
     }
-
-pub same_extends : (old new : Table) → new ≡ old → Extends old new
-same_extends old new e = subst (Extends old) (sym e) (extends_self old)
 
 -- ---- lists
 

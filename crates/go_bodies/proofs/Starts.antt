@@ -27,12 +27,6 @@ seen_none : (t : Table) (n : ℕ) → locals_seen t (replicate n None) ≡ no_lo
 seen_none t zero = refl
 seen_none t (suc n) = ap (λ xs. None ∷ xs) (seen_none t n)
 
-none_known : (n k : ℕ) → known (slice_get (no_locals n) k) ≡ Unknown
-none_known zero zero = refl
-none_known zero (suc k) = refl
-none_known (suc n) zero = refl
-none_known (suc n) (suc k) = none_known n k
-
 same_known : (z : Option (Option Stands)) → known z ≡ known_local z
 same_known None = refl
 same_known (Some None) = refl

@@ -8,7 +8,7 @@ use Rattle.go_tree.specs.Uses.{UsesView, object_of}
 use Rattle.go_types.specs.Trees.{declared}
 use Rattle.go_types.specs.Tables.{Table, type_of, rights_of}
 use Rattle.go_typed.specs.Funcs.{FuncView}
-use Rattle.go_typed.specs.Scopes.{EnvView, LocalsView}
+use Rattle.go_typed.specs.Scopes.{EnvView, LocalsView, KnownLocals}
 use Rattle.go_typed.specs.Trees.{Sort, SortHas}
 use Rattle.go_typed.specs.Views.{seen, Known}
 use Rattle.go_rules.specs.declared.fault.TypeError.{TypeError}
@@ -20,7 +20,7 @@ use Rattle.go_rules.specs.Scopes.{Scope, in_full}
 use Rattle.go_type_rules.specs.Naming.{sort_of_object, objects_seen, referent_in}
 use Rattle.go_stmts.specs.Reading.{Reading}
 use Rattle.go_package.specs.Bodies.{local_type, count_types}
-use Rattle.go_stmt_rules.specs.Seen.{locals_in, KnownLocals}
+use Rattle.go_stmt_rules.specs.Seen.{locals_in}
 use Rattle.go_body_frames.specs.declared.state.Surroundings.{Surroundings}
 use Rattle.go_body_frames.specs.State.{names_in}
 pub use Rattle.go_walk.specs.Walks.{found_in, tree_in, frame_in, frame_behind}

@@ -1,5 +1,5 @@
 //! The signature of a function (Go specification: Function declarations).
-ghost use Rattle.std.specs.Prelude.{◌≡◌, ◌∷◌, [], ◌<◌, IfOk, length, map, unwrap_or};
+ghost use Rattle.std.specs.Prelude.{◌≡◌, ◌∷◌, [], ◌<◌, IfOk, length, unwrap_or};
 ghost use Rattle.std.specs.Option.{option_map};
 ghost use Rattle.go_tree.specs.Views.{view, views};
 ghost use Rattle.go_types.specs.Tables.{type_of};
@@ -7,11 +7,10 @@ ghost use Rattle.type_tests.specs.Extends.{Grows};
 ghost use Rattle.go_typed.specs.Views.{seen, Known, AllKnown};
 ghost use Rattle.go_rules.specs.Scopes.{free};
 ghost use Rattle.go_rules.specs.Seen.{AreBasics};
-ghost use Rattle.go_rules.specs.TypeNodes.{part_type, parts_in};
+ghost use Rattle.go_rules.specs.TypeNodes.{part_type};
 ghost use Rattle.go_rules.specs.Typing.{typing};
 ghost use Rattle.go_exprs.specs.Literals.{AllRead, PartsRead};
 ghost use Rattle.go_stmts.specs.Bodies.{no_function, signature_in, signature_part, signature_of};
-ghost use Rattle.go_stmts.specs.Reading.{head, first_parts};
 ghost use Rattle.go_body_frames.specs.State.{text_of, KnownSurroundings};
 ghost use Rattle.go_bodies.specs.Bodies.{no_sorts, scope_around};
 
@@ -23,7 +22,6 @@ use go_rules::nodes::sort_of;
 use go_rules::{Basics, Hint};
 use go_tree::node::Node;
 use go_type_rules::sequence::named_type;
-use go_type_rules::signature::parts_of;
 use go_typed::{Locals, TypedNode};
 use go_types::{TypeId, Types};
 use std::alloc::Global;
@@ -96,33 +94,6 @@ pub(crate) fn signature(
     types.count();
     let locals = Locals::new(Vec::new(alloc), 0);
     first_typed(alloc, types, surroundings, &locals, function.parts())
-}
-
-/// The parts of the first of some parts.
-fn parts_in_first<'a>(types: &Types, parts: &'a [Option<TypedNode>]) -> &'a [Option<TypedNode>]
-    requires { AllKnown (length types.now.shapes) parts.now }
-    ensures parts { map (option_map (seen types.now)) result.now ≡ parts_in (head (map (option_map (seen types.now)) parts.now)) }
-    ensures known { AllKnown (length types.now.shapes) result.now }
-{
-    match parts {
-        [Some(first), ..] => parts_of(types, first),
-        _ => &[],
-    }
-}
-
-/// The entries of the parameters of a signature.
-pub(crate) fn parameters<'a>(
-    types: &Types,
-    signature: &'a Option<TypedNode>,
-) -> &'a [Option<TypedNode>]
-    requires { AllKnown (length types.now.shapes) (signature.now ∷ []) }
-    ensures parts { map (option_map (seen types.now)) result.now ≡ first_parts (option_map (seen types.now) signature.now) }
-    ensures known { AllKnown (length types.now.shapes) result.now }
-{
-    match signature {
-        Some(node) => parts_in_first(types, parts_of(types, node)),
-        None => &[],
-    }
 }
 
 /// The type of a function; that of one without parameters and results where its signature has none.

@@ -7,13 +7,12 @@ use Rattle.go_tree.specs.declared.object.Object.{Object}
 use Rattle.go_tree.specs.Units.{word}
 use Rattle.go_tree.specs.Uses.{UsesView, object_of}
 use Rattle.go_types.specs.Tables.{Table, rights_of}
-use Rattle.go_typed.specs.Scopes.{EnvView, LocalsView}
+use Rattle.go_typed.specs.Scopes.{EnvView, LocalsView, KnownLocals}
 use Rattle.go_rules.specs.Scopes.{Scope, Needed, in_full, at_once, loosely}
 use Rattle.go_rules.specs.Sorts.{Stands}
 use Rattle.go_type_rules.specs.declared.scope.Scope as program
 use Rattle.go_type_rules.specs.declared.standing.Needed.TheVariants as need
 use Rattle.go_type_rules.specs.Naming.{names, text_in, object_in, stands_for, told_seen, sort_of_object, objects_seen, locals_seen, referent_in, need_seen, KnownScope}
-use Rattle.go_stmt_rules.specs.Seen.{KnownLocals}
 use Rattle.go_body_frames.specs.declared.state.Surroundings.{Surroundings}
 use Rattle.go_body_frames.specs.State.{text_of, object_at, stands_in, names_in, KnownSurroundings}
 

@@ -1,6 +1,5 @@
 -- Parameters and the types of entries, as loops go over them.
 use Rattle.std.proofs.Common.{◌≡◌, ℕ, zero, suc, ◌+◌, ◌<◌, ◌≤◌, List, [], ◌∷◌, length, drop, get_or, min, Option, refl, ap, sym, ◌∙◌, subst, length-drop, arith}
-use Rattle.std.specs.Prelude.{reverse}
 use Rattle.std.specs.List.{AllByRecursion}
 use Rattle.std.specs.Option.{option_map}
 use Rattle.std.proofs.lemmas.List.{length-map}
@@ -44,9 +43,6 @@ pub entry_at : (n : ℕ) (is : List (Option ℕ)) (j : ℕ) (i : Option ℕ) →
 entry_at n [] j i lt e h = absurd (omega (arith, lt))
 entry_at n (k ∷ is) zero i lt e h = subst (KnownEntry n) (sym e) h.0
 entry_at n (k ∷ is) (suc j) i lt e h = entry_at n is j i (omega (arith, lt)) e h.1
-
-pub one_more_entry : (t : Table) (is now : List (Option ℕ)) (i : Option ℕ) (ts es : List (Option TypeTree)) (o : Option TypeTree) → es ≡ o ∷ ts → option_map (type_of t.shapes) i ≡ o → entries_seen t (reverse is) ≡ ts → reverse now ≡ i ∷ reverse is → entries_seen t (reverse now) ≡ es
-one_more_entry t is now i ts es o e x all grown = ap (entries_seen t) grown ∙ ap (λ y. y ∷ entries_seen t (reverse is)) x ∙ ap (λ ys. o ∷ ys) all ∙ sym e
 
 pub alone : {A : Type 0} (xs : List A) (x : A) → 1 ≤ length xs → length xs < 2 → x ≡ get_or xs 0 x → xs ≡ x ∷ []
 alone [] x le lt e = absurd (omega (arith, le))

@@ -10,7 +10,7 @@ use Rattle.go_tree.specs.Views.{view}
 use Rattle.go_types.specs.Trees.{declared}
 use Rattle.go_types.specs.Tables.{Table, type_of, rights_of}
 use Rattle.go_typed.specs.declared.sort.Sort as program
-use Rattle.go_typed.specs.Scopes.{LocalsView}
+use Rattle.go_typed.specs.Scopes.{LocalsView, KnownLocals}
 use Rattle.go_typed.specs.Trees.{Sort, SortHas}
 use Rattle.go_typed.specs.Views.{sort_seen, KnownSort}
 use Rattle.go_rules.specs.Scopes.{Scope, Needed, in_full}
@@ -19,7 +19,7 @@ use Rattle.go_rules.specs.Sorts.{Stands}
 use Rattle.go_type_rules.specs.Naming.{sort_of_object, objects_seen, locals_seen, referent_in}
 use Rattle.go_exprs.specs.Literals.{AllRead}
 use Rattle.go_stmts.specs.Frames.{Frame, scope_of}
-use Rattle.go_stmt_rules.specs.Seen.{locals_in, types_seen, KnownLocals}
+use Rattle.go_stmt_rules.specs.Seen.{locals_in, types_seen}
 use Rattle.go_body_frames.specs.declared.state.Surroundings.{Surroundings}
 use Rattle.go_body_frames.specs.declared.state.State.{State}
 

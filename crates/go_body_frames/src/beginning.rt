@@ -1,10 +1,10 @@
 //! What is known where a node begins.
 ghost use Rattle.std.specs.Prelude.{◌≡◌, List, ℕ, IfOk, OnOk, Some, length, slice_get};
 ghost use Rattle.go_typed.specs.declared.sort.Sort as program;
+ghost use Rattle.go_typed.specs.Scopes.{KnownLocals};
 ghost use Rattle.go_stmts.specs.Frames.{Frame};
 ghost use Rattle.go_stmts.specs.Laying.{local_named};
 ghost use Rattle.go_stmts.specs.Reading.{with_type, beginning};
-ghost use Rattle.go_stmt_rules.specs.Seen.{KnownLocals};
 ghost use Rattle.go_body_frames.specs.Signatures.{number_in};
 ghost use Rattle.go_body_frames.specs.State.{object_at, Shows, KnownSurroundings, KnownState};
 

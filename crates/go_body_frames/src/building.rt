@@ -6,12 +6,12 @@ ghost use Rattle.go_tree.specs.Views.{view};
 ghost use Rattle.type_tests.specs.Extends.{Grows};
 ghost use Rattle.go_typed.specs.Views.{seen, Known, AllKnown};
 ghost use Rattle.go_typed.specs.declared.sort.Sort as program;
+ghost use Rattle.go_typed.specs.Scopes.{KnownLocals};
 ghost use Rattle.go_rules.specs.Faults.{least, judged, reported, refusal_of};
 ghost use Rattle.go_exprs.specs.Literals.{AllRead};
 ghost use Rattle.go_stmts.specs.Frames.{Frame};
 ghost use Rattle.go_stmts.specs.Reading.{repeated, repeated_faults, left_out, left_out_faults};
 ghost use Rattle.go_body_frames.specs.Signatures.{is_type_specification, failing_over, built_over};
-ghost use Rattle.go_stmt_rules.specs.Seen.{KnownLocals};
 ghost use Rattle.go_body_frames.specs.State.{text_of, Shows, KnownSurroundings, KnownState};
 
 use crate::state::{Enclosing, State, Surroundings, scope_of};

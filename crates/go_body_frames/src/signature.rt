@@ -1,24 +1,23 @@
 //! What the signature of a function says of its body (Go specification: Function declarations).
-ghost use Rattle.std.specs.Prelude.{◌≡◌, ◌<◌, ◌∷◌, [], IfOk, IfSome, length, map};
+ghost use Rattle.std.specs.Prelude.{◌≡◌, ◌<◌, ◌∷◌, [], IfOk, length, map};
 ghost use Rattle.std.specs.List.{AllByRecursion};
 ghost use Rattle.std.specs.Option.{option_map};
 ghost use Rattle.go_types.specs.Tables.{type_of, rights_of};
-ghost use Rattle.go_typed.specs.Views.{seen, sort_seen, Known, AllKnown, KnownSort};
-ghost use Rattle.go_rules.specs.TypeNodes.{second, part_type, entry_type, entry_of, entry_types, parts_in};
+ghost use Rattle.go_typed.specs.Views.{seen, AllKnown};
+ghost use Rattle.go_typed.specs.Scopes.{KnownLocals};
+ghost use Rattle.go_rules.specs.TypeNodes.{part_type, entry_types, parts_in};
 ghost use Rattle.go_stmts.specs.Frames.{Frame};
 ghost use Rattle.go_stmts.specs.Reading.{head, first_parts, signature_results, with_parameter, with_parameters};
-ghost use Rattle.go_stmt_rules.specs.Seen.{locals_in, types_seen, KnownLocals};
+ghost use Rattle.go_stmt_rules.specs.Seen.{locals_in, types_seen};
 ghost use Rattle.go_body_frames.specs.Signatures.{entries_seen, KnownEntry};
 
 use go_base::Memory;
 use go_frames::declare::declare_local;
-use go_grammar::kind::Kind;
 use go_rules::nodes::sort_of;
 use go_stmt_rules::assign::results_of;
-use go_stmt_tests::nodes::form_of;
 use go_type_rules::sequence::named_type;
-use go_type_rules::signature::parts_of;
-use go_typed::{Form, Locals, Sort, TypedNode};
+use go_type_rules::signature::{entry, parts_of};
+use go_typed::{Locals, Sort, TypedNode};
 use go_types::{TypeId, Types};
 use std::alloc::Global;
 
@@ -35,10 +34,7 @@ fn parts_in_first<'a>(types: &Types, parts: &'a [Option<TypedNode>]) -> &'a [Opt
 }
 
 /// The entries of the parameters of a signature.
-pub(crate) fn parameters<'a>(
-    types: &Types,
-    signature: &'a Option<TypedNode>,
-) -> &'a [Option<TypedNode>]
+pub fn parameters<'a>(types: &Types, signature: &'a Option<TypedNode>) -> &'a [Option<TypedNode>]
     requires { AllKnown (length types.now.shapes) (signature.now ∷ []) }
     ensures parts { map (option_map (seen types.now)) result.now ≡ first_parts (option_map (seen types.now) signature.now) }
     ensures known { AllKnown (length types.now.shapes) result.now }
@@ -46,44 +42,6 @@ pub(crate) fn parameters<'a>(
     match signature {
         Some(node) => parts_in_first(types, parts_of(types, node)),
         None => &[],
-    }
-}
-
-/// The type of the second part, which a parameter has.
-fn second_type(types: &Types, parts: &[Option<TypedNode>]) -> Option<TypeId>
-    requires { AllKnown (length types.now.shapes) parts.now }
-    ensures known { IfSome result (λ t. t < length types.now.shapes) }
-    ensures tree { option_map (type_of types.now.shapes) result ≡ part_type (second (map (option_map (seen types.now)) parts.now)) }
-{
-    match parts {
-        [_, Some(part), ..] => named_type(types, sort_of(types, part)),
-        _ => None,
-    }
-}
-
-/// The type of an entry: its own, or that of the next entry where it is a name alone.
-fn entry_type(types: &Types, sort: &Sort, next: Option<TypeId>) -> Option<TypeId>
-    requires sort { KnownSort (length types.now.shapes) sort.now }
-    requires next { IfSome next (λ t. t < length types.now.shapes) }
-    ensures known { IfSome result (λ t. t < length types.now.shapes) }
-    ensures tree { option_map (type_of types.now.shapes) result ≡ entry_type (sort_seen types.now sort.now) (option_map (type_of types.now.shapes) next) }
-{
-    match sort {
-        Sort::Nothing => next,
-        Sort::Type(of) => Some(*of),
-        _ => None,
-    }
-}
-
-fn entry(types: &Types, node: &TypedNode, next: Option<TypeId>) -> Option<TypeId>
-    requires node { Known (length types.now.shapes) node.now }
-    requires next { IfSome next (λ t. t < length types.now.shapes) }
-    ensures known { IfSome result (λ t. t < length types.now.shapes) }
-    ensures tree { option_map (type_of types.now.shapes) result ≡ entry_of (seen types.now node.now) (option_map (type_of types.now.shapes) next) }
-{
-    match form_of(types, node) {
-        Form::Held(Kind::Parameter) => second_type(types, parts_of(types, node)),
-        _ => entry_type(types, sort_of(types, node), next),
     }
 }
 

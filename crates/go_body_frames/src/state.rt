@@ -2,7 +2,7 @@
 ghost use Rattle.std.specs.Prelude.{◌≡◌, ℕ, length};
 ghost use Rattle.go_types.specs.Tables.{Table};
 ghost use Rattle.go_type_rules.specs.Naming.{names, text_in, KnownScope};
-ghost use Rattle.go_stmt_rules.specs.Seen.{KnownLocals};
+ghost use Rattle.go_typed.specs.Scopes.{KnownLocals};
 ghost use Rattle.go_body_frames.specs.State.{text_of, names_in, KnownSurroundings};
 
 use go_rules::Basics;

@@ -1,5 +1,5 @@
 -- Rows by the number of their elements.
-use Rattle.std.proofs.Common.{◌≡◌, ℕ, ◌<◌, ◌≤◌, List, [], ◌∷◌, length, map, drop, get_or, Option, Some, None, refl, ap, sym, ◌∙◌, arith}
+use Rattle.std.proofs.Common.{◌≡◌, ℕ, ◌<◌, ◌≤◌, List, [], ◌∷◌, length, map, drop, get_or, refl, ap, sym, arith}
 use Rattle.std.proofs.lemmas.Bool.Decides.{nat_tests}
 use Rattle.std.specs.Prelude.{◌&&◌, nat_le, if◌then◌else◌}
 use Rattle.std.specs.Borrow.{Bor}
@@ -7,24 +7,12 @@ use Rattle.go_types.specs.Trees.{TypeTree, TypeRow, row}
 use Rattle.go_types.specs.Relations.{Rights}
 use Rattle.go_types.specs.Tables.{Table}
 use Rattle.go_typed.specs.declared.node.TypedNode.{TypedNode}
-use Rattle.go_typed.specs.Views.{seen}
 use Rattle.go_typed.specs.Trees as sort
 use Rattle.go_rules.specs.Settling.{Part}
 use Rattle.go_rules.specs.Calls.{called}
 use Rattle.go_rules.specs.Literals.{has_keys, keyed_failing, ordered_failing, fields_failing}
 use Rattle.go_call_rules.specs.Arguments.{IsNotOne, IsNotTwo}
 use Rattle.go_call_rules.specs.Shown.{shown}
-
-pub list_one : {A : Type 0} (xs : List A) (x : A) → length xs ≡ 1 → x ≡ get_or xs 0 x → xs ≡ x ∷ []
-list_one [] x l e = absurd (omega (arith, l))
-list_one (y ∷ []) x l e = ap (λ z. z ∷ []) (sym e)
-list_one (y ∷ z ∷ zs) x l e = absurd (omega (arith, l))
-
-pub list_two : {A : Type 0} (xs : List A) (x y : A) → length xs ≡ 2 → x ≡ get_or xs 0 x → y ≡ get_or xs 1 y → xs ≡ x ∷ y ∷ []
-list_two [] x y l e f = absurd (omega (arith, l))
-list_two (v ∷ []) x y l e f = absurd (omega (arith, l))
-list_two (v ∷ w ∷ []) x y l e f = ap (λ z. z ∷ w ∷ []) (sym e) ∙ ap (λ z. x ∷ z ∷ []) (sym f)
-list_two (v ∷ w ∷ z ∷ zs) x y l e f = absurd (omega (arith, l))
 
 pub list_more : {A : Type 0} (xs : List A) (x : A) → 1 ≤ length xs → x ≡ get_or xs 0 x → xs ≡ x ∷ drop 1 xs
 list_more [] x l e = absurd (omega (arith, l))

@@ -57,9 +57,6 @@ present_step t ps i p d ns ms n due lt is same pushed before =
     let rest = present (map (option_map (seen t)) (drop (i + 1) ps)) in
     ap (λ os. shown t os ++ rest) pushed ∙ ap (λ xs. xs ++ rest) (shown-append t ns (n ∷ [])) ∙ append_assoc (shown t ns) (seen t n.now ∷ []) rest ∙ ap (λ o. shown t ns ++ seen t o ∷ rest) same ∙ sym (ap (λ qs. shown t ns ++ present (map (option_map (seen t)) qs)) (drop_step ps i (Some p) d lt is)) ∙ before
 
-pub present_skip : (t : Table) (ps : List (Option TypedNode)) (i : ℕ) (d : Option TypedNode) → i < length ps → None ≡ get_or ps i d → present (map (option_map (seen t)) (drop (i + 1) ps)) ≡ present (map (option_map (seen t)) (drop i ps))
-present_skip t ps i d lt is = sym (ap (λ qs. present (map (option_map (seen t)) qs)) (drop_step ps i None d lt is))
-
 -- what is asked of the rows of types and nodes by their numbers
 
 pub nth_within : (t : Table) (ns : List (Bor TypedNode)) (i : ℕ) (d : Bor TypedNode) → i < length ns → nth_part (shown t ns) i ≡ Some (seen t (get_or ns i d).now)
@@ -86,10 +83,6 @@ pub known_within : {A B : Type 0} (P : B → Type 0) (g : A → B) (xs : List A)
 known_within P g [] i d lt h = absurd (omega (arith, lt))
 known_within P g (x ∷ xs) zero d lt h = h.0
 known_within P g (x ∷ xs) (suc i) d lt h = known_within P g xs i d (omega (arith, lt)) h.1
-
--- of what is known of all, what is known of the rest
-pub known_rest : {A B : Type 0} (P : B → Type 0) (g : A → B) (xs : List A) (i : ℕ) (d : A) → i < length xs → AllByRecursion P (map g (drop i xs)) → AllByRecursion P (map g (drop (i + 1) xs))
-known_rest P g xs i d lt h = (subst (AllByRecursion P) (mapped_step g xs i d lt) h).1
 
 pub known_push : (k : ℕ) (ns ms : List (Bor TypedNode)) (n : Bor TypedNode) → ms ≡ ns ++ n ∷ [] → AllShownKnown k ns → Known k n.now → AllShownKnown k ms
 known_push k ns ms n e g h = subst (AllShownKnown k) (sym e) (shown_known-append k ns (n ∷ []) g (h, tt))

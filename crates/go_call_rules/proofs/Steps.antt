@@ -1,11 +1,8 @@
 -- Loops over nodes, one step on and at the end.
-use Rattle.std.proofs.Common.{◌≡◌, ℕ, ◌+◌, ◌<◌, ◌≤◌, List, [], ◌∷◌, ◌++◌, length, drop, get_or, Option, Some, None, Bool, true, false, refl, ap, sym, ◌∙◌, subst}
-use Rattle.std.proofs.lemmas.List.{drop_all, append_assoc, append-nil}
-use Rattle.std.specs.Prelude.{◌&&◌, ◌||◌}
+use Rattle.std.proofs.Common.{◌≡◌, ℕ, ◌+◌, ◌<◌, List, [], ◌∷◌, ◌++◌, length, drop, get_or, Option, ap, sym, ◌∙◌, subst}
+use Rattle.std.proofs.lemmas.List.{append_assoc}
 use Rattle.std.specs.Borrow.{Bor}
-use Rattle.std.specs.List.{list_any, list_all}
-use Rattle.go_types.specs.Trees.{TypeTree, TypeRow, row}
-use Rattle.go_types.specs.Trees as types
+use Rattle.go_types.specs.Trees.{TypeTree, row}
 use Rattle.go_types.specs.Relations.{Rights}
 use Rattle.go_types.specs.Tables.{Table}
 use Rattle.go_typed.specs.declared.node.TypedNode.{TypedNode}
@@ -15,7 +12,7 @@ use Rattle.go_rules.specs.Faults.{least, earlier}
 use Rattle.go_rules.specs.Settling.{Part, unassignable}
 use Rattle.go_rules.specs.Calls.{all_unassignable}
 use Rattle.go_rules.proofs.Firsts.{least_append, earlier_assoc}
-use Rattle.go_rules.proofs.Parts.{drop_step, earlier_none}
+use Rattle.go_rules.proofs.Parts.{drop_step}
 use Rattle.go_call_rules.specs.Shown.{shown, AllShownKnown}
 
 -- ---- what is left of the nodes
@@ -26,9 +23,6 @@ module _ (t : Table) (ns : List (Bor TypedNode)) (i : ℕ) (n : Bor TypedNode) (
 
   pub known_step : (k : ℕ) → AllShownKnown k (drop i ns) → Known k n.now × AllShownKnown k (drop (i + 1) ns)
   known_step k h = let g = subst (AllShownKnown k) (drop_step ns i n n lt is) h in (g.0, g.1)
-
-pub shown_end : (t : Table) (ns : List (Bor TypedNode)) (i : ℕ) → length ns ≤ i → shown t (drop i ns) ≡ []
-shown_end t ns i le = ap (shown t) (drop_all i ns le)
 
 -- ---- the least of their faults
 
@@ -41,26 +35,6 @@ module _ (f : Part → List TypeFault) (g : List Part → List TypeFault) (more 
       let split : least (g (shown t (drop i ns))) ≡ earlier found (least rest) = ap (λ xs. least (g xs)) (shown_step t ns i n lt is) ∙ ap least (more (seen t n.now) (shown t (drop (i + 1) ns))) ∙ least_append (f (seen t n.now)) rest ∙ ap (λ o. earlier o (least rest)) (sym own) in
       ap (λ o. earlier o (least rest)) then ∙ earlier_assoc first found (least rest) ∙ ap (earlier first) (sym split) ∙ before
 
-pub fault_end : (g : List Part → List TypeFault) (t : Table) (ns : List (Bor TypedNode)) (i : ℕ) (first due : Option TypeFault) → g [] ≡ [] → length ns ≤ i
-    → earlier first (least (g (shown t (drop i ns)))) ≡ due → first ≡ due
-fault_end g t ns i first due none le before =
-    sym (ap (λ xs. earlier first (least (g xs))) (shown_end t ns i le) ∙ ap (λ fs. earlier first (least fs)) none ∙ earlier_none first) ∙ before
-
--- ---- tests of all
-
-module _ (p : Part → Bool) (t : Table) (ns : List (Bor TypedNode)) (i : ℕ) (n : Bor TypedNode) (lt : i < length ns) (is : n ≡ get_or ns i n) where
-  pub any_step : p (seen t n.now) ≡ false → list_any p (shown t (drop (i + 1) ns)) ≡ list_any p (shown t (drop i ns))
-  any_step h = sym (ap (list_any p) (shown_step t ns i n lt is) ∙ ap (λ b. b || list_any p (shown t (drop (i + 1) ns))) h)
-
-  pub any_found : p (seen t n.now) ≡ true → list_any p (shown t (drop i ns)) ≡ true
-  any_found h = ap (list_any p) (shown_step t ns i n lt is) ∙ ap (λ b. b || list_any p (shown t (drop (i + 1) ns))) h
-
-  pub all_step : p (seen t n.now) ≡ true → list_all p (shown t (drop (i + 1) ns)) ≡ list_all p (shown t (drop i ns))
-  all_step h = sym (ap (list_all p) (shown_step t ns i n lt is) ∙ ap (λ b. b && list_all p (shown t (drop (i + 1) ns))) h)
-
-  pub all_failed : p (seen t n.now) ≡ false → list_all p (shown t (drop i ns)) ≡ false
-  all_failed h = ap (list_all p) (shown_step t ns i n lt is) ∙ ap (λ b. b && list_all p (shown t (drop (i + 1) ns))) h
-
 -- ---- what is put behind a row
 
 -- where a row is made of its first and of the others
@@ -69,15 +43,7 @@ pub row_step : {A B : Type 0} (r : List A → List B) (left others : List A) (x 
 row_step r left others x y old now due more split before pushed =
     ap (λ zs. zs ++ r others) pushed ∙ append_assoc old (y ∷ []) (r others) ∙ ap (λ zs. old ++ zs) (sym more) ∙ ap (λ zs. old ++ r zs) (sym split) ∙ before
 
-pub row_end : {A B : Type 0} (r : List A → List B) (left : List A) (now due : List B) → r [] ≡ [] → left ≡ [] → now ++ r left ≡ due → now ≡ due
-row_end r left now due none ended before =
-    sym (ap (λ zs. now ++ r zs) ended ∙ ap (λ zs. now ++ zs) none ∙ append-nil now) ∙ before
-
 -- ---- rows of types beside rows of nodes
-
-pub all_unassignable_none : (rights : Rights) (r : TypeRow) → all_unassignable rights r [] ≡ []
-all_unassignable_none rights types.none = refl
-all_unassignable_none rights (types.more u r) = refl
 
 module _ (rights : Rights) (t : Table) (ns : List (Bor TypedNode)) (i : ℕ) (n : Bor TypedNode) (lt : i < length ns) (is : n ≡ get_or ns i n) where
   pub zip_step : (ts us : List TypeTree) (u : TypeTree) (first found now due : Option TypeFault) → ts ≡ u ∷ us
@@ -86,8 +52,3 @@ module _ (rights : Rights) (t : Table) (ns : List (Bor TypedNode)) (i : ℕ) (n 
       let rest = all_unassignable rights (row us) (shown t (drop (i + 1) ns)) in
       let split : least (all_unassignable rights (row ts) (shown t (drop i ns))) ≡ earlier found (least rest) = ap (λ vs. least (all_unassignable rights (row vs) (shown t (drop i ns)))) front ∙ ap (λ xs. least (all_unassignable rights (row (u ∷ us)) xs)) (shown_step t ns i n lt is) ∙ least_append (unassignable rights u (seen t n.now)) rest ∙ ap (λ o. earlier o (least rest)) (sym own) in
       ap (λ o. earlier o (least rest)) then ∙ earlier_assoc first found (least rest) ∙ ap (earlier first) (sym split) ∙ before
-
-pub zip_end : (rights : Rights) (t : Table) (ns : List (Bor TypedNode)) (i : ℕ) (r : TypeRow) (first due : Option TypeFault) → length ns ≤ i
-    → earlier first (least (all_unassignable rights r (shown t (drop i ns)))) ≡ due → first ≡ due
-zip_end rights t ns i r first due le before =
-    sym (ap (λ xs. earlier first (least (all_unassignable rights r xs))) (shown_end t ns i le) ∙ ap (λ fs. earlier first (least fs)) (all_unassignable_none rights r) ∙ earlier_none first) ∙ before

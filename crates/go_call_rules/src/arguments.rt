@@ -12,7 +12,11 @@ use go_types::Types;
 use std::alloc::Global;
 
 /// The parts that are there, in order.
-pub(crate) fn present<'a>(
+///
+/// # Errors
+///
+/// Want of memory.
+pub fn present<'a>(
     alloc: Global,
     types: &Types,
     parts: &'a [Option<TypedNode>],

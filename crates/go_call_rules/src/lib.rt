@@ -6,7 +6,7 @@
 //! that is linear in the number of parts.
 #![tactic(auto)]
 
-mod arguments;
+pub mod arguments;
 mod builtins;
 pub mod calls;
 mod conversions;

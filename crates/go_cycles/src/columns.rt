@@ -34,7 +34,7 @@ fn columns_of(alloc: Global, declared: &[Found<'_>]) -> Result<Columns, AllocErr
 }
 
 /// Whether two declarations have one specification, or neither has one.
-fn same_source(a: Option<u32>, b: Option<u32>) -> bool
+pub fn same_source(a: Option<u32>, b: Option<u32>) -> bool
     ensures { result ≡ same_source a b }
 {
     match (a, b) {

@@ -5,11 +5,11 @@
 #![tactic(auto)]
 
 mod circle;
-mod columns;
+pub mod columns;
 mod graph;
 pub mod needs;
 pub mod order;
-mod ranks;
+pub mod ranks;
 pub mod rounds;
 mod search;
 mod walk;

@@ -7,7 +7,7 @@ use Rattle.go_grammar.specs.Trees.{Tree, node, Trees, none, more, skip, kind_of,
 use Rattle.go_tree.specs.declared.node.Node.{Node}
 use Rattle.go_tree.specs.Views.{views}
 use Rattle.go_stmts.specs.Reading.{part_source}
-use Rattle.go_package.specs.Declarations.{declared, grouped, in_file, declarations}
+use Rattle.go_package.specs.Declarations.{declared, grouped}
 use Rattle.go_declarations.specs.Views.{only_part, group_in}
 
 -- ---- a row of two parts, or of one
@@ -76,7 +76,3 @@ declared_group n s (more (node (kind.Group g) i j qs) (skip ps)) = refl
 declared_group n s (more (node k i j qs) none) = refl
 declared_group n s (more (node k i j qs) (more q ps)) = refl
 declared_group n s (more (node k i j qs) (skip ps)) = refl
-
--- the declarations of a file
-pub in_file_are : (n : ℕ) (t : Tree) → in_file n t ≡ declarations n (parts t)
-in_file_are n (node k i j ps) = refl

@@ -20,9 +20,6 @@ module _ (m : ℕ → ℕ) where
   pub at_part_kept : (c : FaultCode) (x : Part) → at_part c (placed m x) ≡ fails m (at_part c x)
   at_part_kept c (typed f i j l ps) = refl
 
-  pub at_part_if : (b : Bool) (c : FaultCode) (x : Part) → (if b then at_part c (placed m x) else []) ≡ fails m (if b then at_part c x else [])
-  at_part_if b c x = either_of m b (at_part c (placed m x)) [] (at_part c x) [] (at_part_kept c x) refl
-
   pub at_part_unless : (b : Bool) (c : FaultCode) (x : Part) → (if b then [] else at_part c (placed m x)) ≡ fails m (if b then [] else at_part c x)
   at_part_unless b c x = either_of m b [] (at_part c (placed m x)) [] (at_part c x) refl (at_part_kept c x)
 

@@ -9,7 +9,7 @@ use Rattle.go_grammar.specs.declared.kind.Sign.TheVariants as sign
 use Rattle.go_grammar.specs.declared.kind.Step.{Step}
 use Rattle.go_grammar.specs.declared.kind.Step.TheVariants as step
 use Rattle.go_types.specs.Trees.{TypeTree, boolean, text, integer, array, slice, structure, function, declared, TypeRow, none}
-use Rattle.go_meaning.specs.Planning.{operation, step_operation, binary_plan, unary_operation, conversion, index_plan, element_of, items_of}
+use Rattle.go_meaning.specs.Planning.{operation, step_operation, binary_plan, unary_operation, conversion, index_plan, items_of}
 use Rattle.go_eval.specs.declared.groups.Group.{Group}
 use Rattle.go_eval.specs.declared.groups.Group.TheVariants as group
 use Rattle.go_eval.specs.Views.{is_other, IsGroup, member}
@@ -80,9 +80,6 @@ operand_blind (declared m) = other_cases (conversion (declared m)) (λ ns ts. re
 
 pub index_blind : IsBlind index_plan
 index_blind = other_cases index_plan (λ ns ts. refl) (λ ps rs. refl) (λ n. refl)
-
-pub element_blind : IsBlind element_of
-element_blind = other_cases element_of (λ ns ts. refl) (λ ps rs. refl) (λ n. refl)
 
 pub items_blind : (single calls : Bool) → IsBlind (items_of single calls)
 items_blind true false = other_cases (items_of true false) (λ ns ts. refl) (λ ps rs. refl) (λ n. refl)

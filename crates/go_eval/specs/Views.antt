@@ -6,11 +6,12 @@ use Rattle.go_types.specs.Relations.{Rights}
 use Rattle.go_typed.specs.declared.form.Form.{Form}
 use Rattle.go_typed.specs.declared.form.Form.TheVariants as form
 use Rattle.go_typed.specs.Trees.{Sort, Constant, OpenConstant, Typed, Typeds, form_of}
+use Rattle.go_typed.specs.Forms.{is_default}
 use Rattle.go_meaning.specs.Values.{Value, NilFunction, const_value, zero_value}
 use Rattle.go_meaning.specs.Values as values
 use Rattle.go_meaning.specs.Operations as does
 use Rattle.go_meaning.specs.Plans as plans
-use Rattle.go_meaning.specs.Planning.{zero_in, places_of, is_default}
+use Rattle.go_meaning.specs.Planning.{zero_in, places_of}
 use Rattle.go_eval.specs.declared.groups.Group.{Group}
 use Rattle.go_eval.specs.declared.groups.Group.TheVariants as group
 use Rattle.go_eval.specs.declared.plan.Items.{Items}

@@ -12,7 +12,8 @@ ghost use Rattle.go_eval.specs.Views.{type_in, member, items_view, operation_vie
 use crate::groups::Group;
 use crate::plan::{Items, Operation, Plan};
 use go_grammar::kind::{Arithmetic, Operator, Sign, Step};
-use go_ints::{Kind, Op};
+use go_ints::Kind;
+use go_typed::operators::op_of;
 use go_types::TypeId;
 
 fn kind_of(group: Group) -> Kind
@@ -21,24 +22,6 @@ fn kind_of(group: Group) -> Kind
     match group {
         Group::Integer(kind) => kind,
         _ => Kind::Int,
-    }
-}
-
-fn op_of(operator: Arithmetic) -> Op
-    ensures { result ≡ planning.op_of operator }
-{
-    match operator {
-        Arithmetic::Add => Op::Add,
-        Arithmetic::Subtract => Op::Sub,
-        Arithmetic::Or => Op::Or,
-        Arithmetic::Xor => Op::Xor,
-        Arithmetic::Multiply => Op::Mul,
-        Arithmetic::Divide => Op::Div,
-        Arithmetic::Remainder => Op::Rem,
-        Arithmetic::ShiftLeft => Op::Shl,
-        Arithmetic::ShiftRight => Op::Shr,
-        Arithmetic::And => Op::And,
-        Arithmetic::AndNot => Op::AndNot,
     }
 }
 

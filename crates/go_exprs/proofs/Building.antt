@@ -3,7 +3,6 @@ use Rattle.std.proofs.Common.{◌≡◌, ℕ, List, [], ◌∷◌, Bool, true, f
 use Rattle.std.specs.Prelude.{◌&&◌, ◌||◌, not}
 use Rattle.go_grammar.specs.declared.kind.Kind.{Kind}
 use Rattle.go_grammar.specs.declared.kind.Kind.TheVariants as kind
-use Rattle.go_typed.specs.Trees as sort
 use Rattle.go_rules.specs.declared.fault.TypeFault.{TypeFault}
 use Rattle.go_base.specs.Gives.{Gives}
 use Rattle.go_rules.specs.declared.fault.TypeError.{TypeError}
@@ -22,13 +21,6 @@ module _ (s : Scope) (k : Kind) (h : Hint) (i j : ℕ) (ys : Parts) where
 
   abbrev pub at_end : Stands → Part
   at_end x = made (form_by s k h i j ys) i j x ys (all_given (takes s k h ys) ys)
-
-  -- a node that isn't judged
-  pub lost_is : is_placed k ≡ true → is_judged ys ≡ false → answer_on ≡ Ok (made (form_by s k h i j ys) i j sort.Unknown ys ys)
-  lost_is p n =
-      let clear : own_faults s k h i j ys ≡ [] = ap (λ b. cond b (or_else (failing s k h i j ys) (placing s k h i j (sort_by s k h i j ys))) []) n in
-      let unsound : is_sound k ys [] ≡ false = ap (λ b. not b || (is_judged ys && true)) p ∙ ap (λ b. b && true) n in
-      ap (λ fs. judged (least fs) (built_by s k h i j ys (is_sound k ys fs))) clear ∙ ap (λ b. let r : Result Part TypeFault = Ok (built_by s k h i j ys b) in r) unsound
 
   -- nodes that only hold parts have no rules
   pub no_rules : (k : Kind) → is_placed k ≡ false → failing s k h i j ys ≡ []

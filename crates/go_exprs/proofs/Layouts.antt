@@ -1,10 +1,9 @@
 -- How parts are laid out, as the program goes about it.
-use Rattle.std.proofs.Common.{◌≡◌, ◌<◌, Bool, false, cond, List, [], ◌∷◌, ◌++◌, Option, Some, None, length, map, set, get_or, refl, ap, arith}
+use Rattle.std.proofs.Common.{◌≡◌, Bool, false, cond, List, [], ◌∷◌, ◌++◌, Option, Some, None, refl}
 use Rattle.go_grammar.specs.Trees.{kind_of}
 use Rattle.go_grammar.specs.Grammar.{ends_from, ends_named, is_parameter}
 use Rattle.go_tree.specs.declared.node.Node.{Node}
 use Rattle.go_tree.specs.Views.{view, views, parameter_at}
-use Rattle.go_rules.specs.Settling.{Part}
 use Rattle.go_rules.specs.Tables.{Parts, cut, first_cut, is_make_call, call_parts, selector_parts, is_make}
 use Rattle.go_typed.specs.Trees.{sort_of}
 use Rattle.go_exprs.specs.Layouts.{second_cut, is_package_alone}
@@ -23,16 +22,6 @@ selector_is [] = refl
 selector_is (None ∷ xs) = refl
 selector_is (Some x ∷ []) = refl
 selector_is (Some x ∷ y ∷ ys) = refl
-
-module _ {A : Type 0} (f : A → Option Part) where
-  pub first_set : (xs : List A) (y d : A) → 0 < length xs → f y ≡ cut (f (get_or xs 0 d)) → map f (set xs 0 y) ≡ first_cut (map f xs)
-  first_set [] y d lt e = absurd (omega (arith, lt))
-  first_set (x ∷ xs) y d lt e = ap (λ z. z ∷ map f xs) e
-
-  pub second_set : (xs : List A) (y d : A) → 1 < length xs → f y ≡ cut (f (get_or xs 1 d)) → map f (set xs 1 y) ≡ second_cut (map f xs)
-  second_set [] y d lt e = absurd (omega (arith, lt))
-  second_set (x ∷ []) y d lt e = absurd (omega (arith, lt))
-  second_set (x ∷ z ∷ xs) y d lt e = ap (λ w. f x ∷ w ∷ map f xs) e
 
 -- ---- the last of written parts
 

@@ -184,6 +184,3 @@ module _ (n : TypedNode) (y : TypedNode-F TypedNode) (ms : List (Option TypedNod
 module _ (r : TypedNode) (f : Form) (i j : ℕ) (l : program.Label) (ns : List (Option TypedNode)) where
   pub seen_made : (t : Table) → view r ≡ typed f i j (label_view l) (views ns) → seen t r ≡ typed f i j (label_mapped (type_of t.shapes) (label_view l)) (row (parts_seen t ns))
   seen_made t e = ap (mapped (type_of t.shapes)) e ∙ ap (typed f i j (label_mapped (type_of t.shapes) (label_view l))) (row_seen t ns)
-
-  pub known_made : (k : ℕ) → view r ≡ typed f i j (label_view l) (views ns) → KnownSort k l.sort → AllKnown k ns → Known k r
-  known_made k e s h = subst (Every (λ t. t < k)) (sym e) (s, h)

@@ -1,7 +1,7 @@
 -- One more part of a row: what is typed and what is left make what all make.
 use Rattle.std.proofs.Common.{◌≡◌, ℕ, List, [], ◌∷◌, ◌++◌, Some, None, Result, Ok, Err, refl, ap, ◌∙◌}
 use Rattle.go_grammar.specs.declared.kind.Kind.{Kind}
-use Rattle.go_grammar.specs.Trees.{Tree, node, Trees, none, more, skip, kind_of, first, last, parts}
+use Rattle.go_grammar.specs.Trees.{Tree, node, Trees, none, more, skip, kind_of}
 use Rattle.go_rules.specs.declared.fault.TypeFault.{TypeFault}
 use Rattle.go_rules.specs.Faults.{least, judged, reported}
 use Rattle.go_rules.specs.Settling.{Part}
@@ -64,6 +64,3 @@ module _ (s : Scope) (k : Kind) (h : Hint) (i j : ℕ) (ps : Trees) where
       let ys = typings s k h ps [] ps in
       let split = judged_ok (reported (faults_of_parts s k h ps [] ps)) ys xs e in
       answer_is ∙ ap (λ r. judged (instead r (least (found s k h i j ys))) (built s k h i j ys)) split.0 ∙ ap (λ zs. judged (least (found s k h i j zs)) (built s k h i j zs)) split.1
-
-pub node_parts : (t : Tree) → t ≡ node (kind_of t) (first t) (last t) (parts t)
-node_parts (node k i j ps) = refl

@@ -1,5 +1,5 @@
 -- One more local is declared.
-use Rattle.std.proofs.Common.{◌≡◌, ℕ, zero, suc, ◌≤◌, List, [], ◌∷◌, length, map, Option, Some, refl, ap, subst, arith}
+use Rattle.std.proofs.Common.{◌≡◌, ℕ, zero, suc, List, [], ◌∷◌, map, Option, Some, refl, ap, subst}
 use Rattle.std.specs.Prelude.{slice_set, slice_get}
 use Rattle.go_stmts.specs.Frames.{placed}
 
@@ -7,11 +7,6 @@ pub placed_is : {A B : Type 0} (f : A → B) (n : ℕ) (x : A) (xs : List A) →
 placed_is f n x [] = refl
 placed_is f zero x (y ∷ ys) = refl
 placed_is f (suc n) x (y ∷ ys) = ap (λ zs. f y ∷ zs) (placed_is f n x ys)
-
-pub placed_past : {A : Type 0} (n : ℕ) (x : A) (xs : List A) → length xs ≤ n → placed n x xs ≡ xs
-placed_past n x [] h = refl
-placed_past zero x (y ∷ ys) h = absurd (omega (arith, h))
-placed_past (suc n) x (y ∷ ys) h = ap (λ zs. y ∷ zs) (placed_past n x ys (omega (arith, h)))
 
 -- what holds of all that are there, and of one more
 pub all_set : {A : Type 0} (P : A → Type 0) (n : ℕ) (x : A) (xs : List (Option A)) → ((k : ℕ) (y : A) → slice_get xs k ≡ Some (Some y) → P y) → P x → (k : ℕ) (y : A) → slice_get (slice_set xs n (Some x)) k ≡ Some (Some y) → P y

@@ -2,9 +2,10 @@
 ghost use Rattle.std.specs.Prelude.{◌≡◌, Some, OnOk, length, map};
 ghost use Rattle.std.specs.Option.{option_map};
 ghost use Rattle.go_typed.specs.Views.{seen, sort_seen, Known, AllKnown, KnownSort};
+ghost use Rattle.go_typed.specs.Scopes.{KnownLocals};
 ghost use Rattle.go_stmts.specs.Frames.{Frame, placed};
 ghost use Rattle.go_stmts.specs.Reading.{is_new, declares_name, declares_all};
-ghost use Rattle.go_stmt_rules.specs.Seen.{locals_in, KnownLocals};
+ghost use Rattle.go_stmt_rules.specs.Seen.{locals_in};
 
 use go_base::Memory;
 use go_rules::nodes::sort_of;

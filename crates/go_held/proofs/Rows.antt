@@ -2,7 +2,7 @@
 use Rattle.std.proofs.Common.{◌≡◌, ℕ, Bool, true, false, cond, List, [], ◌∷◌, ◌++◌, length, drop, get_or, Option, Some, None, Result, Ok, Err, refl, ap, sym, subst, ◌∙◌, ◌+◌, ◌<◌, map}
 use Rattle.go_base.specs.Gives.{Gives}
 use Rattle.go_grammar.specs.declared.kind.Kind.{Kind}
-use Rattle.go_grammar.specs.Trees.{Tree, node, Trees, more, skip, kind_of, first, last, parts}
+use Rattle.go_grammar.specs.Trees.{Tree, node, Trees, more, kind_of, first, last, parts}
 use Rattle.go_tree.specs.declared.node.Node.{Node}
 use Rattle.go_tree.specs.declared.object.Object.{Object}
 use Rattle.go_tree.specs.declared.object.Object.TheVariants as object
@@ -12,7 +12,7 @@ use Rattle.go_rules.specs.declared.fault.TypeError.{TypeError}
 use Rattle.go_rules.specs.declared.fault.TypeError.TheVariants as errors
 use Rattle.go_rules.specs.Faults.{judged, reported, refusal_of}
 use Rattle.go_rules.specs.Names.{declared_form}
-use Rattle.go_rules.specs.Scopes.{Scope, Hint}
+use Rattle.go_rules.specs.Scopes.{Hint}
 use Rattle.go_rules.specs.Settling.{Part}
 use Rattle.go_rules.specs.Tables.{Parts, label, made}
 use Rattle.go_rules.specs.Typing.{typing, faults, answer}
@@ -99,11 +99,6 @@ module _ (s : Frame) (h : Hint) where
       ap (λ fs. judged (reported fs) (holding s h (node k i j ps))) (by_list (is_list k) (all_held_faults s k h ps [] ps) (cond (is_declared_name k) [] (faults (scope_of s) h (node k i j ps))) e)
       ∙ ap (judged (reported (all_held_faults s k h ps [] ps))) (by_list (is_list k) (list_node s k i j (layout s k i (holdings s k h ps [] ps))) (cond (is_declared_name k) (name_node s i j) (typing (scope_of s) h (node k i j ps))) e)
 
-  name_answer : (k : Kind) (i j : ℕ) (ps : Trees) → is_list k ≡ false → is_declared_name k ≡ true → held_answer s h (node k i j ps) ≡ Ok (name_node s i j)
-  name_answer k i j ps e d =
-      ap (λ fs. judged (reported fs) (holding s h (node k i j ps))) (by_other (is_list k) (all_held_faults s k h ps [] ps) (cond (is_declared_name k) [] (faults (scope_of s) h (node k i j ps))) e ∙ by_list (is_declared_name k) [] (faults (scope_of s) h (node k i j ps)) d)
-      ∙ ap Ok (by_other (is_list k) (list_node s k i j (layout s k i (holdings s k h ps [] ps))) (cond (is_declared_name k) (name_node s i j) (typing (scope_of s) h (node k i j ps))) e ∙ by_list (is_declared_name k) (name_node s i j) (typing (scope_of s) h (node k i j ps)) d)
-
   typed_answer : (k : Kind) (i j : ℕ) (ps : Trees) → is_list k ≡ false → is_declared_name k ≡ false → held_answer s h (node k i j ps) ≡ answer (scope_of s) h (node k i j ps)
   typed_answer k i j ps e d =
       ap (λ fs. judged (reported fs) (holding s h (node k i j ps))) (by_other (is_list k) (all_held_faults s k h ps [] ps) (cond (is_declared_name k) [] (faults (scope_of s) h (node k i j ps))) e ∙ by_other (is_declared_name k) [] (faults (scope_of s) h (node k i j ps)) d)
@@ -111,10 +106,6 @@ module _ (s : Frame) (h : Hint) where
 
   pub node_typed : (n : Tree) (k : Kind) → k ≡ kind_of n → is_list k ≡ false → is_declared_name k ≡ false → held_answer s h n ≡ answer (scope_of s) h n
   node_typed (node k i j ps) k1 ke e d = typed_answer k i j ps (ap is_list (sym ke) ∙ e) (ap is_declared_name (sym ke) ∙ d)
-
-  pub node_named : (n : Tree) (k : Kind) (i j : ℕ) → k ≡ kind_of n → i ≡ first n → j ≡ last n → is_list k ≡ false → is_declared_name k ≡ true → held_answer s h n ≡ Ok (name_node s i j)
-  node_named (node k i j ps) k1 i1 j1 ke ie je e d =
-      name_answer k i j ps (ap is_list (sym ke) ∙ e) (ap is_declared_name (sym ke) ∙ d) ∙ ap (λ z. Ok (name_node s z j)) (sym ie) ∙ ap (λ z. Ok (name_node s i1 z)) (sym je)
 
   list_fails : (k : Kind) (i j : ℕ) (ps : Trees) (f : TypeFault) → is_list k ≡ true → left s k h ps [] ps ≡ Err f → held_answer s h (node k i j ps) ≡ Err f
   list_fails k i j ps f e l =

@@ -2,11 +2,11 @@
 ghost use Rattle.std.specs.Prelude.{◌≡◌, ℕ, [], IfOk, true, length, map};
 ghost use Rattle.std.specs.Option.{option_map};
 ghost use Rattle.go_typed.specs.Views.{seen, Known, AllKnown};
+ghost use Rattle.go_typed.specs.Scopes.{KnownLocals};
 ghost use Rattle.go_type_rules.specs.Naming.{names, locals_seen, KnownScope};
 ghost use Rattle.go_stmts.specs.Frames.{Frame};
 ghost use Rattle.go_stmts.specs.Laying.{layout};
 ghost use Rattle.go_stmts.specs.Reading as reading;
-ghost use Rattle.go_stmt_layout.specs.Layouts.{KnownLocals};
 ghost use Rattle.go_held.specs.Held.{HasScope};
 
 use go_base::Memory;

@@ -1,6 +1,6 @@
 -- What one round more finds again. Only the least faults are held of a state, but scopes read no more of it than whether there are any: so
 -- states that are found from any ones that are held so are found again from themselves.
-use Rattle.std.proofs.Common.{◌≡◌, ℕ, cond, List, [], ◌∷◌, length, map, Option, Some, None, refl, ap, sym, ◌∙◌}
+use Rattle.std.proofs.Common.{◌≡◌, cond, List, [], ◌∷◌, length, map, Option, Some, None, refl, ap, sym, ◌∙◌}
 use Rattle.std.specs.Option.{option_map}
 use Rattle.std.proofs.lemmas.List.{length-map}
 use Rattle.go_types.specs.Tables.{Table, type_of, rights_of}

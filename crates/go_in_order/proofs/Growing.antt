@@ -1,11 +1,10 @@
 -- What is found so far stays so in a table with more types.
-use Rattle.std.proofs.Common.{◌≡◌, ℕ, List, [], ◌∷◌, length, map, Option, refl, ap, sym, ◌∙◌}
+use Rattle.std.proofs.Common.{◌≡◌, ℕ, List, [], ◌∷◌, length, Option, refl, ap, sym, ◌∙◌}
 use Rattle.std.specs.Option.{option_map}
 use Rattle.go_types.specs.Tables.{Table, IsTable, type_of}
 use Rattle.type_tests.specs.Extends.{Extends, Grows}
-use Rattle.go_judging.proofs.Stays.{right_more, right_stays, all_more, standings_more}
-use Rattle.go_in_order.specs.declared.progress.Progress.{Progress}
-use Rattle.go_in_order.specs.Progress.{KnownRights, HasRights, IsFoundIn, sides}
+use Rattle.go_judging.proofs.Stays.{right_more, right_stays}
+use Rattle.go_in_order.specs.Progress.{KnownRights, HasRights, sides}
 
 module _ (old new : Table) (ok : IsTable old) (e : Extends old new) where
   rights_more : (rs : List (Option ℕ)) → KnownRights (length old.shapes) rs → KnownRights (length new.shapes) rs
@@ -19,11 +18,3 @@ module _ (old new : Table) (ok : IsTable old) (e : Extends old new) where
 module _ (old new : Table) (ok : IsTable old) (g : Grows old new) where
   pub has_more : (rs : List (Option ℕ)) → HasRights old rs → HasRights new rs
   has_more rs h = record { known = rights_more old new ok g.extends rs h.known; are = g.rights ∙ h.are ∙ sym (sides_stay old new ok g.extends rs h.known) }
-
-  pub found_more : (x : Progress) → IsFoundIn old x → IsFoundIn new x
-  found_more x h = record {
-    all = all_more old new ok g.extends x.all.items h.all;
-    sound = standings_more old new ok g.extends x.sound.items h.sound;
-    told = standings_more old new ok g.extends x.told.items h.told;
-    rights = has_more x.rights.items h.rights;
-  }

@@ -1,5 +1,5 @@
 -- Lists with one element put in.
-use Rattle.std.proofs.Common.{◌≡◌, ℕ, zero, suc, ◌≤◌, List, [], ◌∷◌, ◌++◌, length, map, Some, refl, ap, arith}
+use Rattle.std.proofs.Common.{◌≡◌, ℕ, zero, suc, List, [], ◌∷◌, ◌++◌, map, refl, ap}
 use Rattle.std.specs.Prelude.{slice_set}
 use Rattle.std.specs.List.{AllByRecursion}
 use Rattle.go_stmts.specs.Frames.{placed}
@@ -13,16 +13,6 @@ pub all_placed : {X : Type 0} (P : X → Type 0) (xs : List X) (i : ℕ) (x : X)
 all_placed P [] i x a h = tt
 all_placed P (y ∷ ys) zero x a h = (h, a.1)
 all_placed P (y ∷ ys) (suc i) x a h = (a.0, all_placed P ys i x a.1 h)
-
-pub set_placed : {X : Type 0} (xs : List X) (i : ℕ) (x : X) → slice_set xs i x ≡ placed i x xs
-set_placed [] i x = refl
-set_placed (y ∷ ys) zero x = refl
-set_placed (y ∷ ys) (suc i) x = ap (λ zs. y ∷ zs) (set_placed ys i x)
-
-pub placed_out : {X : Type 0} (xs : List X) (i : ℕ) (x : X) → length xs ≤ i → xs ≡ placed i x xs
-placed_out [] i x h = refl
-placed_out (y ∷ ys) zero x h = absurd (omega (arith, h))
-placed_out (y ∷ ys) (suc i) x h = ap (λ zs. y ∷ zs) (placed_out ys i x (let l : length ys ≤ i = omega (arith, h) in l))
 
 pub placed_mapped : {X Y : Type 0} (f : X → Y) (xs : List X) (i : ℕ) (x : X) → map f (placed i x xs) ≡ placed i (f x) (map f xs)
 placed_mapped f [] i x = refl

@@ -1,13 +1,12 @@
 //! What is found so far of the objects of a package.
 ghost use Rattle.std.specs.Prelude.{◌≡◌, ℕ, IfOk, Some, length};
-ghost use Rattle.std.specs.Option.{option_map};
 ghost use Rattle.go_stmts.specs.Frames.{placed};
 ghost use Rattle.go_types.specs.Tables.{rights_of};
 ghost use Rattle.go_judging.specs.Held.{KnownHeld, AllHeld};
 ghost use Rattle.go_judging.specs.Rights.{rights_held};
 ghost use Rattle.go_judging.specs.World.{Fits, KnownStandings};
 ghost use Rattle.go_type_rules.specs.Naming.{KnownStanding};
-ghost use Rattle.go_in_order.specs.Progress.{KnownRights, HasRights, IsFoundIn};
+ghost use Rattle.go_in_order.specs.Progress.{IsFoundIn};
 
 use crate::sides::sides_held;
 use go_base::Memory;

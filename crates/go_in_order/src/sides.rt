@@ -1,6 +1,5 @@
 //! The right sides of declared types, by their numbers.
-ghost use Rattle.std.specs.Prelude.{◌≡◌, ◌++◌, ℕ, IfOk, IsTrue, OnOk, Some, length, slice_get};
-ghost use Rattle.std.specs.Option.{option_map};
+ghost use Rattle.std.specs.Prelude.{◌≡◌, ◌++◌, ℕ, IfOk, IsTrue, OnOk, length};
 ghost use Rattle.go_package.specs.Knowledge.{is_type};
 ghost use Rattle.go_types.specs.Tables.{Table};
 ghost use Rattle.type_tests.specs.Extends.{Extends};
@@ -11,6 +10,7 @@ ghost use Rattle.go_in_order.specs.Progress.{KnownRights, HasRights, own_right, 
 
 use crate::progress::put_right;
 use go_base::Memory;
+use go_judging::rights::{entity_at, right_at};
 use go_judging::world::{named_type, type_number};
 use go_judging::{Held, World};
 use go_local_types::rights::give_right;
@@ -18,26 +18,6 @@ use go_tree::context::Entity;
 use go_tree::object::Declared;
 use go_types::{TypeId, Types};
 use std::alloc::Global;
-
-/// What the object of this number is declared as.
-fn entity_at(objects: &[Declared], number: usize) -> Result<Entity, Memory>
-    ensures { IfOk result (λ e. option_map (λ d. d.entity) (slice_get objects.now number) ≡ Some e) }
-{
-    match objects.get(number) {
-        Some(object) => Ok(object.entity),
-        None => Err(Memory),
-    }
-}
-
-/// The right side that is held of the object of this number.
-fn right_at(all: &[Held], number: usize) -> Result<Option<TypeId>, Memory>
-    ensures { IfOk result (λ r. option_map (λ h. h.right) (slice_get all.now number) ≡ Some r) }
-{
-    match all.get(number) {
-        Some(known) => Ok(known.right),
-        None => Err(Memory),
-    }
-}
 
 /// Adds the right side of an object, if it is a type.
 fn add_right(

@@ -1,17 +1,15 @@
 -- Lists that are made from the front.
-use Rattle.std.proofs.Common.{◌≡◌, ℕ, zero, suc, ◌+◌, ◌<◌, ◌≤◌, List, [], ◌∷◌, ◌++◌, length, map, drop, Option, Some, None, refl, ap, sym, subst, ◌∙◌, append_assoc, append-nil, arith}
+use Rattle.std.proofs.Common.{◌≡◌, ℕ, zero, suc, ◌+◌, ◌<◌, ◌≤◌, List, [], ◌∷◌, ◌++◌, length, map, drop, Some, refl, ap, ◌∙◌, append_assoc, arith}
 use Rattle.std.specs.Prelude.{slice_get}
 use Rattle.std.proofs.lemmas.List.{map-append, length-map, drop_all}
-use Rattle.go_types.specs.Tables.{Table, IsTable}
-use Rattle.type_tests.specs.Extends.{Extends}
+use Rattle.go_types.specs.Tables.{Table}
 use Rattle.go_package.specs.Knowledge.{Outline, State, outline_by, declaring}
 use Rattle.go_package.specs.Sources.{Package}
-use Rattle.go_package.specs.Verdicts.{first_state, first_states, state_by, next_states}
+use Rattle.go_package.specs.Verdicts.{first_state, first_states, next_states}
 use Rattle.go_judging.specs.declared.held.Held.{Held}
 use Rattle.go_judging.specs.Held.{Summary, summary, held_seen, all_seen, KnownHeld, AllHeld}
 use Rattle.go_judging.specs.declared.world.World.{World}
 use Rattle.go_judging.specs.World.{package_in, specifications_in, outlines_in}
-use Rattle.go_judging.proofs.Stays.{all_more, all_stay}
 
 -- the element of this number, where the list is so long
 pub element : {A : Type 0} (xs : List A) (n : ℕ) → n < length xs → (x : A) × (slice_get xs n ≡ Some x) × (drop n xs ≡ x ∷ drop (suc n) xs)
@@ -34,10 +32,6 @@ module _ (t : Table) (hs : List Held) (h : Held) where
 module _ (p : Package) where
   pub first_step : (n : ℕ) (os : List Outline) (o : Outline) → drop n os ≡ o ∷ drop (suc n) os → first_states p n (drop n os) ≡ first_state p n o.specification.entity ∷ first_states p (suc n) (drop (suc n) os)
   first_step n os o e = ap (first_states p n) e
-
-  pub next_step : (all : List Outline) (ss : List State) (n : ℕ) (os : List Outline) (o : Outline) → drop n os ≡ o ∷ drop (suc n) os
-      → next_states p all ss n (drop n os) ≡ state_by o.specification.entity p all ss n o.specification o.column ∷ next_states p all ss (suc n) (drop (suc n) os)
-  next_step all ss n os o e = ap (next_states p all ss n) e
 
   pub first_end : (n m : ℕ) (os : List Outline) → length os ≤ n → first_states p m (drop n os) ≡ []
   first_end n m os h = ap (first_states p m) (drop_all n os h)

@@ -15,10 +15,10 @@ use Rattle.go_typed.specs.Views.{sort_seen, KnownSort}
 use Rattle.go_rules.specs.declared.fault.TypeFault.{TypeFault}
 use Rattle.go_rules.specs.Faults.{least, earlier}
 use Rattle.go_rules.specs.Scopes.{Needed, in_full, at_once, loosely}
-use Rattle.go_rules.specs.Sorts.{Stands}
+use Rattle.go_rules.specs.Sorts.{Stands, known}
 use Rattle.go_rules.specs.Tables.{no_faults}
 use Rattle.go_type_rules.specs.declared.standing.Standing.{Standing}
-use Rattle.go_type_rules.specs.Naming.{known, told_or, told_seen, told_in_full, told_at_once, told_loosely, sort_of_object, KnownStanding}
+use Rattle.go_type_rules.specs.Naming.{told_or, told_seen, told_in_full, told_at_once, told_loosely, sort_of_object, KnownStanding}
 use Rattle.go_needs.specs.declared.needs.Passing.{Passing}
 use Rattle.go_needs.specs.Passing.{ArePassing}
 use Rattle.go_package.specs.Knowledge.{Outline, State, no_state, state_of, stands_if, stands_where, passes, is_told_by}

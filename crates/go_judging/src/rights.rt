@@ -88,7 +88,7 @@ fn take_one(
 }
 
 /// What the object of this number is declared as.
-fn entity_at(objects: &[Declared], number: usize) -> Result<Entity, Memory>
+pub fn entity_at(objects: &[Declared], number: usize) -> Result<Entity, Memory>
     ensures { IfOk result (λ e. option_map (λ d. d.entity) (slice_get objects.now number) ≡ Some e) }
 {
     match objects.get(number) {
@@ -98,7 +98,7 @@ fn entity_at(objects: &[Declared], number: usize) -> Result<Entity, Memory>
 }
 
 /// The right side that is held of the object of this number.
-fn right_at(all: &[Held], number: usize) -> Result<Option<TypeId>, Memory>
+pub fn right_at(all: &[Held], number: usize) -> Result<Option<TypeId>, Memory>
     ensures { IfOk result (λ r. option_map (λ h. h.right) (slice_get all.now number) ≡ Some r) }
 {
     match all.get(number) {

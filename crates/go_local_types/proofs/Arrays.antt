@@ -6,7 +6,7 @@ use Rattle.go_base.specs.declared.fault.FaultCode.TheVariants as code
 use Rattle.go_types.specs.Trees.{TypeTree, array}
 use Rattle.go_types.specs.Relations.{Rights}
 use Rattle.type_tests.specs.Sizes.{scalars_of}
-use Rattle.go_typed.specs.Trees.{Typed, typed, Typeds, none, more, skip}
+use Rattle.go_typed.specs.Trees.{typed, Typeds, none, more, skip}
 use Rattle.go_typed.specs.Trees as sort
 use Rattle.go_rules.specs.Faults.{fault_at}
 use Rattle.go_rules.specs.Settling.{Part}

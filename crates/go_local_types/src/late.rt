@@ -2,7 +2,6 @@
 ghost use Rattle.std.specs.Prelude.{◌≡◌, ◌<◌, ◌++◌, All, OnOk, length, map};
 ghost use Rattle.go_types.specs.Tables.{type_of, rights_of};
 ghost use Rattle.type_tests.specs.Sizes.{scalars_of};
-ghost use Rattle.go_typed.specs.Trees.{sort_of};
 ghost use Rattle.go_typed.specs.Views.{seen, sort_seen, Known, KnownSort};
 ghost use Rattle.go_rules.specs.Faults.{least};
 ghost use Rattle.go_rules.specs.TypeNodes as nodes;
@@ -11,10 +10,8 @@ ghost use Rattle.go_local_types.specs.Late as arrays;
 ghost use Rattle.go_local_types.specs.Late.{waiting, late_arrays, all_too_large, late_seen};
 
 use go_base::{FaultCode, Memory};
-use go_rules::nodes::sort_of;
 use go_rules::{Place, TypeFault};
 use go_type_rules::sequence::named_type;
-use go_type_rules::signature::parts_of;
 use go_typed::{Sort, TypedNode};
 use go_types::{Shape, TypeId, Types};
 use type_tests::scalars;

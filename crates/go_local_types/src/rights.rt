@@ -2,7 +2,7 @@
 ghost use Rattle.std.specs.Prelude.{◌≡◌, ℕ, ◌<◌, IfSome, OnOk, Some, None, length};
 ghost use Rattle.std.specs.Option.{option_map};
 ghost use Rattle.go_types.specs.Trees.{declared};
-ghost use Rattle.go_types.specs.Tables.{type_of, rights_of, IsTable};
+ghost use Rattle.go_types.specs.Tables.{type_of, rights_of};
 ghost use Rattle.type_tests.specs.Extends.{Extends};
 ghost use Rattle.go_stmts.specs.Frames.{placed};
 

@@ -68,12 +68,6 @@ sweep_says n t all bs left s h w = sym (inmost_behind n t w.now (said bs t w) le
 pub sweep_on : (n i t : ℕ) (all : List Meaning) (bs : List Block) (left : List Meaning) → i ≤ t → IsSweeping n i all bs left → IsSweeping n t all bs left
 sweep_on n i t all bs left le s = sweep_leave n i t all bs bs left le (λ u w h. refl) (λ ms h. h) s
 
--- the events in order, one by one
-pub order_none : (i j : ℕ) (e : Event) (es : List Event) → None ≡ name_of e → AreInOrder i j (e ∷ es) → AreInOrder i j es
-order_none i j (event.Use u) es h o = cc
-order_none i j (event.Declaration d) es h o = cc
-order_none i j e es h o = o
-
 some_number : (x y : ℕ) → Some x ≡ Some y → x ≡ y
 some_number x y e = cc
 

@@ -1,5 +1,5 @@
 -- What the next turn of a loop comes to, among tasks.
-use Rattle.std.proofs.Common.{◌≡◌, ◌<◌, ℕ, List, take, length, refl, sym, ap, ◌∙◌}
+use Rattle.std.proofs.Common.{◌≡◌, ◌<◌, ℕ, List, take, refl, sym, ap, ◌∙◌}
 use Rattle.std.specs.Prelude.{Bool, true, false}
 use Rattle.go_typed.specs.declared.node.TypedNode.{TypedNode}
 use Rattle.go_typed.specs.declared.node.TypedNode.TheViews.{out-TypedNode}

@@ -1,18 +1,18 @@
 -- What asking a part comes to.
-use Rattle.std.proofs.Common.{◌≡◌, ℕ, List, [], ◌∷◌, refl, sym, ap, ◌∙◌, subst, Option, Some, None}
+use Rattle.std.proofs.Common.{◌≡◌, ℕ, List, sym, ap, ◌∙◌, Option, Some, None}
 use Rattle.type_tests.specs.Questions.{entry}
 use Rattle.go_typed.specs.declared.node.TypedNode.{TypedNode}
 use Rattle.go_typed.specs.declared.node.TypedNode.TheViews.{out-TypedNode}
 use Rattle.go_typed.specs.Packages.{PackageView}
 use Rattle.go_typed.specs.Views.{Known}
 use Rattle.go_meaning.specs.Values.{Value}
-use Rattle.go_meaning.specs.Computations.{World, Undecided, undecided, end_by}
-use Rattle.go_meaning.specs.Doings.{Doing, at}
+use Rattle.go_meaning.specs.Computations.{World, Undecided, undecided}
+use Rattle.go_meaning.specs.Doings.{Doing}
 use Rattle.go_runs.proofs.Lists.{at_some, at_none}
 use Rattle.go_runs.proofs.Nodes.{known_parts, known_entry}
 use Rattle.go_machine.specs.declared.task.What.TheVariants as what
 use Rattle.go_machine.specs.Rests.{Rest, before, then_rest}
-use Rattle.go_machine.specs.Tasks.{parts_of, task_rest}
+use Rattle.go_machine.specs.Tasks.{task_rest}
 use Rattle.go_machine.specs.Engines.{asks, asks_part, seeks_part}
 use Rattle.go_machine.proofs.Rests.{Same, gives_nothing}
 

@@ -1,5 +1,5 @@
 -- What the value of a node begins with, by its plan.
-use Rattle.std.proofs.Common.{◌≡◌, ℕ, zero, suc, List, [], ◌∷◌, ◌++◌, take, drop, length, refl, sym, ap, ◌∙◌, subst, arith, Option, Some, None, Err}
+use Rattle.std.proofs.Common.{◌≡◌, ℕ, suc, List, [], ◌∷◌, ◌++◌, take, drop, length, refl, sym, ap, ◌∙◌, arith, Option, Some, None, Err}
 use Rattle.std.specs.Prelude.{Bool, true, false, pos, replicate}
 use Rattle.go_typed.specs.declared.node.TypedNode.{TypedNode}
 use Rattle.go_typed.specs.declared.node.TypedNode.TheViews.{out-TypedNode}
@@ -15,23 +15,22 @@ use Rattle.go_eval.specs.Views.{plan_view, type_in, constant_in}
 use Rattle.go_eval.specs.declared.plan.Plan.{Plan}
 use Rattle.go_eval.specs.declared.plan.Items.TheVariants as items
 use Rattle.go_runs.proofs.Nodes.{by_plan}
-use Rattle.go_meaning.specs.Computations.{Comp, World, Ending, Return, Break, Continue, Fallthrough, Panics, end_by, give, then_do, one, read, each, in_order, choose}
+use Rattle.go_meaning.specs.Computations.{Comp, Ending, Return, Break, Continue, Fallthrough, Panics, end_by, give, then_do, one, each, in_order, choose}
 use Rattle.go_meaning.specs.Operations as operations
-use Rattle.go_meaning.specs.Operations.{perform, operate}
-use Rattle.go_meaning.specs.Doings.{Doing, absent, act, at, values_of, finds_of, stores, applied, tag_of, iterated}
-use Rattle.go_runs.specs.Programs.{calls, doing, doings, again}
+use Rattle.go_meaning.specs.Operations.{operate}
+use Rattle.go_meaning.specs.Doings.{Doing, act, at, values_of, finds_of, stores, applied, tag_of, iterated}
+use Rattle.go_runs.specs.Programs.{calls, doings, again}
 use Rattle.go_eval.specs.declared.plan.Operation.{Operation}
 use Rattle.go_eval.specs.declared.plan.Plan.TheVariants as plan
 use Rattle.go_machine.specs.declared.task.Deed.TheVariants as deed
-use Rattle.go_machine.specs.declared.task.What.{What}
 use Rattle.go_machine.specs.declared.task.What.TheVariants as what
-use Rattle.go_machine.specs.Rests.{Rest, before, behind, then_rest, replacing, adding}
+use Rattle.go_machine.specs.Rests.{Rest, before, behind, then_rest, adding}
 use Rattle.go_machine.specs.Tasks.{rest, parts_of, planned, task_rest, loaded_at, turn_at, clauses_at}
 use Rattle.go_values.specs.Views.{views}
 use Rattle.go_values.specs.Worlds.{world_view}
 use Rattle.go_runs.specs.declared.exit.Exit.TheVariants as exit
 use Rattle.go_machine.specs.declared.engine.Engine.{Engine}
-use Rattle.go_machine.specs.Engines.{Went, plan_value, begins, asks, lays_given, gives, reads, operates, asks_part, lays, lays_value, lays_find, lays_values, lays_finds}
+use Rattle.go_machine.specs.Engines.{Went, begins, asks, lays_given, gives, reads, operates, asks_part, lays, lays_value, lays_find, lays_values, lays_finds}
 use Rattle.go_machine.proofs.Rests.{Same, SameOut, same_refl, then_both, begins_drop, begins_each_drop, begins_plain, gives_nothing}
 
 -- all parts
@@ -49,9 +48,6 @@ pub out_itself : (l : Ending → Comp) → SameOut l l
 out_itself l = (λ us. same_refl (l (Return us)), (same_refl (l Break), (same_refl (l Continue), (same_refl (l Fallthrough), λ k. same_refl (l (Panics k))))))
 
 module _ (p : PackageView) (n : ℕ) (x : TypedNode) (r : Rest) (vs : List Value) where
-  begins_gives : (v : Value) → Same (then_rest (give (v ∷ [])) r vs) (r.go (vs ++ v ∷ []))
-  unfolding before end_by
-  begins_gives v d f w t = refl
 
   module _ (end : ℕ) (e : end ≡ length (parts_of p n x)) where
     all_parts : values_of (drop 0 (take end (parts_of p n x))) ≡ values_of (parts_of p n x)

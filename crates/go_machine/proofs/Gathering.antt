@@ -1,16 +1,16 @@
 -- What steps of parts, one after the other, come to.
-use Rattle.std.proofs.Common.{◌≡◌, ◌<◌, ◌≤◌, ℕ, zero, suc, List, [], ◌∷◌, ◌++◌, take, drop, length, refl, sym, ap, ◌∙◌, subst, arith}
-use Rattle.std.specs.Prelude.{Bool, true, false}
+use Rattle.std.proofs.Common.{◌≡◌, ◌<◌, ◌≤◌, ℕ, zero, suc, List, [], ◌∷◌, ◌++◌, take, drop, length, refl, sym, ap, ◌∙◌, arith}
+use Rattle.std.specs.Prelude.{true, false}
 use Rattle.go_typed.specs.declared.node.TypedNode.{TypedNode}
 use Rattle.go_typed.specs.Packages.{PackageView}
 use Rattle.go_meaning.specs.Values.{Value, Truth, nth}
-use Rattle.go_meaning.specs.Computations.{Comp, Ending, give, end_by, then_do, one, each}
+use Rattle.go_meaning.specs.Computations.{give, end_by, each}
 use Rattle.go_meaning.specs.Doings.{Doing, at, values_of, finds_of, stores}
 use Rattle.go_machine.specs.declared.task.What.TheVariants as what
-use Rattle.go_machine.specs.Rests.{Rest, before, behind, then_rest, adding, replacing_both}
+use Rattle.go_machine.specs.Rests.{Rest, before, behind, then_rest, adding}
 use Rattle.go_machine.specs.Tasks.{parts_of, task_rest, between, clauses_at}
 use Rattle.go_machine.specs.Engines.{asks_part, seeks_part, lays_value, lays_given, works}
-use Rattle.go_machine.proofs.Rests.{Same, SameOut, then_before, same_out, begins_drop, next_each, no_each, front, back, whole}
+use Rattle.go_machine.proofs.Rests.{Same, then_before, same_out, begins_drop, next_each, no_each, front, back, whole}
 
 pub taken_within : (b : ℕ) (vs : List Value) → b < length vs → length (take b vs) ≡ b
 taken_within zero vs h = refl

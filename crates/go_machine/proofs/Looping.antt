@@ -1,19 +1,18 @@
 -- What a further turn of a loop comes to.
-use Rattle.std.proofs.Common.{◌≡◌, ◌<◌, ℕ, suc, List, [], ◌∷◌, take, refl, sym, ap, ◌∙◌, subst, arith, Option}
-use Rattle.std.specs.Prelude.{Bool, true, false}
+use Rattle.std.proofs.Common.{◌≡◌, ◌<◌, ℕ, suc, List, refl, sym, ap, ◌∙◌, arith}
+use Rattle.std.specs.Prelude.{true, false}
 use Rattle.go_types.specs.Trees.{TypeTree}
 use Rattle.go_types.specs.Relations.{Rights}
-use Rattle.go_types.specs.Tables.{type_of, rights_of}
+use Rattle.go_types.specs.Tables.{type_of}
 use Rattle.go_typed.specs.declared.form.Form.{Form}
 use Rattle.go_typed.specs.declared.form.Form.TheVariants as form
 use Rattle.go_typed.specs.declared.node.TypedNode.{TypedNode}
 use Rattle.go_typed.specs.declared.node.TypedNode.TheViews.{out-TypedNode}
-use Rattle.go_typed.specs.Trees.{Label, Typed, typed, Typeds, none, more, skip, mapped, all_mapped, label_mapped}
+use Rattle.go_typed.specs.Trees.{Label, Typed, typed, Typeds, none, more, skip, mapped, label_mapped}
 use Rattle.go_typed.specs.Packages.{PackageView}
-use Rattle.go_typed.specs.Views.{all_seen, label_at, seen, views as node_views}
+use Rattle.go_typed.specs.Views.{all_seen, label_at, seen}
 use Rattle.go_meaning.specs.Values.{Value}
 use Rattle.go_meaning.specs.Computations.{World, Comp, Outcome, end_by, then_do}
-use Rattle.go_meaning.specs.Doings.{Doing}
 use Rattle.go_meaning.specs.Planning.{part_at, is_there}
 use Rattle.go_meaning.specs.Meaning.{meaning, meanings, without_first, bounded}
 use Rattle.go_meaning.proofs.Bound.{bound_does_not_show}

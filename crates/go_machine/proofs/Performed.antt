@@ -1,5 +1,5 @@
 -- What a deed at a node comes to.
-use Rattle.std.proofs.Common.{◌≡◌, ℕ, List, [], ◌∷◌, ◌++◌, take, drop, refl, sym, ap, ◌∙◌, subst, Option, Some, None, Ok, Err}
+use Rattle.std.proofs.Common.{◌≡◌, ℕ, List, [], ◌∷◌, ◌++◌, take, drop, sym, ap, ◌∙◌, subst, Err}
 use Rattle.go_typed.specs.declared.node.TypedNode.{TypedNode}
 use Rattle.go_typed.specs.Packages.{PackageView}
 use Rattle.go_meaning.specs.Values as meant
@@ -9,7 +9,7 @@ use Rattle.go_values.specs.declared.value.Value.{Value}
 use Rattle.go_values.specs.declared.panic.Panic.{Panic}
 use Rattle.go_values.specs.declared.panic.Stop.{Stop}
 use Rattle.go_values.specs.declared.panic.Stop.TheVariants as stop
-use Rattle.go_values.specs.Views.{view, views, panic_view}
+use Rattle.go_values.specs.Views.{views, panic_view}
 use Rattle.go_values.specs.Worlds.{world_view}
 use Rattle.go_runs.specs.declared.exit.Exit.{Exit}
 use Rattle.go_runs.specs.declared.exit.Exit.TheVariants as exit

@@ -1,8 +1,7 @@
 -- Computations that are made of others, and what is left behind their parts.
-use Rattle.std.proofs.Common.{◌≡◌, ℕ, zero, suc, List, [], ◌∷◌, ◌++◌, refl, sym, ap, ◌∙◌, subst, arith, take, drop, length}
-use Rattle.std.specs.Prelude.{Bool, true, false}
-use Rattle.go_meaning.specs.Values.{Value, nth}
-use Rattle.go_meaning.specs.Computations.{World, Ending, Next, Return, Break, Continue, Fallthrough, Panics, Outcome, Ends, Undecided, Comp, go_on, go_round, go_down, leave, end_by, give, then_do, one, looped, clause, spend, enter, choose, each, in_order, falling, over}
+use Rattle.std.proofs.Common.{◌≡◌, ℕ, zero, suc, List, [], ◌∷◌, ◌++◌, refl, sym, ap, ◌∙◌, take, drop, length}
+use Rattle.go_meaning.specs.Values.{Value}
+use Rattle.go_meaning.specs.Computations.{World, Ending, Next, Return, Break, Continue, Fallthrough, Panics, Outcome, Ends, Undecided, Comp, go_on, go_round, go_down, leave, end_by, give, then_do, looped, clause, enter, each}
 use Rattle.go_machine.specs.Rests.{Rest, go_by, before, behind, then_rest, replacing, adding, round, clause_end, leaving}
 
 -- in every state
@@ -14,9 +13,6 @@ same_refl c d f w t = refl
 
 pub same_sym : (c c' : Comp) → Same c c' → Same c' c
 same_sym c c' h d f w t = sym (h d f w t)
-
-pub same_trans : (c c1 c2 : Comp) → Same c c1 → Same c1 c2 → Same c c2
-same_trans c c1 c2 h g d f w t = h d f w t ∙ g d f w t
 
 -- on the way out the two rests are the same
 abbrev pub SameOut : (Ending → Comp) → (Ending → Comp) → Type 0

@@ -1,17 +1,17 @@
 -- What steps of statements come to.
-use Rattle.std.proofs.Common.{◌≡◌, ◌<◌, ◌≤◌, ℕ, zero, suc, List, [], ◌∷◌, ◌++◌, take, drop, length, refl, sym, ap, ◌∙◌, subst, arith}
-use Rattle.std.specs.Prelude.{Bool, true, false}
+use Rattle.std.proofs.Common.{◌≡◌, ◌<◌, ◌≤◌, ℕ, zero, suc, List, [], ◌∷◌, ◌++◌, take, drop, length, refl, sym, ap, ◌∙◌, arith}
+use Rattle.std.specs.Prelude.{true, false}
 use Rattle.go_typed.specs.declared.node.TypedNode.{TypedNode}
 use Rattle.go_typed.specs.Packages.{PackageView}
 use Rattle.go_meaning.specs.Values.{Value, Truth, nth, is_true}
-use Rattle.go_meaning.specs.Computations.{World, Comp, Undecided, Return, end_by, give, then_do, one, looped, spend, choose, in_order, falling, clause}
+use Rattle.go_meaning.specs.Computations.{World, Undecided, Return, end_by, give, looped, spend, choose, in_order, falling}
 use Rattle.go_meaning.specs.Doings.{Doing, at, values_of}
 use Rattle.go_runs.specs.Programs.{again}
 use Rattle.go_machine.specs.declared.task.What.TheVariants as what
 use Rattle.go_machine.specs.Rests.{Rest, before, then_rest}
-use Rattle.go_machine.specs.Tasks.{parts_of, task_rest, first_above, block_at, turn_at, round_at}
+use Rattle.go_machine.specs.Tasks.{parts_of, task_rest, first_above, block_at, round_at}
 use Rattle.go_machine.specs.Engines.{asks_part, lays_value, lays_given, works, falls}
-use Rattle.go_machine.proofs.Rests.{Same, begins_drop, begins_clause, begins_round, gives_nothing, nothing_more}
+use Rattle.go_machine.proofs.Rests.{Same, begins_drop, begins_clause, begins_round, gives_nothing}
 
 pub drop_at : (xs : List Doing) (k : ℕ) → k < length xs → drop k xs ≡ at xs k ∷ drop (suc k) xs
 drop_at [] k h = absurd (omega arith)

@@ -1,6 +1,5 @@
 -- Lists of tasks.
-use Rattle.std.proofs.Common.{◌≡◌, ℕ, List, [], ◌∷◌, ◌++◌, refl, sym, ap, ◌∙◌, subst}
-use Rattle.go_typed.specs.declared.node.TypedNode.{TypedNode}
+use Rattle.std.proofs.Common.{◌≡◌, ℕ, List, [], ◌∷◌, ◌++◌, refl, ap, ◌∙◌}
 use Rattle.go_typed.specs.Packages.{PackageView}
 use Rattle.go_machine.specs.declared.task.Task.{Task}
 use Rattle.go_machine.specs.Rests.{Rest, finish}

@@ -1,5 +1,5 @@
 -- Values of the program and of the meaning, from a place on.
-use Rattle.std.proofs.Common.{rules, ◌≡◌, ℕ, zero, suc, List, [], ◌∷◌, ◌++◌, take, drop, length, refl, ap}
+use Rattle.std.proofs.Common.{rules, ◌≡◌, ℕ, zero, suc, List, [], ◌∷◌, take, drop, length, refl, ap}
 use Rattle.std.specs.Prelude.{Bool}
 use Rattle.go_meaning.specs.Values as meant
 use Rattle.go_meaning.specs.Values.{nth}

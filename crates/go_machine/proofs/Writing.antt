@@ -5,8 +5,8 @@ use Rattle.std.specs.Prelude.{slice_set}
 use Rattle.go_meaning.specs.Values as meant
 use Rattle.go_meaning.specs.Values.{nth, index_below, whole_of}
 use Rattle.go_meaning.specs.Computations as meaning
-use Rattle.go_meaning.specs.Computations.{World, Outcome, Ends, Comp, go_on, end_by, give, read, then_do, write}
-use Rattle.go_meaning.specs.Operations.{Operation, Deed, Gives, Traps, Cell, ReadVariable, SetCell, WriteVariable, cell, found, length_of, perform, done, operate, with_cells}
+use Rattle.go_meaning.specs.Computations.{World, Ends, Comp, end_by, give, read, then_do, write}
+use Rattle.go_meaning.specs.Operations.{Operation, Deed, Gives, Traps, Cell, SetCell, cell, found, length_of, perform, done, operate, with_cells}
 use Rattle.go_meaning.specs.Doings.{Doing}
 use Rattle.go_values.specs.declared.panic.Stop.{Stop}
 use Rattle.go_values.specs.declared.panic.Stop.TheVariants as stop
@@ -17,14 +17,13 @@ use Rattle.go_values.specs.declared.value.Value.{Value}
 use Rattle.go_values.specs.declared.panic.Panic.{Panic}
 use Rattle.go_values.specs.Worlds.{world_view}
 use Rattle.go_runs.specs.declared.exit.Exit.{Exit}
-use Rattle.go_runs.specs.declared.exit.Exit.TheVariants as exit
 use Rattle.go_runs.specs.declared.machine.Machine.{Machine}
 use Rattle.go_runs.specs.Machines.{outcome, ends, IsExitOf, IsLeft, Reads}
 use Rattle.go_runs.specs.Targets.{Reached, root_read, root_written}
 use Rattle.go_runs.specs.declared.targets.Root.{Root}
 use Rattle.go_runs.specs.declared.targets.Root.TheVariants as root
 use Rattle.go_runs.specs.declared.targets.Target.{Target}
-use Rattle.go_runs.proofs.Placing.{reads_by, reads_local, writes_by}
+use Rattle.go_runs.proofs.Placing.{reads_local, writes_by}
 use Rattle.go_runs.proofs.Steps.{on_left}
 
 pub written_local : (k : ℕ) (v : meant.Value) (d : ℕ) (m m1 : Machine) → views m1.frame.items ≡ slice_set (views m.frame.items) k v → m1.world ≡ m.world → m1.turns ≡ m.turns → outcome (write k v) d m ≡ ends (meaning.Next []) m1
@@ -34,10 +33,6 @@ written_local k v d m m1 f w t = ap (λ fr. Ends (meaning.Next []) fr (world_vie
 pub written_nothing : (d : ℕ) (m : Machine) → outcome (give []) d m ≡ ends (meaning.Next []) m
 unfolding end_by
 written_nothing d m = refl
-
-pub then_is : (c : Comp) (k : List meant.Value → Comp) (d : ℕ) (m : Machine) (us : List meant.Value) → outcome c d m ≡ ends (meaning.Next us) m → outcome (then_do c k) d m ≡ outcome (k us) d m
-unfolding then_do
-then_is c k d m us e = ap (λ (o : Outcome). go_on o (λ vs f1 w1 t1. k vs d f1 w1 t1)) e
 
 pub then_left : (c : Comp) (k : List meant.Value → Comp) (d : ℕ) (m : Machine) (e : Exit) → IsLeft e m (outcome c d m) → IsLeft e m (outcome (then_do c k) d m)
 unfolding then_do

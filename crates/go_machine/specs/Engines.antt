@@ -13,12 +13,12 @@ use Rattle.go_meaning.specs.Operations.{Operation, operate}
 use Rattle.go_eval.specs.declared.plan.Plan.{Plan}
 use Rattle.go_eval.specs.Views.{plan_view}
 use Rattle.go_values.specs.declared.value.Value.{Value}
-use Rattle.go_values.specs.Views.{view, views, panic_view}
+use Rattle.go_values.specs.Views.{views, panic_view}
 use Rattle.go_values.specs.Worlds.{world_view}
 use Rattle.go_runs.specs.declared.exit.Exit.{Exit}
 use Rattle.go_runs.specs.declared.exit.Exit.TheVariants as exit
 use Rattle.go_runs.specs.Machines.{values_view}
-use Rattle.go_runs.specs.Programs.{calls, doing, doings, again}
+use Rattle.go_runs.specs.Programs.{calls, doing, again}
 use Rattle.go_machine.specs.declared.task.What.{What}
 use Rattle.go_machine.specs.declared.task.What.TheVariants as what
 use Rattle.go_machine.specs.declared.engine.Engine.{Engine}

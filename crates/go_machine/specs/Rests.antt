@@ -1,5 +1,5 @@
 -- What is left to do behind a computation, by how that ends.
-use Rattle.std.specs.Prelude.{ℕ, suc, List, [], ◌++◌, take}
+use Rattle.std.specs.Prelude.{ℕ, suc, List, ◌++◌, take}
 use Rattle.go_meaning.specs.Values.{Value}
 use Rattle.go_meaning.specs.Computations.{World, Ending, Next, Return, Break, Continue, Fallthrough, Panics, Outcome, Ends, Undecided, Comp, end_by, give}
 

@@ -1,5 +1,5 @@
 -- What tasks come to.
-use Rattle.std.specs.Prelude.{ℕ, suc, pos, ◌-◌, Bool, true, false, List, [], ◌∷◌, ◌≡◌, length, replicate, take, drop, ◌<◌, IfSome}
+use Rattle.std.specs.Prelude.{ℕ, suc, pos, ◌-◌, Bool, true, false, List, [], ◌∷◌, ◌≡◌, replicate, take, drop, ◌<◌, IfSome}
 use Rattle.go_grammar.specs.declared.kind.Comparison.TheVariants.{Equal}
 use Rattle.go_types.specs.Tables.{type_of, rights_of}
 use Rattle.go_typed.specs.declared.node.TypedNode.{TypedNode}

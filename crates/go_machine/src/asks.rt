@@ -12,14 +12,14 @@ use go_values::Value;
 use std::alloc::Global;
 
 impl<'a> Engine<'a> {
-    ghost use Rattle.std.specs.Prelude.{ℕ, length, IfOk};
+    ghost use Rattle.std.specs.Prelude.{length, IfOk};
     ghost use Rattle.go_typed.specs.Packages.{PackageView};
     ghost use Rattle.go_typed.specs.Views.{Known};
     ghost use Rattle.go_values.specs.Views.{view};
     ghost use Rattle.go_meaning.specs.Doings.{at};
     ghost use Rattle.go_machine.specs.Tasks.{IsFit, parts_of};
     ghost use Rattle.go_machine.specs.Giving.{IsGiven};
-    ghost use Rattle.go_machine.specs.Engines.{Goes, IsPushed, asks_part, seeks_part, lays, lays_value, lays_find, lays_values, lays_finds, lays_given};
+    ghost use Rattle.go_machine.specs.Engines.{Goes, asks_part, seeks_part, lays, lays_value, lays_find, lays_values, lays_finds, lays_given};
 
     /// Gives the value of a part that is ready, and nothing for one that isn't there; false where neither is so.
     ///

@@ -22,7 +22,6 @@ pub fn is_loop(node: &TypedNode) -> bool
 
 impl<'a> Engine<'a> {
     ghost use Rattle.std.specs.Prelude.{length};
-    ghost use Rattle.go_typed.specs.Packages.{PackageView};
     ghost use Rattle.go_typed.specs.Views.{Known};
     ghost use Rattle.go_machine.specs.declared.task.What.TheVariants as what;
     ghost use Rattle.go_machine.specs.Engines.{Goes, works};

@@ -16,12 +16,13 @@ use Rattle.go_typed.specs.declared.form.Referent.{Referent}
 use Rattle.go_typed.specs.declared.form.Referent.TheVariants as referent
 use Rattle.go_typed.specs.Trees.{Sort, Constant, OpenConstant, Label, Typed, typed, Typeds, form_of}
 use Rattle.go_typed.specs.Trees as trees
+use Rattle.go_typed.specs.Forms.{is_default}
 use Rattle.go_meaning.specs.Values.{Value, NilFunction, nth}
 use Rattle.go_meaning.specs.Computations.{World, Ending, Next, Return, Break, Continue, Fallthrough, Panics, Outcome, Ends, Undecided, output_of}
 use Rattle.go_meaning.specs.Operations as does
 use Rattle.go_meaning.specs.Plans.{Plan, Give, Local, Declare}
 use Rattle.go_meaning.specs.Plans as plans
-use Rattle.go_meaning.specs.Planning.{part_at, is_there, sort_type, type_there, sort_there, calls_there, shape_of, shape_at, zero_in, element_of, step_operation, operation, binary_plan, unary_operation, conversion, index_plan, place_of, places_from, places_of, composite_plan, builtin_plan, call_plan, object_plan, is_default, default_at, at_most_one, items_of, form_plan, sort_plan}
+use Rattle.go_meaning.specs.Planning.{part_at, is_there, sort_type, type_there, sort_there, calls_there, shape_of, shape_at, zero_in, element_of, step_operation, operation, binary_plan, unary_operation, conversion, index_plan, place_of, places_from, places_of, composite_plan, builtin_plan, call_plan, object_plan, default_at, at_most_one, items_of, form_plan, sort_plan}
 use Rattle.go_meaning.specs.Meaning.{Code, with_arguments, frame_of, Program, bounded, program, start, run}
 use Rattle.go_meaning.specs.Laws.{IsPrefix, IsAlike}
 use Rattle.go_meaning.specs.Renaming.{form_renamed, tree_renamed, trees_renamed, IsFormBelow, IsBelow, AreBelow, IsOneToOne, Agree, AreParametersBelow, IsRenamed, AreRenamed}

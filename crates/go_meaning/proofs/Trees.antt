@@ -1,15 +1,15 @@
 -- Trees and packages: the output only grows.
-use Rattle.std.proofs.Common.{ℕ, zero, suc, List, [], ◌∷◌, Option, Some, None}
+use Rattle.std.proofs.Common.{ℕ, zero, suc, List, [], Option, Some, None}
 use Rattle.std.specs.Prelude.{Bool, true, false, slice_get}
 use Rattle.go_types.specs.Trees.{TypeTree}
 use Rattle.go_types.specs.Relations.{Rights}
 use Rattle.go_typed.specs.Trees.{Typed, typed, Typeds, none, more, skip}
 use Rattle.go_meaning.specs.Values.{Value}
-use Rattle.go_meaning.specs.Computations.{Comp, give, in_order}
+use Rattle.go_meaning.specs.Computations.{Comp, give}
 use Rattle.go_meaning.specs.Operations.{ReadByte}
 use Rattle.go_meaning.specs.Planning.{plan}
-use Rattle.go_meaning.specs.Meaning.{turned, meaning, meanings, Code, frame_of, entered, has_body, called, Program, bounded, all_bounded, program}
-use Rattle.go_meaning.proofs.Growing.{Grows, AllGrow, Grown, AllGrown, undecided_grows, give_grows, operate_grows, enter_grows, spend_grows, then_grows, in_order_grows, plain_grown, doing_grown}
+use Rattle.go_meaning.specs.Meaning.{turned, meaning, meanings, Code, frame_of, entered, has_body, called, Program, bounded}
+use Rattle.go_meaning.proofs.Growing.{Grows, Grown, AllGrown, undecided_grows, give_grows, operate_grows, enter_grows, spend_grows, plain_grown, doing_grown}
 
 module _ (rights : Rights) (call : ℕ → List Value → Comp) (later : Typed TypeTree → Comp) (hc : (g : ℕ) (vs : List Value) → Grows (call g vs)) (hl : (t : Typed TypeTree) → Grows (later t)) where
   mutual
@@ -32,10 +32,3 @@ called_grows later hl vs (Some g) = spend_grows (entered (has_body g) (frame_of 
 pub bounded_grows : (P : Program) (n : ℕ) (t : Typed TypeTree) → Grows (bounded P n t)
 bounded_grows P zero t = undecided_grows
 bounded_grows P (suc n) t = (meaning_grown P.rights (λ g vs. called (bounded P n) vs (slice_get P.functions g)) (bounded P n) (λ g vs. called_grows (bounded P n) (bounded_grows P n) vs (slice_get P.functions g)) (bounded_grows P n) t).value
-
-all_bounded_grow : (P : Program) (n : ℕ) (ts : List (Typed TypeTree)) → AllGrow (all_bounded P n ts)
-all_bounded_grow P n [] = tt
-all_bounded_grow P n (t ∷ ts) = (bounded_grows P n t, all_bounded_grow P n ts)
-
-pub program_grows : (P : Program) (n : ℕ) → Grows (program P n)
-program_grows P n = then_grows (in_order (all_bounded P n P.variables)) (λ no. called (bounded P n) [] (slice_get P.functions P.main)) (in_order_grows (all_bounded P n P.variables) (all_bounded_grow P n P.variables)) (λ no. called_grows (bounded P n) (bounded_grows P n) [] (slice_get P.functions P.main))

@@ -100,9 +100,6 @@ at_zero = index (declared 0) (local (slice (declared 0)) 0) (p 0)
 abbrev pub a : Tree
 a = variable pair 0
 
-abbrev pub sets : ℕ → Tree → List Tree
-sets i x = assign (index int a (num (pos i))) x ∷ []
-
 -- `s := []int{5}; var a [2]int; for a[p(1)] = range s {}`
 abbrev pub fills : Code
 fills = main_of 2 (define ints 0 (literal ints (num (pos 5) ∷ [])) ∷ variable_of pair 1 ∷ range (index int (local pair 1) (p 1) ∷ []) (local ints 0) [] ∷ [])

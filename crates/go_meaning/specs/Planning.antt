@@ -3,8 +3,6 @@ use Rattle.std.specs.Prelude.{ℕ, zero, suc, Bool, true, false, if◌then◌els
 use Rattle.std.specs.Option.{unwrap_or}
 use Rattle.go_ints.specs.declared.kinds.Kind.{Kind}
 use Rattle.go_ints.specs.declared.kinds.Kind.TheVariants as kind
-use Rattle.go_ints.specs.declared.operators.Op.{Op}
-use Rattle.go_ints.specs.declared.operators.Op.TheVariants as op
 use Rattle.go_grammar.specs.declared.kind.Arithmetic.{Arithmetic}
 use Rattle.go_grammar.specs.declared.kind.Arithmetic.TheVariants as arithmetic
 use Rattle.go_grammar.specs.declared.kind.Operator.{Operator}
@@ -24,6 +22,8 @@ use Rattle.go_typed.specs.declared.form.Form.TheVariants as form
 use Rattle.go_typed.specs.declared.form.Referent.{Referent}
 use Rattle.go_typed.specs.declared.form.Referent.TheVariants as referent
 use Rattle.go_typed.specs.Trees.{Sort, Nothing, Println, Builtin, IsType, Constant, OpenConstant, Label, Typed, Typeds, none, more, skip, form_of, label_of, sort_of}
+use Rattle.go_typed.specs.Forms.{is_default}
+use Rattle.go_typed.specs.Operators.{op_of}
 use Rattle.go_typed.specs.Trees as trees
 use Rattle.go_meaning.specs.Values.{Function, zero_value, const_value}
 use Rattle.go_meaning.specs.Operations.{Operation, Items, Fixed, Elements, Cells, Runes}
@@ -83,19 +83,6 @@ element_of (slice t) = t
 element_of t = boolean
 
 -- ---- operators, by the underlying type of the operand, of a shift by that of the left one
-
-abbrev pub op_of : Arithmetic → Op
-op_of arithmetic.Add = op.Add
-op_of arithmetic.Subtract = op.Sub
-op_of arithmetic.Or = op.Or
-op_of arithmetic.Xor = op.Xor
-op_of arithmetic.Multiply = op.Mul
-op_of arithmetic.Divide = op.Div
-op_of arithmetic.Remainder = op.Rem
-op_of arithmetic.ShiftLeft = op.Shl
-op_of arithmetic.ShiftRight = op.Shr
-op_of arithmetic.And = op.And
-op_of arithmetic.AndNot = op.AndNot
 
 abbrev pub operation : Arithmetic → TypeTree → Operation
 operation o text = does.Join
@@ -181,10 +168,6 @@ object_plan rights _ t = plans.Skip
 -- the names, their type if it is written, their values if there are any
 abbrev pub specified_plan : Rights → ℕ → Typeds TypeTree → Plan
 specified_plan rights n ps = if is_there (part_at ps (suc n)) then plans.AssignTo n else plans.ZeroTo n (zero_in rights (type_there (part_at ps n)))
-
-abbrev pub is_default : Form → Bool
-is_default form.Default = true
-is_default f = false
 
 -- the place of the default clause among the parts, or that behind all
 abbrev pub default_at : Typeds TypeTree → ℕ

@@ -1,17 +1,16 @@
 -- A file's tree tells of its functions in their order, and of no others.
-use Rattle.std.proofs.Common.{◌≡◌, ◌∙◌, ℕ, suc, ◌<◌, ◌⊎◌, inl, inr, Bool, true, false, List, [], ◌∷◌, ◌++◌, map, refl, sym, ap, arith}
+use Rattle.std.proofs.Common.{◌≡◌, ◌∙◌, ℕ, suc, ◌<◌, Bool, true, false, List, [], ◌∷◌, ◌++◌, map, refl, ap, arith}
 use Rattle.std.specs.Prelude.{nat_lt, if◌then◌else◌, ◌&&◌}
 use Rattle.std.proofs.lemmas.Bool.Decides.{nat_tests}
 use Rattle.go_tokens.specs.declared.token.TokenKind.{TokenKind}
 use Rattle.go_tokens.specs.declared.token.TokenKind.TheVariants as token
-use Rattle.go_grammar.specs.declared.kind.Kind.{Kind}
 use Rattle.go_grammar.specs.declared.kind.Kind.TheVariants as kind
 use Rattle.go_grammar.specs.declared.kind.Place.TheVariants as place
 use Rattle.go_grammar.specs.declared.kind.Category.TheVariants as category
-use Rattle.go_grammar.specs.Rules.{Items, Each, Many}
-use Rattle.go_grammar.specs.Trees.{Tree, node, Trees, none, more, skip, kind_of, first, last, parts}
+use Rattle.go_grammar.specs.Rules.{Each, Many}
+use Rattle.go_grammar.specs.Trees.{Tree, node, Trees, none, more, skip, last}
 use Rattle.go_grammar.specs.Grammar.{IsFile, rule, Derives, Spells, Goes, ends_named}
-use Rattle.go_tree.specs.Views.{part_at, behind_first}
+use Rattle.go_tree.specs.Views.{part_at}
 use Rattle.go_tree.specs.Lists as lists
 use Rattle.go_tree.specs.declared.context.Context.{Context}
 use Rattle.go_tree.specs.declared.event.Event.{Event}

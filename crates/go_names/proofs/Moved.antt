@@ -7,7 +7,7 @@ use Rattle.go_grammar.specs.declared.kind.Kind.{Kind}
 use Rattle.go_grammar.specs.declared.kind.Kind.TheVariants as kind
 use Rattle.go_grammar.specs.declared.kind.Sort.{Sort}
 use Rattle.go_grammar.specs.declared.kind.Sort.TheVariants as sort
-use Rattle.go_grammar.specs.Trees.{Tree, node, Trees, none, more, skip, kind_of, first, last, parts}
+use Rattle.go_grammar.specs.Trees.{Tree, node, Trees, none, more, skip}
 use Rattle.go_grammar.specs.Grammar.{is_name, is_parameter, ends_from, ends_named, count}
 use Rattle.go_tree.specs.Views.{part_at}
 use Rattle.go_tree.specs.declared.context.Block.{Block}
@@ -24,9 +24,9 @@ use Rattle.go_tree.specs.declared.context.Context.{Context}
 use Rattle.go_tree.specs.declared.event.Event.{Event}
 use Rattle.go_tree.specs.declared.event.Event.TheVariants as event
 use Rattle.go_tree.specs.Contexts as contexts
-use Rattle.go_tree.specs.Contexts.{is_there, opens, block_in, end_in, role_in, site_in, specification_in, source_in, source_at, own_source, has_values, group_in, parameters_in, function_parameters, body_scope, is_package, package_value, initial_in, is_called, called_in, if_name, if_first, field_role, key_role, parameter_role, entry_role, value_site, column_site, typed_site, sequence_site, length_site, element_site, enter}
+use Rattle.go_tree.specs.Contexts.{is_there, opens, block_in, end_in, role_in, site_in, specification_in, source_in, source_at, has_values, group_in, parameters_in, function_parameters, body_scope, is_package, package_value, initial_in, is_called, called_in, if_name, if_first, field_role, key_role, parameter_role, entry_role, value_site, column_site, typed_site, sequence_site, length_site, element_site, enter}
 use Rattle.go_tree.specs.Events.{name_events, declaration_events, function_events, misplaced, is_default, default_events, second_defaults, own_events, statement_events, is_more, pass, begin, events, events_of}
-use Rattle.go_names.specs.Moved.{moved, all_moved, moved_token, moved_scope, moved_scopes, moved_block, moved_role, moved_site, moved_context, moved_event}
+use Rattle.go_names.specs.Moved.{moved, all_moved, moved_token, moved_scopes, moved_block, moved_role, moved_site, moved_context, moved_event}
 
 -- ---- numbers
 
@@ -37,12 +37,6 @@ less_moved : (n i j : ℕ) → nat_lt (n + i) (n + j) ≡ nat_lt i j
 less_moved n i j = grind (arith, nat_tests)
 
 -- ---- rows of parts
-
-kind_moved : (n : ℕ) (p : Tree) → kind_of (moved n p) ≡ kind_of p
-kind_moved n (node k i j ps) = refl
-
-first_moved : (n : ℕ) (p : Tree) → first (moved n p) ≡ n + first p
-first_moved n (node k i j ps) = refl
 
 count_moved : (n : ℕ) (ps : Trees) → count (all_moved n ps) ≡ count ps
 count_moved n none = refl

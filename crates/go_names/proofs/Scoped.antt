@@ -1,5 +1,5 @@
 -- Each declaration that a tree tells has the scope that its place in the tree gives it.
-use Rattle.std.proofs.Common.{◌≡◌, ◌∙◌, ℕ, zero, suc, ◌<◌, ◌≤◌, ◌⊎◌, inl, inr, Bool, true, false, List, [], ◌∷◌, ◌++◌, Option, Some, None, refl, sym, ap, subst, arith}
+use Rattle.std.proofs.Common.{◌≡◌, ◌∙◌, ℕ, suc, ◌<◌, ◌≤◌, inl, inr, Bool, true, false, List, [], ◌∷◌, ◌++◌, Some, None, refl, sym, ap, subst, arith}
 use Rattle.std.specs.Prelude.{nat_lt, if◌then◌else◌}
 use Rattle.go_tokens.specs.declared.token.TokenKind.{TokenKind}
 use Rattle.go_grammar.specs.declared.kind.Kind.{Kind}
@@ -18,7 +18,7 @@ use Rattle.go_tree.specs.Events.{statement_events, own_events, function_events, 
 use Rattle.go_tree.specs.declared.event.Event.TheVariants as event
 use Rattle.go_names.specs.Orders.{AreInOrder, EachDeclared}
 use Rattle.go_names.specs.Scoped.{IsBehind, IsScoped, IsAmong, IsInFunction}
-use Rattle.go_names.proofs.Rising.{behind_name, IsLaidOut, LieIn, lie_order, laid_grows, derives_laid, events_order}
+use Rattle.go_names.proofs.Rising.{behind_name, IsLaidOut, LieIn, lie_order, derives_laid, events_order}
 use Rattle.go_names.proofs.Layers.{Naming as NamingLayer, Function, Body, Holding, layer, ArePlain, IsLayered, AreLayered, layered_naming, derives_layered}
 use Rattle.go_names.proofs.Nesting.{each_append, each_map, statement_each, own_only, plain_only, parts_only, IsOnly, Given, RoleGives, ScopeGives, some_is, behind_scope, naming_given, holding_given, self_gives, body_behind, not_both}
 use Rattle.go_names.proofs.Inside.{each_between}

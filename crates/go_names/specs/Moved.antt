@@ -1,5 +1,5 @@
 -- Trees whose tokens stand n tokens further on, and what these tell.
-use Rattle.std.specs.Prelude.{ℕ, ◌+◌, Bool, if◌then◌else◌, nat_eq, Option, Some, None}
+use Rattle.std.specs.Prelude.{ℕ, ◌+◌, if◌then◌else◌, nat_eq, Option, Some, None}
 use Rattle.std.specs.Option.{option_map}
 use Rattle.go_grammar.specs.Trees.{Tree, node, Trees, none, more, skip}
 use Rattle.go_tree.specs.declared.context.Block.{Block}

@@ -8,30 +8,19 @@ ghost use Rattle.go_tree.specs.declared.context.Context.{Context};
 ghost use Rattle.go_tree.specs.declared.context.Site.TheVariants as site;
 ghost use Rattle.go_tree.specs.Contexts.{file_context};
 ghost use Rattle.go_tree.specs.Events.{events};
-ghost use Rattle.go_tree.specs.Meanings.{Meaning, meanings, meaning_at};
+ghost use Rattle.go_tree.specs.Meanings.{meanings};
 ghost use Rattle.go_tree.specs.Units as names;
 ghost use Rattle.go_names.specs.Functions.{functions_told, function_names};
 ghost use Rattle.go_names.specs.Moved.{moved, moved_context, moved_event};
 ghost use Rattle.go_names.specs.Inside.{LocalsInside, nowhere};
-ghost use Rattle.go_names.specs.Orders.{AreInOrder, EachDeclared, ScopesNest, IsFollowed, LocalsFollow};
+ghost use Rattle.go_names.specs.Orders.{AreInOrder, EachDeclared, LocalsFollow};
 ghost use Rattle.go_names.specs.Scoped.{IsScoped};
 ghost use Rattle.go_names.specs.Sited.{EachUsed, IsSited};
-ghost use Rattle.go_names.specs.Scopes.{AreNested, AreSwept, IsOrderly, AreOrderly, locals_of, reached, inmost, first_by, is_import, is_package};
+ghost use Rattle.go_names.specs.Scopes.{AreNested, AreSwept, IsOrderly, AreOrderly, locals_of};
 
 /// The names that are declared or looked up stand in the order of their tokens.
 pub fn names_are_in_order()
     ensures { (ts : List TokenKind) (t : Tree) → IsFile ts t → AreInOrder 0 (last t) (events (file_context (last t)) t) }
-{}
-
-/// The scope of each declaration lies behind those of all earlier ones, or inside them.
-pub fn scopes_nest()
-    ensures { (ts : List TokenKind) (t : Tree) → IsFile ts t → ScopesNest (events (file_context (last t)) t) }
-{}
-
-/// No scope ends before it begins. A local type is in scope from its name on, every other local name behind itself, and no
-/// function is local.
-pub fn scopes_follow()
-    ensures { (ts : List TokenKind) (t : Tree) → IsFile ts t → EachDeclared IsFollowed (events (file_context (last t)) t) }
 {}
 
 /// Each declared name has the scope that the specification of Go gives it by its place in the tree: a constant or variable
@@ -49,12 +38,6 @@ pub fn locals_stand_in_functions()
 /// Each local stands inside the last function in front of it, and its scope ends there.
 pub fn locals_stand_inside_functions()
     ensures { (ts : List TokenKind) (t : Tree) → IsFile ts t → LocalsInside nowhere (events (file_context (last t)) t) }
-{}
-
-/// Where scopes nest, a name means the innermost of the local meanings at its place, which is found one by one in their order;
-/// else what is imported; else what the package declares.
-pub fn meanings_are_reached()
-    ensures { (n t : ℕ) (w : List ℕ) (ms : List Meaning) → AreNested (locals_of n ms) → meaning_at ms n t w ≡ reached (inmost n t w None (locals_of n ms)) (first_by (is_import n) w ms) (first_by is_package w ms) }
 {}
 
 /// What the tree of a file tells has names in order, scopes that nest, and no locals in front of its functions.

@@ -2,9 +2,8 @@
 
 ghost use Rattle.std.specs.Prelude.{◌≡◌, ◌<◌, ◌++◌, ◌∷◌, [], IfOk, OnOk, false, true};
 ghost use Rattle.go_grammar.specs.Trees.{kind_of, first, last, parts};
-ghost use Rattle.go_tree.specs.Views.{view, views, part_at};
+ghost use Rattle.go_tree.specs.Views.{view, views};
 ghost use Rattle.go_tree.specs.declared.event.Event.TheVariants as event;
-ghost use Rattle.go_tree.specs.Contexts.{is_there};
 ghost use Rattle.go_tree.specs.Shortened.{is_looked_up};
 ghost use Rattle.go_tree.specs.Events.{declared, used, parameter_declared, parameter_events, name_events, function_declared, function_events, declaration_events, type_declared, misplaced, is_default, default_events, second_defaults, own_events, statement_events};
 

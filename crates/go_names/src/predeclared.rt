@@ -2,7 +2,7 @@
 
 ghost use Rattle.std.specs.Prelude.{◌≡◌, map};
 ghost use Rattle.go_tokens.specs.Spellings.{same_text, listed};
-ghost use Rattle.go_tree.specs.Predeclared.{known_names, unknown_names, known_in};
+ghost use Rattle.go_tree.specs.Predeclared.{unknown_names, known_in};
 ghost use Rattle.go_tree.specs.Objects.{predeclared_object};
 
 use go_tree::object::{Object, Predeclared};

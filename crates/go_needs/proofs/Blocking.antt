@@ -19,7 +19,7 @@ use Rattle.go_needs.specs.Blocked.{any_below, any_by, any_column, any_there, fla
 use Rattle.go_needs.specs.Groups.{Seen, group_view, group_in}
 use Rattle.go_needs.specs.Levels.{near, fails_at}
 use Rattle.go_needs.specs.Owners.{owner_of}
-use Rattle.go_needs.specs.Parts.{Place, same_place}
+use Rattle.go_cycles.specs.Ranks.{Place, same_place}
 use Rattle.go_needs.specs.Passing.{is_faulty, is_misassigned}
 use Rattle.go_needs.specs.Reached.{AreCalls, IsOurs, TellFailing, Reaches}
 use Rattle.go_needs.specs.Tells.{TellsNeeds}

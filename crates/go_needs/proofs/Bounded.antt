@@ -12,12 +12,12 @@ use Rattle.go_needs.specs.declared.calls.Call.{Call}
 use Rattle.go_needs.specs.declared.levels.Levels.{Levels}
 use Rattle.go_needs.specs.declared.needs.Needs.{Needs}
 use Rattle.go_needs.specs.declared.owners.Owner.{Owner}
-use Rattle.go_needs.specs.declared.parts.Part.TheVariants as part
+use Rattle.go_cycles.specs.declared.ranks.Part.TheVariants as part
 use Rattle.go_needs.specs.Bounds.{AtMost, AllAtMost, AreBounds, level_under, is_low, bounds_one, bounds_by, is_bounded, are_bounded}
 use Rattle.go_needs.specs.Calls.{calls_of, fits}
 use Rattle.go_needs.specs.Levels.{level_of, nearer, here, nearest, near_in, near, KnowsNearest}
 use Rattle.go_needs.specs.Owners.{owner_of}
-use Rattle.go_needs.specs.Parts.{Place, same_place, own_part}
+use Rattle.go_cycles.specs.Ranks.{Place, same_place, own_part}
 use Rattle.go_needs.specs.Reached.{IsOurs}
 use Rattle.go_needs.specs.Tells.{TellsNeeds}
 use Rattle.go_needs.proofs.Called.{Each, Fits, Has, all_none}

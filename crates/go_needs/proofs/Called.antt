@@ -7,16 +7,18 @@ use Rattle.go_tree.specs.declared.context.Site.{Site}
 use Rattle.go_tree.specs.declared.context.Site.TheVariants as site
 use Rattle.go_tree.specs.Needs.{Needed, if_so, way, way_by, needs}
 use Rattle.go_cycles.specs.Needs.{source_of, way_of, needed_in, needed_by}
+use Rattle.go_cycles.specs.Columns.{same_source}
+use Rattle.go_cycles.specs.Ranks.{Place}
 use Rattle.go_cycles.proofs.AllNeeded.{needs_some, needs_none}
 use Rattle.go_package.specs.Sources.{Package, number_at}
 use Rattle.go_needs.specs.declared.calls.Call.{Call}
 use Rattle.go_needs.specs.declared.levels.Levels.{Levels}
 use Rattle.go_needs.specs.declared.owners.Owner.{Owner}
-use Rattle.go_needs.specs.declared.parts.Part.{Part}
+use Rattle.go_cycles.specs.declared.ranks.Part.{Part}
 use Rattle.go_needs.specs.Calls.{is_counted, number_of, call_at, call_if, call_of, with_call, calls_of, is_owner, is_fit, fits_if, fits_one, fits}
 use Rattle.go_needs.specs.Levels.{level_of, nearer, here, nearest, near_in, near}
-use Rattle.go_needs.specs.Owners.{owner_of, same_source, same_owner, has_source}
-use Rattle.go_needs.specs.Parts.{Place, full_place, partial_place, place_of}
+use Rattle.go_needs.specs.Owners.{owner_of, same_owner, has_source}
+use Rattle.go_needs.specs.Parts.{full_place, partial_place, place_of}
 use Rattle.go_needs.specs.Reached.{IsOurs}
 use Rattle.go_needs.proofs.Standing.{both_left, both_right, same_number, so_holds, so_value, IsOwnPart, way_place, counted, place_way}
 use Rattle.go_needs.proofs.Lowest.{left_none, right_none, one_some, here_itself, here_some, none_near, some_near}

@@ -19,7 +19,7 @@ use Rattle.go_needs.specs.Groups.{roots}
 use Rattle.go_needs.specs.Levels.{near}
 use Rattle.go_needs.specs.Objects.{with_column, owner_in}
 use Rattle.go_needs.specs.Owners.{owner_of}
-use Rattle.go_needs.specs.Parts.{Place, same_place}
+use Rattle.go_cycles.specs.Ranks.{Place, same_place}
 use Rattle.go_needs.specs.Reached.{IsOurs, Reaches}
 use Rattle.go_needs.specs.Tells.{TellsNeeds}
 use Rattle.go_needs.proofs.Declares.{declares}

@@ -1,5 +1,5 @@
 -- Items of lists that are made from one another.
-use Rattle.std.proofs.Common.{◌≡◌, ◌∙◌, ℕ, zero, suc, ◌<◌, nat_lt, List, [], ◌∷◌, length, map, Option, Some, None, is_some, IfSome, refl, ap, sym, arith}
+use Rattle.std.proofs.Common.{◌≡◌, ◌∙◌, ℕ, zero, suc, ◌<◌, List, [], ◌∷◌, length, map, Option, Some, None, IfSome, refl, ap, sym, arith}
 use Rattle.std.specs.Prelude.{slice_get}
 
 pub map_length : {A B : Type 0} (f : A → B) (xs : List A) → length (map f xs) ≡ length xs
@@ -47,14 +47,6 @@ pub below : {A : Type 0} (xs : List A) (k : ℕ) (x : A) → slice_get xs k ≡ 
 below [] k x e = absurd (grind (arith, e))
 below (y ∷ ys) zero x e = omega arith
 below (y ∷ ys) (suc k) x e = let h = below ys k x e in omega (arith, h)
-
-pub some_at : {A : Type 0} (xs : List A) (k : ℕ) → is_some (slice_get xs k) ≡ nat_lt k (length xs)
-some_at [] k = grind arith
-some_at (x ∷ xs) zero = grind arith
-some_at (x ∷ xs) (suc k) = some_at xs k ∙ shifted k (length xs)
-  where
-    shifted : (k n : ℕ) → nat_lt k n ≡ nat_lt (suc k) (suc n)
-    shifted k n = grind arith
 
 pub if_there : {A : Type 0} (o : Option A) (P : A → Type 0) → ((x : A) → o ≡ Some x → P x) → IfSome o P
 if_there None P f = tt

@@ -15,7 +15,7 @@ use Rattle.go_needs.specs.declared.needs.Passing.{Passing}
 use Rattle.go_needs.specs.declared.owners.Owner.{Owner}
 use Rattle.go_needs.specs.Blocked.{passing_of, passings, not_passing}
 use Rattle.go_needs.specs.Levels.{near, fails_at}
-use Rattle.go_needs.specs.Parts.{Place, same_place}
+use Rattle.go_cycles.specs.Ranks.{Place, same_place}
 use Rattle.go_needs.specs.Passing.{ArePassing}
 use Rattle.go_needs.specs.Reached.{AreCalls, TellFailing, Reaches}
 use Rattle.go_needs.specs.Tells.{TellsNeeds}

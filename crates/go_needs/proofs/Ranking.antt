@@ -20,7 +20,7 @@ use Rattle.go_needs.specs.Calls.{calls_of}
 use Rattle.go_needs.specs.Groups.{Seen, group_view}
 use Rattle.go_needs.specs.Levels.{near, nearest, fails_at, level_of, KnowsNearest}
 use Rattle.go_needs.specs.Owners.{owner_of}
-use Rattle.go_needs.specs.Parts.{Place, same_place}
+use Rattle.go_cycles.specs.Ranks.{Place, same_place}
 use Rattle.go_needs.specs.Passing.{is_faulty, is_misassigned}
 use Rattle.go_needs.specs.Ranks.{rank_at, rank_by, own_bound, AreRanks, low_below, low_by, is_ranked, are_ranked, descends, is_lower, is_lower_at, are_lower, is_under, any_under, all_from, shown_by, is_shown, shown}
 use Rattle.go_needs.specs.Reached.{IsOurs}

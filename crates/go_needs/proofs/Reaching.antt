@@ -9,7 +9,7 @@ use Rattle.go_needs.specs.declared.owners.Owner.{Owner}
 use Rattle.go_needs.specs.Calls.{calls_of, fits}
 use Rattle.go_needs.specs.Levels.{level_of, nearest, near, settled}
 use Rattle.go_needs.specs.Owners.{owner_of}
-use Rattle.go_needs.specs.Parts.{Place}
+use Rattle.go_cycles.specs.Ranks.{Place}
 use Rattle.go_needs.specs.Reached.{IsOurs}
 use Rattle.go_needs.proofs.Standing.{both_left, both_right, same_number}
 use Rattle.go_needs.proofs.Here.{ours_object}

@@ -6,10 +6,11 @@ use Rattle.go_tree.specs.declared.context.Reach.TheVariants as reach
 use Rattle.go_tree.specs.Needs.{if_so, right_way, way_by}
 use Rattle.go_needs.specs.Calls.{is_counted}
 use Rattle.go_needs.specs.declared.owners.Owner.{Owner}
-use Rattle.go_needs.specs.declared.parts.Part.{Part}
-use Rattle.go_needs.specs.declared.parts.Part.TheVariants as part
+use Rattle.go_cycles.specs.declared.ranks.Part.{Part}
+use Rattle.go_cycles.specs.declared.ranks.Part.TheVariants as part
 use Rattle.go_needs.specs.Owners.{has_source}
-use Rattle.go_needs.specs.Parts.{Place, same_part, same_place, place_of, own_part}
+use Rattle.go_cycles.specs.Ranks.{Place, same_part, same_place, own_part}
+use Rattle.go_needs.specs.Parts.{place_of}
 
 pub both_left : (b c : Bool) → (b && c) ≡ true → b ≡ true
 both_left true c e = refl
@@ -39,38 +40,11 @@ so_value false w g e = absurd (grind (arith, e))
 abbrev pub IsOwnPart : ℕ → Bool → Part → Type 0
 IsOwnPart c f q = (q ≡ part.Always) ⊎ ((q ≡ part.Value c) ⊎ (q ≡ own_part f))
 
-part_sound : (p q : Part) → same_part p q ≡ true → p ≡ q
-part_sound part.Always part.Always e = refl
-part_sound part.Always (part.Value d) e = absurd (grind (arith, e))
-part_sound part.Always part.Full e = absurd (grind (arith, e))
-part_sound part.Always part.Partial e = absurd (grind (arith, e))
-part_sound (part.Value c) part.Always e = absurd (grind (arith, e))
-part_sound (part.Value c) (part.Value d) e = grind (arith, e)
-part_sound (part.Value c) part.Full e = absurd (grind (arith, e))
-part_sound (part.Value c) part.Partial e = absurd (grind (arith, e))
-part_sound part.Full part.Always e = absurd (grind (arith, e))
-part_sound part.Full (part.Value d) e = absurd (grind (arith, e))
-part_sound part.Full part.Full e = refl
-part_sound part.Full part.Partial e = absurd (grind (arith, e))
-part_sound part.Partial part.Always e = absurd (grind (arith, e))
-part_sound part.Partial (part.Value d) e = absurd (grind (arith, e))
-part_sound part.Partial part.Full e = absurd (grind (arith, e))
-part_sound part.Partial part.Partial e = refl
-
 part_itself : (p : Part) → same_part p p ≡ true
 part_itself part.Always = refl
 part_itself (part.Value c) = grind arith
 part_itself part.Full = refl
 part_itself part.Partial = refl
-
-place_same : (n s : ℕ) (p : Part) (j t : ℕ) (q : Part) → nat_eq n j ≡ true → nat_eq s t ≡ true → p ≡ q → ◌≡◌ {A = Place} ((n, s), p) ((j, t), q)
-place_same n s p j t q e d h = grind (arith, e, d, h)
-
-pub place_sound : (a b : Place) → same_place a b ≡ true → a ≡ b
-place_sound a b e =
-    let spot = both_left (nat_eq a.0.0 b.0.0 && nat_eq a.0.1 b.0.1) (same_part a.1 b.1) e in
-    place_same a.0.0 a.0.1 a.1 b.0.0 b.0.1 b.1 (both_left (nat_eq a.0.0 b.0.0) (nat_eq a.0.1 b.0.1) spot) (both_right (nat_eq a.0.0 b.0.0) (nat_eq a.0.1 b.0.1) spot)
-    (part_sound a.1 b.1 (both_right (nat_eq a.0.0 b.0.0 && nat_eq a.0.1 b.0.1) (same_part a.1 b.1) e))
 
 pub place_itself : (a : Place) → same_place a a ≡ true
 place_itself a = ap (λ b. (b && nat_eq a.0.1 a.0.1) && same_part a.1 a.1) (number_itself a.0.0) ∙ (ap (λ b. b && same_part a.1 a.1) (number_itself a.0.1) ∙ part_itself a.1)

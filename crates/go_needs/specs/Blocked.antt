@@ -6,7 +6,7 @@ use Rattle.go_needs.specs.declared.groups.Group.{Group}
 use Rattle.go_needs.specs.declared.needs.Passing.{Passing}
 use Rattle.go_needs.specs.declared.owners.Owner.{Owner}
 use Rattle.go_needs.specs.Levels.{near, fails_at}
-use Rattle.go_needs.specs.Parts.{Place}
+use Rattle.go_cycles.specs.Ranks.{Place}
 
 abbrev pub passing_of : (Place → Option ℕ) → List Bool → ℕ → Owner → Passing
 passing_of g bs n o = record { at_once = fails_at bs n && not (is_some (near g o false)); in_full = fails_at bs n && not (is_some (near g o true)) }

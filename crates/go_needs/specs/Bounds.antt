@@ -5,7 +5,7 @@ use Rattle.go_needs.specs.declared.bounds.Bound.{Bound}
 use Rattle.go_needs.specs.declared.levels.Levels.{Levels}
 use Rattle.go_needs.specs.declared.owners.Owner.{Owner}
 use Rattle.go_needs.specs.Levels.{near}
-use Rattle.go_needs.specs.Parts.{Place}
+use Rattle.go_cycles.specs.Ranks.{Place}
 
 -- No object of the list has a rank above k, and each has one.
 abbrev pub AtMost : Option ℕ → ℕ → Type 0

@@ -1,16 +1,12 @@
 -- The specifications that declarations have.
-use Rattle.std.specs.Prelude.{ℕ, Bool, true, false, ◌&&◌, ◌||◌, nat_eq, List, [], ◌∷◌, Option, Some, None}
+use Rattle.std.specs.Prelude.{ℕ, Bool, false, ◌&&◌, ◌||◌, nat_eq, List, [], ◌∷◌}
 use Rattle.go_tree.specs.Declarations.{Found}
 use Rattle.go_tree.specs.Needs.{is_source}
+use Rattle.go_cycles.specs.Columns.{same_source}
 use Rattle.go_needs.specs.declared.owners.Owner.{Owner}
 
 abbrev pub owner_of : Found → Owner
 owner_of d = record { file = d.file; source = d.it.source; column = d.it.column }
-
-abbrev pub same_source : Option ℕ → Option ℕ → Bool
-same_source None None = true
-same_source (Some m) (Some n) = nat_eq m n
-same_source m n = false
 
 abbrev pub same_owner : Owner → Owner → Bool
 same_owner a b = nat_eq a.file b.file && same_source a.source b.source && nat_eq a.column b.column

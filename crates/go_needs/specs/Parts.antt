@@ -1,22 +1,10 @@
 -- The parts of specifications in which names stand.
-use Rattle.std.specs.Prelude.{ℕ, Bool, true, false, ◌&&◌, Option, Some, None}
+use Rattle.std.specs.Prelude.{ℕ, Bool, true, false, Option, Some, None}
 use Rattle.go_tree.specs.declared.context.Site.{Site}
 use Rattle.go_tree.specs.declared.context.Site.TheVariants as site
 use Rattle.go_tree.specs.declared.context.Reach.TheVariants as reach
-use Rattle.go_lookup.specs.Tables.{same_spot}
-use Rattle.go_needs.specs.declared.parts.Part.{Part}
-use Rattle.go_needs.specs.declared.parts.Part.TheVariants as part
-use Rattle.go_needs.specs.contracts.parts.PartPartialEq.TheImpl as part_eq
-
-abbrev pub same_part : Part → Part → Bool
-same_part = (part_eq.ghosts).eq
-
--- a part of a specification of a file
-abbrev pub Place : Type 0
-Place = (ℕ × ℕ) × Part
-
-abbrev pub same_place : Place → Place → Bool
-same_place a b = same_spot a.0 b.0 && same_part a.1 b.1
+use Rattle.go_cycles.specs.declared.ranks.Part.TheVariants as part
+use Rattle.go_cycles.specs.Ranks.{Place}
 
 -- where a name stands that is needed in full
 abbrev pub full_place : ℕ → Site → Option Place
@@ -36,7 +24,3 @@ partial_place n s = None
 abbrev pub place_of : Bool → ℕ → Site → Option Place
 place_of true n s = full_place n s
 place_of false n s = partial_place n s
-
-abbrev pub own_part : Bool → Part
-own_part true = part.Full
-own_part false = part.Partial

@@ -10,7 +10,7 @@ use Rattle.go_package.specs.Sources.{Package}
 use Rattle.go_package.specs.Verdicts.{needed_by_all}
 use Rattle.go_needs.specs.Bounds.{AllAtMost, is_low}
 use Rattle.go_needs.specs.Levels.{near, fails_at, level_of}
-use Rattle.go_needs.specs.Parts.{Place}
+use Rattle.go_cycles.specs.Ranks.{Place}
 
 abbrev pub rank_at : List ℕ → ℕ → ℕ
 rank_at rs n = unwrap_or (slice_get rs n) 0

@@ -10,7 +10,7 @@ use Rattle.go_needs.specs.declared.owners.Owner.{Owner}
 use Rattle.go_needs.specs.Calls.{calls_of, fits}
 use Rattle.go_needs.specs.Levels.{near, fails_at}
 use Rattle.go_needs.specs.Owners.{owner_of, has_source}
-use Rattle.go_needs.specs.Parts.{Place, same_place}
+use Rattle.go_cycles.specs.Ranks.{Place, same_place}
 
 -- The calls are those in the specifications of `all`, which has those of the objects of the package, os; and each calls for an object.
 pub record AreCalls (p : Package) (os all : List Owner) (cs : List Call) : Type 0 where

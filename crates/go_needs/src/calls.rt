@@ -9,9 +9,10 @@ ghost use Rattle.go_needs.specs.Owners.{has_source};
 ghost use Rattle.go_needs.specs.declared.owners.Owner as owner;
 
 use crate::owners::{Owner, Sources, owner_of, same_owner, sources_of};
-use crate::parts::{Place, full_place, partial_place};
+use crate::parts::{full_place, partial_place};
 use go_base::Memory;
 use go_cycles::needs::source_of;
+use go_cycles::ranks::Place;
 use go_lookup::asked::Asked;
 use go_lookup::found::Found;
 use go_tree::context::Site;

@@ -5,8 +5,9 @@ ghost use Rattle.std.specs.HashSet as set;
 ghost use Rattle.go_lookup.specs.Tables.{same_spot};
 ghost use Rattle.go_lookup.specs.Views.{found_view};
 ghost use Rattle.go_tree.specs.Needs.{is_source};
-ghost use Rattle.go_needs.specs.Owners.{owner_of, same_source, same_owner, has_source};
+ghost use Rattle.go_needs.specs.Owners.{owner_of, same_owner, has_source};
 
+use go_cycles::columns::same_source;
 use go_lookup::found::Found;
 use std::alloc::{AllocError, Global};
 use std::collections::HashSet;
@@ -32,17 +33,6 @@ pub fn owner_of(d: &Found<'_>) -> Owner
         file: d.file,
         source: d.declaration.source,
         column: d.declaration.column as usize,
-    }
-}
-
-/// Whether two declarations have one specification, or neither has one.
-fn same_source(a: Option<u32>, b: Option<u32>) -> bool
-    ensures { result ≡ same_source a b }
-{
-    match (a, b) {
-        (None, None) => true,
-        (Some(a), Some(b)) => a == b,
-        _ => false,
     }
 }
 

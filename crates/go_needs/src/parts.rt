@@ -1,25 +1,11 @@
 //! Parts of specifications, in which names stand.
 
 ghost use Rattle.std.specs.Prelude.{◌≡◌};
-ghost use Rattle.go_needs.specs.Parts.{full_place, partial_place, own_part};
+ghost use Rattle.go_cycles.specs.Ranks.{own_part};
+ghost use Rattle.go_needs.specs.Parts.{full_place, partial_place};
 
+use go_cycles::ranks::{Part, Place};
 use go_tree::context::{Reach, Site};
-
-/// A part of a specification.
-#[derive(Clone, Copy, Debug, PartialEq, Eq, Hash)]
-pub enum Part {
-    /// What each of its names needs in full.
-    Always,
-    /// What a name with this column needs.
-    Value(usize),
-    /// What a type needs that is needed in full.
-    Full,
-    /// What a type needs that is needed in part.
-    Partial,
-}
-
-/// A part of the specification of this number of a file.
-pub type Place = ((u32, u32), Part);
 
 /// Where a name of the file stands that is needed in full, if it stands in a specification.
 pub fn full_place(file: u32, site: Site) -> Option<Place>

@@ -6,9 +6,9 @@ use crate::components::{components, empty_rows, push_number};
 use crate::groups::Group;
 use crate::levels::fails_at;
 use crate::owners::Owner;
-use crate::parts::Place;
 use crate::ranked::rank_at;
 use crate::search::Seed;
+use go_cycles::ranks::Place;
 use std::alloc::{AllocError, Global};
 use std::collections::HashMap;
 

@@ -1,5 +1,5 @@
 -- Literals: the places of their elements, and the values that are put there.
-use Rattle.std.proofs.Common.{◌≡◌, ◌<◌, ◌≤◌, ◌+◌, ◌-◌, take, ℕ, zero, suc, ◌⊎◌, inl, inr, List, [], ◌∷◌, ◌++◌, Option, Some, None, drop, length, get_or, slice_get, slice_set, refl, sym, ap, ◌∙◌, arith, append_assoc, min, true, false, nat_le, Result, Ok, Err, IfOk}
+use Rattle.std.proofs.Common.{◌≡◌, ◌<◌, ◌≤◌, ◌+◌, ◌-◌, take, ℕ, zero, suc, ◌⊎◌, inl, inr, List, [], ◌∷◌, ◌++◌, Option, Some, None, drop, length, slice_get, slice_set, refl, sym, ap, ◌∙◌, arith, append_assoc, min, true, false, nat_le, Result, Ok, Err, IfOk}
 use Rattle.go_base.specs.declared.memory.Memory.{Memory}
 use Rattle.std.proofs.lemmas.Bool.Decides.{leb_tells}
 use Rattle.go_types.specs.Trees.{TypeTree}
@@ -10,7 +10,7 @@ use Rattle.go_meaning.specs.Operations.{placed}
 use Rattle.go_meaning.specs.Planning.{places_from, places_of}
 use Rattle.go_meaning.specs.Values as meant
 use Rattle.go_values.specs.declared.value.Value.{Value}
-use Rattle.go_values.specs.Views.{view, views}
+use Rattle.go_values.specs.Views.{views}
 use Rattle.go_operations.specs.Building.{place_there, with_place}
 
 pub place_step : (f : ℕ → TypeTree) (xs : List (Option TypedNode)) (i k : ℕ) (o : Option TypedNode) → slice_get xs i ≡ Some o
@@ -24,13 +24,6 @@ place_step f (Some x ∷ xs) zero k (Some y) e = ap (λ o. with_place (place_the
     some_is : (a b : Option TypedNode) → Some a ≡ Some b → a ≡ b
     some_is a b e = cc
 place_step f (x ∷ xs) (suc i) k o e = place_step f xs i k o e
-
-pub placed_step : (ps : List ℕ) (vs : List Value) (i p : ℕ) (v : Value) (xs : List meant.Value) → i < length ps → i < length vs → p ≡ get_or ps i 0 → v ≡ get_or vs i v
-    → placed (drop i ps) (views (drop i vs)) xs ≡ placed (drop (suc i) ps) (views (drop (suc i) vs)) (slice_set xs p (view v))
-placed_step [] vs i p v xs h k e f = absurd (omega arith)
-placed_step (q ∷ ps) [] i p v xs h k e f = absurd (omega arith)
-placed_step (q ∷ ps) (u ∷ vs) zero p v xs h k e f = ap (λ r. placed ps (views vs) (slice_set xs r (view u))) (sym e) ∙ ap (λ w. placed ps (views vs) (slice_set xs p (view w))) (sym f)
-placed_step (q ∷ ps) (u ∷ vs) (suc i) p v xs h k e f = placed_step ps vs i p v xs (omega arith) (omega arith) e f
 
 pub drop_set : (vs : List Value) (i : ℕ) (v : Value) → drop (suc i) (slice_set vs i v) ≡ drop (suc i) vs
 drop_set [] i v = refl

@@ -12,10 +12,6 @@ pub both_right : (b c : Bool) → (b && c) ≡ true → c ≡ true
 both_right true c e = e
 both_right false c e = absurd (grind (arith, e))
 
-pub false_if : (b c : Bool) → (b ≡ true → c ≡ true) → c ≡ false → b ≡ false
-false_if true c f e = sym (f refl) ∙ e
-false_if false c f e = refl
-
 same_number : (x y : ℕ) → nat_eq x y ≡ true → x ≡ y
 same_number x y e = grind (arith, e)
 
@@ -24,12 +20,6 @@ same_file d e h = same_number d.file e.file (both_left (nat_eq d.file e.file) (n
 
 same_name : (d e : Found) → is_same d e ≡ true → d.it.name ≡ e.it.name
 same_name d e h = same_number d.it.name e.it.name (both_right (nat_eq d.file e.file) (nat_eq d.it.name e.it.name) h)
-
-pub same_itself : (d : Found) → is_same d d ≡ true
-same_itself d = grind arith
-
-pub same_on : (d e x : Found) → is_same d e ≡ true → is_same e x ≡ true → is_same d x ≡ true
-same_on d e x h k = ap (λ n. nat_eq n x.file && nat_eq d.it.name x.it.name) (same_file d e h) ∙ ap (λ t. nat_eq e.file x.file && nat_eq t x.it.name) (same_name d e h) ∙ k
 
 pub same_way_is : (f g : Bool) → same_way f g ≡ true → f ≡ g
 same_way_is true true e = refl

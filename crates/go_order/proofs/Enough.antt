@@ -3,11 +3,10 @@ use Rattle.std.proofs.Common.{◌≡◌, ◌∙◌, ◌≤◌, ◌<◌, ◌+◌,
 use Rattle.go_tree.specs.Declarations.{Found}
 use Rattle.go_tree.specs.Lookups.{Asked}
 use Rattle.go_tree.specs.Needs.{Needed, is_same, same_way, is_among, is_known, with_all, needs, needs_of, all_needed, needs_itself}
-use Rattle.go_cycles.specs.Needs.{source_of, way_of, needed_by}
-use Rattle.go_order.specs.Closure.{rounds, closure, any_itself, IsDeclared, AreDeclared}
-use Rattle.go_cycles.proofs.AllNeeded.{needs_some, needs_none, or_last, or_more, both_true, itself, known_all, AllKnown, each_known, there_all, all_same, grown}
+use Rattle.go_order.specs.Closure.{rounds, any_itself, IsDeclared, AreDeclared}
+use Rattle.go_cycles.proofs.AllNeeded.{or_last, or_more, both_true, itself, known_all, AllKnown, each_known, there_all, all_same, grown}
 use Rattle.go_order.proofs.Alike.{IsAlike, alike, known_alike, through}
-use Rattle.go_order.proofs.Each.{Each, each_all, needed_source_of, needs_called, round_called, IsCalled, all_known_append}
+use Rattle.go_order.proofs.Each.{Each, needs_called, IsCalled, all_known_append}
 
 or_first : (b c : Bool) → b ≡ true → (b || c) ≡ true
 or_first true c h = refl
@@ -84,17 +83,9 @@ abbrev both_ways : Option Found → List Needed → List Needed
 both_ways None us = us
 both_ways (Some d) us = record { it = d; full = true } ∷ record { it = d; full = false } ∷ us
 
-abbrev called_for : List Asked → List Needed
-called_for [] = []
-called_for (a ∷ asks) = both_ways (source_of a.meaning) (called_for asks)
-
 both_length : (o : Option Found) (us : List Needed) (n : ℕ) → length us ≤ n + n → length (both_ways o us) ≤ suc n + suc n
 both_length None us n h = omega (arith, h)
 both_length (Some d) us n h = omega (arith, h)
-
-called_length : (asks : List Asked) → length (called_for asks) ≤ rounds asks
-called_length [] = omega arith
-called_length (a ∷ asks) = both_length (source_of a.meaning) (called_for asks) (length asks) (called_length asks)
 
 known_more : (y u : Needed) (us : List Needed) → is_known y us ≡ true → is_known y (u ∷ us) ≡ true
 known_more y u us h = or_last (is_same y.it u.it && same_way y.full u.full) (is_known y us) h
@@ -102,25 +93,6 @@ known_more y u us h = or_last (is_same y.it u.it && same_way y.full u.full) (is_
 known_both : (o : Option Found) (y : Needed) (us : List Needed) → is_known y us ≡ true → is_known y (both_ways o us) ≡ true
 known_both None y us h = h
 known_both (Some d) y us h = known_more y (record { it = d; full = true }) (record { it = d; full = false } ∷ us) (known_more y (record { it = d; full = false }) us h)
-
-all_both : (o : Option Found) (ys us : List Needed) → AllKnown ys us → AllKnown ys (both_ways o us)
-all_both o [] us h = tt
-all_both o (y ∷ ys) us h = (known_both o y us h.0, all_both o ys us h.1)
-
-in_both : (d : Found) (f : Bool) (us : List Needed) → is_known (record { it = d; full = f }) (both_ways (Some d) us) ≡ true
-in_both d true us = ap (λ b. b || is_known (record { it = d; full = true }) (record { it = d; full = false } ∷ us)) (itself (record { it = d; full = true }))
-in_both d false us = known_more (record { it = d; full = false }) (record { it = d; full = true }) (record { it = d; full = false } ∷ us) (ap (λ b. b || is_known (record { it = d; full = false }) us) (itself (record { it = d; full = false })))
-
-needs_called_by : (a : Asked) (asks : List Asked) (x : Needed) (o : Option Needed) → needed_by a x ≡ o → AllKnown (needs asks x) (called_for asks) → AllKnown (needs (a ∷ asks) x) (called_for (a ∷ asks))
-needs_called_by a asks x None e h = subst (λ ns. AllKnown ns (called_for (a ∷ asks))) (sym (needs_none a asks x e)) (all_both (source_of a.meaning) (needs asks x) (called_for asks) h)
-needs_called_by a asks x (Some y) e h =
-    let from : source_of a.meaning ≡ Some y.it = needed_source_of (way_of a x) (source_of a.meaning) y e in
-    let first : is_known y (both_ways (source_of a.meaning) (called_for asks)) ≡ true = ap (λ o. is_known y (both_ways o (called_for asks))) from ∙ in_both y.it y.full (called_for asks) in
-    subst (λ ns. AllKnown ns (called_for (a ∷ asks))) (sym (needs_some a asks x y e)) (first, all_both (source_of a.meaning) (needs asks x) (called_for asks) h)
-
-needs_among_called : (asks : List Asked) (x : Needed) → AllKnown (needs asks x) (called_for asks)
-needs_among_called [] x = tt
-needs_among_called (a ∷ asks) x = needs_called_by a asks x (needed_by a x) refl (needs_among_called asks x)
 
 round_among : (asks : List Asked) (us xs : List Needed) → ((x : Needed) → AllKnown (needs asks x) us) → AllKnown (needs_of asks xs) us
 round_among asks us [] h = tt
@@ -149,17 +121,6 @@ enough asks us (suc k) c all low =
 abbrev pub start_of : List Asked → Found → List Needed
 start_of asks d = with_all (needs asks (record { it = d; full = false })) []
 
--- All that a declaration needs is among what it needs after these rounds.
-pub closure_closed : (asks : List Asked) (d : Found) → AllKnown (needs_of asks (closure asks d)) (closure asks d)
-closure_closed asks d = enough asks (called_for asks) (rounds asks) (start_of asks d) (needs_among_called asks) (omega (arith, unknown_length (called_for asks) (start_of asks d), called_length asks))
-
-rounds_called : (asks : List Asked) (k : ℕ) (xs : List Needed) → Each (IsCalled asks) xs → Each (IsCalled asks) (all_needed asks k xs)
-rounds_called asks zero xs h = h
-rounds_called asks (suc k) xs h = rounds_called asks k (with_all (needs_of asks xs) xs) (each_all (IsCalled asks) (needs_of asks xs) xs (round_called asks xs) h)
-
-pub closure_called : (asks : List Asked) (d : Found) → Each (IsCalled asks) (closure asks d)
-closure_called asks d = rounds_called asks (rounds asks) (start_of asks d) (each_all (IsCalled asks) (needs asks (record { it = d; full = false })) [] (needs_called asks (record { it = d; full = false })) tt)
-
 -- ---- further rounds
 
 among_append : (x : Found) (xs ys : List Needed) → is_among x xs ≡ true → is_among x (xs ++ ys) ≡ true
@@ -187,10 +148,6 @@ in_closed asks n k x start closed h =
     let still : all_needed asks k all ≡ all = all_same asks k all (there_all (needs_of asks all) all closed) in
     let same : all_needed asks n (all_needed asks k start) ≡ all = sym (rounds_on asks k n start) ∙ ap (λ m. all_needed asks m start) turned ∙ rounds_on asks n k start ∙ still in
     subst (λ z. is_among x z ≡ true) same (among_rounds asks n x (all_needed asks k start) h)
-
--- What is needed after any number of rounds is needed after these.
-pub in_closure : (asks : List Asked) (k : ℕ) (d x : Found) → is_among x (all_needed asks k (start_of asks d)) ≡ true → is_among x (closure asks d) ≡ true
-in_closure asks k d x h = in_closed asks (rounds asks) k x (start_of asks d) (closure_closed asks d) h
 
 -- ---- twice as many rounds as there are declarations
 

@@ -1,5 +1,3 @@
 mod Alike
 mod Each
 mod Enough
-mod Placed
-mod Through

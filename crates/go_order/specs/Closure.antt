@@ -1,17 +1,13 @@
--- All that declarations need.
+-- Which declarations need themselves, and after how many rounds that shows.
 use Rattle.std.specs.Prelude.{◌≡◌, ℕ, Bool, true, false, ◌+◌, ◌||◌, ◌⊎◌, List, [], ◌∷◌, length}
 use Rattle.go_tree.specs.Declarations.{Found}
 use Rattle.go_tree.specs.Lookups.{Asked}
-use Rattle.go_tree.specs.Needs.{Needed, is_same, with_all, needs, all_needed, needs_itself}
+use Rattle.go_tree.specs.Needs.{is_same, needs_itself}
 use Rattle.go_cycles.specs.Columns.{IsSource, AreAlike}
 
 -- Rounds after which no further one adds anything: each name calls for at most one declaration, in one of two ways.
 abbrev pub rounds : List Asked → ℕ
 rounds asks = length asks + length asks
-
--- what a declaration needs, at once or through others
-abbrev pub closure : List Asked → Found → List Needed
-closure asks d = all_needed asks (rounds asks) (with_all (needs asks (record { it = d; full = false })) [])
 
 -- whether one of the declarations needs itself, by way of at most k others
 abbrev pub any_itself : List Asked → ℕ → List Found → Bool

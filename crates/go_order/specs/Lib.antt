@@ -1,2 +1,1 @@
 pub mod Closure
-pub mod Placing

@@ -1,9 +1,6 @@
-//! An order of the declarations of a package in which each stands behind those that it needs.
+//! After how many rounds of the definition a declaration of a package that needs itself is found.
 //!
-//! `in_order` answers one wherever there is one, that is unless a declaration needs itself. It takes the order that ranks of
-//! go_cycles show; only where they show none does it put each declaration behind the last one that it needs.
+//! Its contract is the law in `laws`: twice as many rounds as there are declarations are enough.
 #![tactic(auto)]
 
-mod closure;
 pub mod laws;
-pub mod order;

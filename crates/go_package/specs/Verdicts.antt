@@ -12,7 +12,7 @@ use Rattle.go_typed.specs.declared.form.Referent.TheVariants as referent
 use Rattle.go_typed.specs.Trees.{sort_of}
 use Rattle.go_typed.specs.Trees as sort
 use Rattle.go_rules.specs.declared.fault.TypeFault.{TypeFault}
-use Rattle.go_rules.specs.Faults.{fault_at}
+use Rattle.go_rules.specs.Faults.{fault_at, joined}
 use Rattle.go_rules.specs.Scopes.{Scope, Hint, value, several, type_place, free}
 use Rattle.go_rules.specs.Settling.{Part}
 use Rattle.go_rules.specs.Sorts.{Stands, is_unknown, value_type}
@@ -24,10 +24,6 @@ use Rattle.go_stmts.specs.Rules.{variables_failing}
 use Rattle.go_package.specs.Declarations.{Specification, is_alone}
 use Rattle.go_package.specs.Sources.{Package, number_before, number_at, needed_at}
 use Rattle.go_package.specs.Knowledge.{Outline, State, no_state, state_of, free_scope, told_scope, referent_at}
-
-abbrev pub joined : List (List TypeFault) → List TypeFault
-joined [] = []
-joined (fs ∷ nodes) = fs ++ joined nodes
 
 -- ---- the type and the values of a specification
 

@@ -1,8 +1,7 @@
 -- The declared types of a package, one after the other.
-use Rattle.std.proofs.Common.{◌≡◌, ℕ, zero, suc, ◌+◌, ◌<◌, ◌≤◌, true, List, [], ◌∷◌, ◌++◌, length, map, drop, get_or, Some, refl, ap, sym, subst, ◌∙◌, append_assoc, append-nil, arith}
+use Rattle.std.proofs.Common.{◌≡◌, ℕ, zero, suc, ◌+◌, ◌<◌, true, List, [], ◌∷◌, ◌++◌, length, map, drop, get_or, Some, refl, ap, sym, subst, ◌∙◌, append_assoc, arith}
 use Rattle.std.specs.Prelude.{slice_get}
 use Rattle.std.specs.Option.{option_map}
-use Rattle.std.proofs.lemmas.List.{drop_all}
 use Rattle.std.proofs.lemmas.Option.{same_Some}
 use Rattle.go_tree.specs.declared.object.Declared.{Declared}
 use Rattle.go_types.specs.declared.shape.Shape.TheVariants as shape
@@ -48,9 +47,6 @@ open_step ds k z before now all lt e h =
     ap (λ r. r ++ open_rights (drop (k + 1) ds)) e
     ∙ append_assoc before (open_right (is_type (get_or ds k z).entity)) (open_rights (drop (k + 1) ds))
     ∙ ap (λ xs. before ++ open_rights xs) (sym (drop_step ds k (get_or ds k z) z lt refl)) ∙ h
-
-pub open_end : (ds : List Declared) (k : ℕ) (rights all : Rights) → length ds ≤ k → rights ++ open_rights (drop k ds) ≡ all → rights ≡ all
-open_end ds k rights all le h = sym (append-nil rights) ∙ ap (λ xs. rights ++ open_rights xs) (sym (drop_all k ds le)) ∙ h
 
 pub nothing_named : (t : Table) (is : List ℕ) → is ≡ [] → AreNamed t is
 nothing_named t [] e k i at = absurd cc

@@ -13,11 +13,12 @@ use Rattle.go_rules.specs.Settling.{Part}
 use Rattle.go_rules.specs.Sorts.{is_unknown, is_nil, is_constant}
 use Rattle.go_rules.specs.TypeNodes.{part_type}
 use Rattle.go_rules.specs.Typing.{typing, faults}
+use Rattle.go_rules.specs.Faults.{joined}
 use Rattle.type_tests.specs.Tests.{is_assignable}
 use Rattle.go_stmts.specs.Assigning.{Wanted, whole_results, unassigned, all_unassigned, result_unassigned, results_unassigned, call_assigned, assignment_by, constant_failing, constants_failing}
 use Rattle.go_stmts.specs.Rules.{variables_failing}
 use Rattle.go_package.specs.Declarations.{Specification}
-use Rattle.go_package.specs.Verdicts.{joined, type_hint, value_hint, faults_in, type_faults, typed_type, typed_values, values_faults, expression_faults, known_parts, counted, specification_failing, specification_rule, rule_unless}
+use Rattle.go_package.specs.Verdicts.{type_hint, value_hint, faults_in, type_faults, typed_type, typed_values, values_faults, expression_faults, known_parts, counted, specification_failing, specification_rule, rule_unless}
 use Rattle.go_specifications.specs.Whole.{unless_failing, failing_as_whole}
 use Rattle.go_fault_places.specs.Places.{EachFault, EachOf}
 use Rattle.go_fault_places.proofs.Parts.{Placed, ListPlaced, both, either, at_it, undefaulted_at, unassignable_at}

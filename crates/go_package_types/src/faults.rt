@@ -21,7 +21,6 @@ ghost use Rattle.go_judging.specs.World.{package_in, outlines_in, specifications
 ghost use Rattle.go_package_types.specs.Known.{Tells};
 ghost use Rattle.go_package_types.specs.Merged as merging;
 
-use crate::earliest::{earlier, is_earlier};
 use crate::stands::specification_stands;
 use go_base::{Fault, Memory};
 use go_declarations::Specification;
@@ -29,6 +28,7 @@ use go_judging::World;
 use go_judging::scope::{locals_at, scope_in, tokens_of};
 use go_lookup::unit::bytes_of;
 use go_rules::TypeFault;
+use go_scopes::failure::{earlier, is_earlier};
 use go_specifications::specification_fault;
 use go_tokens::tokens::Tokens;
 use go_type_rules::Standing;
@@ -62,20 +62,8 @@ fn fault_as(
         → IfOk result (λ o. o ≡ faults.least (failing_as_whole blocked (free_scope (package_in world.now) (outlines_in world.now) ss d) d)) }
 {
     types.count();
-    let Some(tokens) = tokens_of(world, specification.file) else {
-        return Err(Memory);
-    };
     let locals = locals_at(alloc, specification.iota)?;
-    let scope = scope_in(
-        world.uses,
-        world.env,
-        tokens,
-        &locals,
-        known.sound,
-        world.basics,
-        specification.entity,
-        true,
-    );
+    let scope = scope_in(world, &locals, known.sound, specification, true)?;
     specification_fault(alloc, types, &scope, specification, blocked)
 }
 

@@ -6,7 +6,6 @@
 
 pub mod answer;
 pub mod declare;
-pub mod earliest;
 pub mod faults;
 pub mod main_function;
 pub mod package_types;

@@ -15,13 +15,13 @@ ghost use Rattle.go_needs.specs.Passing.{ArePassing};
 ghost use Rattle.go_judging.specs.Held.{KnownHeld, AllHeld, held_seen, all_seen, summary};
 ghost use Rattle.go_judging.specs.World.{package_in, outlines_in};
 
-use crate::earliest::earlier;
 use go_base::{Fault, FaultCode, Memory};
 use go_declarations::procedure::is_procedure;
 use go_judging::scope::tokens_of;
 use go_judging::{Held, World};
 use go_lookup::unit::{bytes_of, same, word};
 use go_needs::Passing;
+use go_scopes::failure::earlier;
 use go_tree::object::Declared;
 use go_types::Types;
 

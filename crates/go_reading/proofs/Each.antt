@@ -20,8 +20,6 @@ same_some : {A : Type 0} (x y : A) → Some x ≡ Some y → x ≡ y
 same_some x y e = grind (arith, e)
 
 module _ {A B : Type 0} (belongs : ℕ → A → B → Type 0) (xs : List A) where
-  pub none_yet : Upto belongs xs 0 []
-  none_yet = (refl, λ n x lt e. absurd (omega (arith, lt)))
 
   abbrev There : List B → ℕ → A → Type 0
   There ys n x = (y : B) × (slice_get ys n ≡ Some y) × belongs n x y

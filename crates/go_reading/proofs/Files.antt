@@ -55,9 +55,6 @@ all_read xs ts fs l p =
 
 -- ---- faults of single files
 
-abbrev pub OneFault : Type 0
-OneFault = (file : ℕ) (bytes : List ℕ) (f g : Fault) → IsFault file bytes f → IsFault file bytes g → f ≡ g
-
 abbrev pub NoFault : Type 0
 NoFault = (file : ℕ) (bytes : List ℕ) (ts : List Token) (cs : List Span) (f : Fault) → IsLexing file bytes ts cs → IsFault file bytes f → ⊥
 

@@ -1,4 +1,4 @@
--- A worked example: names take the place of constants in a case, in the header of a loop and on the left side of a range.
+-- The worked example of holes.
 use Rattle.std.proofs.Common.{◌≡◌, ℕ, List, [], ◌∷◌, None, refl, codes, arith}
 use Rattle.std.specs.Char.{encode_utf8}
 use Rattle.std.specs.Str.{encode_utf8_all}
@@ -6,7 +6,6 @@ use Rattle.ucd_category.specs.GeneralCategory.{general_category}
 use Rattle.ucd_category.specs.GeneralCategoryRows.{general_category_rows}
 use Rattle.ucd_table.specs.Rows.{value_in}
 use Rattle.go_base.specs.declared.Span.{Span}
-use Rattle.go_tokens.specs.declared.token.Token.{Token}
 use Rattle.go_tokens.specs.declared.token.TokenKind.{TokenKind}
 use Rattle.go_tokens.specs.declared.token.TokenKind.TheVariants as kinds_of
 use Rattle.go_tokens.specs.Characters.{is_white, is_letter, is_digit, is_in_word, is_in_run, is_exponent, is_power, is_sign, is_x, is_b, is_o}
@@ -21,25 +20,21 @@ use Rattle.go_tokens.proofs.Examples.{lexes_by_test}
 use Rattle.go_grammar.specs.declared.kind.Level.TheVariants as level
 use Rattle.go_grammar.specs.declared.kind.Place.TheVariants as place
 use Rattle.go_grammar.specs.declared.kind.Category.TheVariants as category
-use Rattle.go_grammar.specs.Trees.{Tree}
 use Rattle.go_grammar.specs.Grammar.{IsFile}
-use Rattle.go_grammar.specs.Reader.{read}
 use Rattle.go_grammar.proofs.Sound.{read_stands}
 use Rattle.go_splice.specs.Replacing.{subtree_at}
-use Rattle.go_splice.specs.Sites.{whole}
-use Rattle.go_rewrite.specs.Rewriting.{Rewrite, edits, TextFits, TreeFits, NewFile}
+use Rattle.go_rewrite.specs.Rewriting.{edits, TextFits, TreeFits, NewFile}
 use Rattle.go_rewrite.proofs.Tokens.{among_get}
 use Rattle.go_rewrite.proofs.Rewritten.{new_file}
-use Rattle.go_rewrite.proofs.Testing.{tree_in, written, plain_edge, read_at, read_fits}
+use Rattle.go_rewrite.specs.Readings.{tree_in, read_at}
+use Rattle.go_rewrite.proofs.Testing.{written, plain_edge, read_fits}
+use Rattle.go_rewrite.specs.ExampleHoles.{HolesExample, old_tokens, file_kinds, file_tree, new1_text, new1_tokens, all1, rewrite1, new2_text, new2_tokens, all2, rewrite2, new3_text, new3_tokens, all3, rewrite3, rewrites, rest_text, tail_text, tail_tokens, result_text}
 
 abbrev old_text_is : List ℕ
 old_text_is = codes "package p\n\nfunc h(x int, a []int, b []int) int {\n\tswitch x {\n\tcase-3:\n\t\tx++\n\t}\n\tfor i := 0; i < 10; i++ {\n\t\tx--\n\t}\n\tfor a[3] = range b {\n\t}\n\treturn x\n}\n"
 
 abbrev old_pieces : List (List ℕ)
 old_pieces = codes "package" ∷ codes " " ∷ codes "p" ∷ codes "\n" ∷ codes "\n" ∷ codes "func" ∷ codes " " ∷ codes "h" ∷ codes "(" ∷ codes "x" ∷ codes " " ∷ codes "int" ∷ codes "," ∷ codes " " ∷ codes "a" ∷ codes " " ∷ codes "[" ∷ codes "]" ∷ codes "int" ∷ codes "," ∷ codes " " ∷ codes "b" ∷ codes " " ∷ codes "[" ∷ codes "]" ∷ codes "int" ∷ codes ")" ∷ codes " " ∷ codes "int" ∷ codes " " ∷ codes "{" ∷ codes "\n" ∷ codes "\t" ∷ codes "switch" ∷ codes " " ∷ codes "x" ∷ codes " " ∷ codes "{" ∷ codes "\n" ∷ codes "\t" ∷ codes "case" ∷ codes "-" ∷ codes "3" ∷ codes ":" ∷ codes "\n" ∷ codes "\t" ∷ codes "\t" ∷ codes "x" ∷ codes "++" ∷ codes "\n" ∷ codes "\t" ∷ codes "}" ∷ codes "\n" ∷ codes "\t" ∷ codes "for" ∷ codes " " ∷ codes "i" ∷ codes " " ∷ codes ":=" ∷ codes " " ∷ codes "0" ∷ codes ";" ∷ codes " " ∷ codes "i" ∷ codes " " ∷ codes "<" ∷ codes " " ∷ codes "10" ∷ codes ";" ∷ codes " " ∷ codes "i" ∷ codes "++" ∷ codes " " ∷ codes "{" ∷ codes "\n" ∷ codes "\t" ∷ codes "\t" ∷ codes "x" ∷ codes "--" ∷ codes "\n" ∷ codes "\t" ∷ codes "}" ∷ codes "\n" ∷ codes "\t" ∷ codes "for" ∷ codes " " ∷ codes "a" ∷ codes "[" ∷ codes "3" ∷ codes "]" ∷ codes " " ∷ codes "=" ∷ codes " " ∷ codes "range" ∷ codes " " ∷ codes "b" ∷ codes " " ∷ codes "{" ∷ codes "\n" ∷ codes "\t" ∷ codes "}" ∷ codes "\n" ∷ codes "\t" ∷ codes "return" ∷ codes " " ∷ codes "x" ∷ codes "\n" ∷ codes "}" ∷ codes "\n" ∷ []
-
-abbrev old_tokens : List Token
-old_tokens = token 0 kinds_of.Package 0 7 ∷ token 0 kinds_of.Identifier 8 1 ∷ token 0 kinds_of.Semicolon 9 0 ∷ token 0 kinds_of.Func 11 4 ∷ token 0 kinds_of.Identifier 16 1 ∷ token 0 kinds_of.LeftParenthesis 17 1 ∷ token 0 kinds_of.Identifier 18 1 ∷ token 0 kinds_of.Identifier 20 3 ∷ token 0 kinds_of.Comma 23 1 ∷ token 0 kinds_of.Identifier 25 1 ∷ token 0 kinds_of.LeftBracket 27 1 ∷ token 0 kinds_of.RightBracket 28 1 ∷ token 0 kinds_of.Identifier 29 3 ∷ token 0 kinds_of.Comma 32 1 ∷ token 0 kinds_of.Identifier 34 1 ∷ token 0 kinds_of.LeftBracket 36 1 ∷ token 0 kinds_of.RightBracket 37 1 ∷ token 0 kinds_of.Identifier 38 3 ∷ token 0 kinds_of.RightParenthesis 41 1 ∷ token 0 kinds_of.Identifier 43 3 ∷ token 0 kinds_of.LeftBrace 47 1 ∷ token 0 kinds_of.Switch 50 6 ∷ token 0 kinds_of.Identifier 57 1 ∷ token 0 kinds_of.LeftBrace 59 1 ∷ token 0 kinds_of.Case 62 4 ∷ token 0 kinds_of.Minus 66 1 ∷ token 0 kinds_of.Integer 67 1 ∷ token 0 kinds_of.Colon 68 1 ∷ token 0 kinds_of.Identifier 72 1 ∷ token 0 kinds_of.Increment 73 2 ∷ token 0 kinds_of.Semicolon 75 0 ∷ token 0 kinds_of.RightBrace 77 1 ∷ token 0 kinds_of.Semicolon 78 0 ∷ token 0 kinds_of.For 80 3 ∷ token 0 kinds_of.Identifier 84 1 ∷ token 0 kinds_of.Define 86 2 ∷ token 0 kinds_of.Integer 89 1 ∷ token 0 kinds_of.Semicolon 90 1 ∷ token 0 kinds_of.Identifier 92 1 ∷ token 0 kinds_of.Less 94 1 ∷ token 0 kinds_of.Integer 96 2 ∷ token 0 kinds_of.Semicolon 98 1 ∷ token 0 kinds_of.Identifier 100 1 ∷ token 0 kinds_of.Increment 101 2 ∷ token 0 kinds_of.LeftBrace 104 1 ∷ token 0 kinds_of.Identifier 108 1 ∷ token 0 kinds_of.Decrement 109 2 ∷ token 0 kinds_of.Semicolon 111 0 ∷ token 0 kinds_of.RightBrace 113 1 ∷ token 0 kinds_of.Semicolon 114 0 ∷ token 0 kinds_of.For 116 3 ∷ token 0 kinds_of.Identifier 120 1 ∷ token 0 kinds_of.LeftBracket 121 1 ∷ token 0 kinds_of.Integer 122 1 ∷ token 0 kinds_of.RightBracket 123 1 ∷ token 0 kinds_of.Assign 125 1 ∷ token 0 kinds_of.Range 127 5 ∷ token 0 kinds_of.Identifier 133 1 ∷ token 0 kinds_of.LeftBrace 135 1 ∷ token 0 kinds_of.RightBrace 138 1 ∷ token 0 kinds_of.Semicolon 139 0 ∷ token 0 kinds_of.Return 141 6 ∷ token 0 kinds_of.Identifier 148 1 ∷ token 0 kinds_of.Semicolon 149 0 ∷ token 0 kinds_of.RightBrace 150 1 ∷ token 0 kinds_of.Semicolon 151 0 ∷ []
 
 abbrev old_comments : List Span
 old_comments = []
@@ -48,23 +43,11 @@ old_lexes : Lexes 0 old_text_is old_tokens old_comments
 unfolding width span begun_by is_white is_letter is_digit is_in_word is_in_run is_exponent is_power is_sign is_x is_b is_o is_digit_of letter_base goes operators punctuation outside_operators keywords general_category value_in general_category_rows encode_utf8
 old_lexes = lexes_by_test 0 old_pieces refl
 
-abbrev file_kinds : List TokenKind
-file_kinds = kinds_of.Package ∷ kinds_of.Identifier ∷ kinds_of.Semicolon ∷ kinds_of.Func ∷ kinds_of.Identifier ∷ kinds_of.LeftParenthesis ∷ kinds_of.Identifier ∷ kinds_of.Identifier ∷ kinds_of.Comma ∷ kinds_of.Identifier ∷ kinds_of.LeftBracket ∷ kinds_of.RightBracket ∷ kinds_of.Identifier ∷ kinds_of.Comma ∷ kinds_of.Identifier ∷ kinds_of.LeftBracket ∷ kinds_of.RightBracket ∷ kinds_of.Identifier ∷ kinds_of.RightParenthesis ∷ kinds_of.Identifier ∷ kinds_of.LeftBrace ∷ kinds_of.Switch ∷ kinds_of.Identifier ∷ kinds_of.LeftBrace ∷ kinds_of.Case ∷ kinds_of.Minus ∷ kinds_of.Integer ∷ kinds_of.Colon ∷ kinds_of.Identifier ∷ kinds_of.Increment ∷ kinds_of.Semicolon ∷ kinds_of.RightBrace ∷ kinds_of.Semicolon ∷ kinds_of.For ∷ kinds_of.Identifier ∷ kinds_of.Define ∷ kinds_of.Integer ∷ kinds_of.Semicolon ∷ kinds_of.Identifier ∷ kinds_of.Less ∷ kinds_of.Integer ∷ kinds_of.Semicolon ∷ kinds_of.Identifier ∷ kinds_of.Increment ∷ kinds_of.LeftBrace ∷ kinds_of.Identifier ∷ kinds_of.Decrement ∷ kinds_of.Semicolon ∷ kinds_of.RightBrace ∷ kinds_of.Semicolon ∷ kinds_of.For ∷ kinds_of.Identifier ∷ kinds_of.LeftBracket ∷ kinds_of.Integer ∷ kinds_of.RightBracket ∷ kinds_of.Assign ∷ kinds_of.Range ∷ kinds_of.Identifier ∷ kinds_of.LeftBrace ∷ kinds_of.RightBrace ∷ kinds_of.Semicolon ∷ kinds_of.Return ∷ kinds_of.Identifier ∷ kinds_of.Semicolon ∷ kinds_of.RightBrace ∷ kinds_of.Semicolon ∷ []
-
-abbrev file_tree : Tree
-file_tree = tree_in (read 60 file_kinds 101 category.File 0)
-
 file_is : IsFile (kinds old_tokens) file_tree
 file_is = let r = read_stands file_kinds 60 101 category.File 0 file_tree refl in record { derives = r.0; begins = refl; ends = refl; shallow = r.2 }
 
-abbrev new1_text : List ℕ
-new1_text = codes " p0 "
-
 abbrev new1_pieces : List (List ℕ)
 new1_pieces = codes " " ∷ codes "p0" ∷ codes " " ∷ []
-
-abbrev new1_tokens : List Token
-new1_tokens = token 0 kinds_of.Identifier 1 2 ∷ token 0 kinds_of.Semicolon 3 0 ∷ []
 
 abbrev new1_comments : List Span
 new1_comments = []
@@ -76,33 +59,8 @@ new1_lexes = lexes_by_test 0 new1_pieces refl
 abbrev words1 : List TokenKind
 words1 = kinds_of.Identifier ∷ []
 
-abbrev next1 : List TokenKind
-next1 = kinds_of.Colon ∷ []
-
-abbrev all1 : List TokenKind
-all1 = kinds_of.Identifier ∷ kinds_of.Colon ∷ []
-
-abbrev rewrite1 : Rewrite
-rewrite1 = record {
-  kept = codes "package p\n\nfunc h(x int, a []int, b []int) int {\n\tswitch x {\n\tcase";
-  old = codes "-3";
-  from = 25;
-  upto = 27;
-  new = new1_text;
-  alone = new1_tokens;
-  path = 1 ∷ 1 ∷ 0 ∷ 1 ∷ 0 ∷ 0 ∷ [];
-  change = whole (tree_in (read_at all1 (category.Expression level.Either place.Free)));
-  next = next1;
-}
-
-abbrev new2_text : List ℕ
-new2_text = codes " p1 "
-
 abbrev new2_pieces : List (List ℕ)
 new2_pieces = codes " " ∷ codes "p1" ∷ codes " " ∷ []
-
-abbrev new2_tokens : List Token
-new2_tokens = token 0 kinds_of.Identifier 1 2 ∷ token 0 kinds_of.Semicolon 3 0 ∷ []
 
 abbrev new2_comments : List Span
 new2_comments = []
@@ -114,33 +72,8 @@ new2_lexes = lexes_by_test 0 new2_pieces refl
 abbrev words2 : List TokenKind
 words2 = kinds_of.Identifier ∷ []
 
-abbrev next2 : List TokenKind
-next2 = kinds_of.Semicolon ∷ []
-
-abbrev all2 : List TokenKind
-all2 = kinds_of.Identifier ∷ kinds_of.Semicolon ∷ []
-
-abbrev rewrite2 : Rewrite
-rewrite2 = record {
-  kept = codes ":\n\t\tx++\n\t}\n\tfor i := 0; i < ";
-  old = codes "10";
-  from = 40;
-  upto = 41;
-  new = new2_text;
-  alone = new2_tokens;
-  path = 1 ∷ 1 ∷ 1 ∷ 0 ∷ 1 ∷ 1 ∷ [];
-  change = whole (tree_in (read_at all2 (category.Expression level.Sum place.Header)));
-  next = next2;
-}
-
-abbrev new3_text : List ℕ
-new3_text = codes " p2 "
-
 abbrev new3_pieces : List (List ℕ)
 new3_pieces = codes " " ∷ codes "p2" ∷ codes " " ∷ []
-
-abbrev new3_tokens : List Token
-new3_tokens = token 0 kinds_of.Identifier 1 2 ∷ token 0 kinds_of.Semicolon 3 0 ∷ []
 
 abbrev new3_comments : List Span
 new3_comments = []
@@ -151,37 +84,6 @@ new3_lexes = lexes_by_test 0 new3_pieces refl
 
 abbrev words3 : List TokenKind
 words3 = kinds_of.Identifier ∷ []
-
-abbrev next3 : List TokenKind
-next3 = kinds_of.RightBracket ∷ []
-
-abbrev all3 : List TokenKind
-all3 = kinds_of.Identifier ∷ kinds_of.RightBracket ∷ []
-
-abbrev rewrite3 : Rewrite
-rewrite3 = record {
-  kept = codes "; i++ {\n\t\tx--\n\t}\n\tfor a[";
-  old = codes "3";
-  from = 53;
-  upto = 54;
-  new = new3_text;
-  alone = new3_tokens;
-  path = 1 ∷ 1 ∷ 2 ∷ 0 ∷ 0 ∷ 0 ∷ 0 ∷ 1 ∷ [];
-  change = whole (tree_in (read_at all3 (category.Bracket)));
-  next = next3;
-}
-
-abbrev rewrites : List Rewrite
-rewrites = rewrite1 ∷ rewrite2 ∷ rewrite3 ∷ []
-
-abbrev rest_text : List ℕ
-rest_text = codes "] = range b {\n\t}\n\treturn x\n}\n"
-
-abbrev tail_text : List ℕ
-tail_text = []
-
-abbrev tail_tokens : List Token
-tail_tokens = []
 
 abbrev tail_pieces : List (List ℕ)
 tail_pieces = []
@@ -369,9 +271,6 @@ tree_fits3 = record {
   edge = plain_edge file_kinds words3 53 refl refl;
 }
 
-abbrev result_text : List ℕ
-result_text = codes "package p\n\nfunc h(x int, a []int, b []int) int {\n\tswitch x {\n\tcase p0 :\n\t\tx++\n\t}\n\tfor i := 0; i <  p1 ; i++ {\n\t\tx--\n\t}\n\tfor a[ p2 ] = range b {\n\t}\n\treturn x\n}\n"
-
 -- the text of the edits is this one
 whole_text : new_text (edits rewrites rest_text) tail_text ≡ result_text
 whole_text = refl
@@ -390,3 +289,6 @@ holds = new_file 0 (encode_utf8_all old_text_is) (encode_utf8_all result_text) o
   appended = record { begins = refl; comments = tail_comments; lexes = tail_lexes };
   added_fits = refl;
 })
+
+pub all : HolesExample
+all = record { whole_text = whole_text; holds = holds }

@@ -1,4 +1,4 @@
--- A worked example: names take the place of names, as before a period, among parameters and before `:=`.
+-- The worked example of names.
 use Rattle.std.proofs.Common.{◌≡◌, ℕ, List, [], ◌∷◌, None, refl, codes, arith}
 use Rattle.std.specs.Char.{encode_utf8}
 use Rattle.std.specs.Str.{encode_utf8_all}
@@ -6,7 +6,6 @@ use Rattle.ucd_category.specs.GeneralCategory.{general_category}
 use Rattle.ucd_category.specs.GeneralCategoryRows.{general_category_rows}
 use Rattle.ucd_table.specs.Rows.{value_in}
 use Rattle.go_base.specs.declared.Span.{Span}
-use Rattle.go_tokens.specs.declared.token.Token.{Token}
 use Rattle.go_tokens.specs.declared.token.TokenKind.{TokenKind}
 use Rattle.go_tokens.specs.declared.token.TokenKind.TheVariants as kinds_of
 use Rattle.go_tokens.specs.Characters.{is_white, is_letter, is_digit, is_in_word, is_in_run, is_exponent, is_power, is_sign, is_x, is_b, is_o}
@@ -22,27 +21,24 @@ use Rattle.go_grammar.specs.declared.kind.Kind.TheVariants as kind
 use Rattle.go_grammar.specs.declared.kind.Level.TheVariants as level
 use Rattle.go_grammar.specs.declared.kind.Place.TheVariants as place
 use Rattle.go_grammar.specs.declared.kind.Category.TheVariants as category
-use Rattle.go_grammar.specs.Trees.{Tree, node, none}
+use Rattle.go_grammar.specs.Trees.{node, none}
 use Rattle.go_grammar.specs.Grammar.{IsFile}
-use Rattle.go_grammar.specs.Reader.{read}
 use Rattle.go_grammar.proofs.Sound.{read_stands}
 use Rattle.go_splice.specs.Replacing.{subtree_at}
-use Rattle.go_splice.specs.Sites.{whole}
-use Rattle.go_rewrite.specs.Rewriting.{Rewrite, edits, sites_alone, TextFits, TreeFits, NewFile}
+use Rattle.go_rewrite.specs.Rewriting.{edits, sites_alone, TextFits, TreeFits, NewFile}
 use Rattle.go_rewrite.proofs.Tokens.{among_get}
 use Rattle.go_splice.specs.Lists.{AllAlike}
 use Rattle.go_rewrite.proofs.Rewritten.{new_file}
 use Rattle.go_rewrite.proofs.Settled.{alike_rewrites}
-use Rattle.go_rewrite.proofs.Testing.{tree_in, written, plain_edge}
+use Rattle.go_rewrite.specs.Readings.{tree_in}
+use Rattle.go_rewrite.proofs.Testing.{written, plain_edge}
+use Rattle.go_rewrite.specs.ExampleNames.{NamesExample, old_tokens, file_kinds, file_tree, new1_text, new1_tokens, rewrite1, new2_text, new2_tokens, rewrite2, new3_text, new3_tokens, rewrite3, new4_text, new4_tokens, rewrite4, new5_text, new5_tokens, rewrite5, new6_text, new6_tokens, rewrite6, rewrites, rest_text, tail_text, tail_tokens, result_text}
 
 abbrev old_text_is : List ℕ
 old_text_is = codes "package p\n\ntype t struct {\n\tf int\n}\n\nfunc g(x t) int {\n\ty := x.f\n\tx.f = y\n\treturn x.f\n}\n"
 
 abbrev old_pieces : List (List ℕ)
 old_pieces = codes "package" ∷ codes " " ∷ codes "p" ∷ codes "\n" ∷ codes "\n" ∷ codes "type" ∷ codes " " ∷ codes "t" ∷ codes " " ∷ codes "struct" ∷ codes " " ∷ codes "{" ∷ codes "\n" ∷ codes "\t" ∷ codes "f" ∷ codes " " ∷ codes "int" ∷ codes "\n" ∷ codes "}" ∷ codes "\n" ∷ codes "\n" ∷ codes "func" ∷ codes " " ∷ codes "g" ∷ codes "(" ∷ codes "x" ∷ codes " " ∷ codes "t" ∷ codes ")" ∷ codes " " ∷ codes "int" ∷ codes " " ∷ codes "{" ∷ codes "\n" ∷ codes "\t" ∷ codes "y" ∷ codes " " ∷ codes ":=" ∷ codes " " ∷ codes "x" ∷ codes "." ∷ codes "f" ∷ codes "\n" ∷ codes "\t" ∷ codes "x" ∷ codes "." ∷ codes "f" ∷ codes " " ∷ codes "=" ∷ codes " " ∷ codes "y" ∷ codes "\n" ∷ codes "\t" ∷ codes "return" ∷ codes " " ∷ codes "x" ∷ codes "." ∷ codes "f" ∷ codes "\n" ∷ codes "}" ∷ codes "\n" ∷ []
-
-abbrev old_tokens : List Token
-old_tokens = token 0 kinds_of.Package 0 7 ∷ token 0 kinds_of.Identifier 8 1 ∷ token 0 kinds_of.Semicolon 9 0 ∷ token 0 kinds_of.«Type» 11 4 ∷ token 0 kinds_of.Identifier 16 1 ∷ token 0 kinds_of.Struct 18 6 ∷ token 0 kinds_of.LeftBrace 25 1 ∷ token 0 kinds_of.Identifier 28 1 ∷ token 0 kinds_of.Identifier 30 3 ∷ token 0 kinds_of.Semicolon 33 0 ∷ token 0 kinds_of.RightBrace 34 1 ∷ token 0 kinds_of.Semicolon 35 0 ∷ token 0 kinds_of.Func 37 4 ∷ token 0 kinds_of.Identifier 42 1 ∷ token 0 kinds_of.LeftParenthesis 43 1 ∷ token 0 kinds_of.Identifier 44 1 ∷ token 0 kinds_of.Identifier 46 1 ∷ token 0 kinds_of.RightParenthesis 47 1 ∷ token 0 kinds_of.Identifier 49 3 ∷ token 0 kinds_of.LeftBrace 53 1 ∷ token 0 kinds_of.Identifier 56 1 ∷ token 0 kinds_of.Define 58 2 ∷ token 0 kinds_of.Identifier 61 1 ∷ token 0 kinds_of.Period 62 1 ∷ token 0 kinds_of.Identifier 63 1 ∷ token 0 kinds_of.Semicolon 64 0 ∷ token 0 kinds_of.Identifier 66 1 ∷ token 0 kinds_of.Period 67 1 ∷ token 0 kinds_of.Identifier 68 1 ∷ token 0 kinds_of.Assign 70 1 ∷ token 0 kinds_of.Identifier 72 1 ∷ token 0 kinds_of.Semicolon 73 0 ∷ token 0 kinds_of.Return 75 6 ∷ token 0 kinds_of.Identifier 82 1 ∷ token 0 kinds_of.Period 83 1 ∷ token 0 kinds_of.Identifier 84 1 ∷ token 0 kinds_of.Semicolon 85 0 ∷ token 0 kinds_of.RightBrace 86 1 ∷ token 0 kinds_of.Semicolon 87 0 ∷ []
 
 abbrev old_comments : List Span
 old_comments = []
@@ -51,23 +47,11 @@ old_lexes : Lexes 0 old_text_is old_tokens old_comments
 unfolding width span begun_by is_white is_letter is_digit is_in_word is_in_run is_exponent is_power is_sign is_x is_b is_o is_digit_of letter_base goes operators punctuation outside_operators keywords general_category value_in general_category_rows encode_utf8
 old_lexes = lexes_by_test 0 old_pieces refl
 
-abbrev file_kinds : List TokenKind
-file_kinds = kinds_of.Package ∷ kinds_of.Identifier ∷ kinds_of.Semicolon ∷ kinds_of.«Type» ∷ kinds_of.Identifier ∷ kinds_of.Struct ∷ kinds_of.LeftBrace ∷ kinds_of.Identifier ∷ kinds_of.Identifier ∷ kinds_of.Semicolon ∷ kinds_of.RightBrace ∷ kinds_of.Semicolon ∷ kinds_of.Func ∷ kinds_of.Identifier ∷ kinds_of.LeftParenthesis ∷ kinds_of.Identifier ∷ kinds_of.Identifier ∷ kinds_of.RightParenthesis ∷ kinds_of.Identifier ∷ kinds_of.LeftBrace ∷ kinds_of.Identifier ∷ kinds_of.Define ∷ kinds_of.Identifier ∷ kinds_of.Period ∷ kinds_of.Identifier ∷ kinds_of.Semicolon ∷ kinds_of.Identifier ∷ kinds_of.Period ∷ kinds_of.Identifier ∷ kinds_of.Assign ∷ kinds_of.Identifier ∷ kinds_of.Semicolon ∷ kinds_of.Return ∷ kinds_of.Identifier ∷ kinds_of.Period ∷ kinds_of.Identifier ∷ kinds_of.Semicolon ∷ kinds_of.RightBrace ∷ kinds_of.Semicolon ∷ []
-
-abbrev file_tree : Tree
-file_tree = tree_in (read 60 file_kinds 101 category.File 0)
-
 file_is : IsFile (kinds old_tokens) file_tree
 file_is = let r = read_stands file_kinds 60 101 category.File 0 file_tree refl in record { derives = r.0; begins = refl; ends = refl; shallow = r.2 }
 
-abbrev new1_text : List ℕ
-new1_text = codes "z1"
-
 abbrev new1_pieces : List (List ℕ)
 new1_pieces = codes "z1" ∷ []
-
-abbrev new1_tokens : List Token
-new1_tokens = token 0 kinds_of.Identifier 0 2 ∷ token 0 kinds_of.Semicolon 2 0 ∷ []
 
 abbrev new1_comments : List Span
 new1_comments = []
@@ -79,33 +63,11 @@ new1_lexes = lexes_by_test 0 new1_pieces refl
 abbrev words1 : List TokenKind
 words1 = kinds_of.Identifier ∷ []
 
-abbrev next1 : List TokenKind
-next1 = kinds_of.Identifier ∷ []
-
 abbrev all1 : List TokenKind
 all1 = kinds_of.Identifier ∷ kinds_of.Identifier ∷ []
 
-abbrev rewrite1 : Rewrite
-rewrite1 = record {
-  kept = codes "package p\n\ntype t struct {\n\tf int\n}\n\nfunc g(";
-  old = codes "x";
-  from = 15;
-  upto = 16;
-  new = new1_text;
-  alone = new1_tokens;
-  path = 2 ∷ 0 ∷ 0 ∷ 0 ∷ 0 ∷ [];
-  change = whole (node kind.Name 0 1 none);
-  next = next1;
-}
-
-abbrev new2_text : List ℕ
-new2_text = codes "w"
-
 abbrev new2_pieces : List (List ℕ)
 new2_pieces = codes "w" ∷ []
-
-abbrev new2_tokens : List Token
-new2_tokens = token 0 kinds_of.Identifier 0 1 ∷ token 0 kinds_of.Semicolon 1 0 ∷ []
 
 abbrev new2_comments : List Span
 new2_comments = []
@@ -117,33 +79,11 @@ new2_lexes = lexes_by_test 0 new2_pieces refl
 abbrev words2 : List TokenKind
 words2 = kinds_of.Identifier ∷ []
 
-abbrev next2 : List TokenKind
-next2 = kinds_of.Define ∷ []
-
 abbrev all2 : List TokenKind
 all2 = kinds_of.Identifier ∷ kinds_of.Define ∷ []
 
-abbrev rewrite2 : Rewrite
-rewrite2 = record {
-  kept = codes " t) int {\n\t";
-  old = codes "y";
-  from = 20;
-  upto = 21;
-  new = new2_text;
-  alone = new2_tokens;
-  path = 2 ∷ 1 ∷ 0 ∷ 0 ∷ 0 ∷ 0 ∷ [];
-  change = whole (node kind.Name 0 1 none);
-  next = next2;
-}
-
-abbrev new3_text : List ℕ
-new3_text = codes "z1"
-
 abbrev new3_pieces : List (List ℕ)
 new3_pieces = codes "z1" ∷ []
-
-abbrev new3_tokens : List Token
-new3_tokens = token 0 kinds_of.Identifier 0 2 ∷ token 0 kinds_of.Semicolon 2 0 ∷ []
 
 abbrev new3_comments : List Span
 new3_comments = []
@@ -155,33 +95,11 @@ new3_lexes = lexes_by_test 0 new3_pieces refl
 abbrev words3 : List TokenKind
 words3 = kinds_of.Identifier ∷ []
 
-abbrev next3 : List TokenKind
-next3 = kinds_of.Period ∷ []
-
 abbrev all3 : List TokenKind
 all3 = kinds_of.Identifier ∷ kinds_of.Period ∷ []
 
-abbrev rewrite3 : Rewrite
-rewrite3 = record {
-  kept = codes " := ";
-  old = codes "x";
-  from = 22;
-  upto = 23;
-  new = new3_text;
-  alone = new3_tokens;
-  path = 2 ∷ 1 ∷ 0 ∷ 1 ∷ 0 ∷ 0 ∷ [];
-  change = whole (node kind.Name 0 1 none);
-  next = next3;
-}
-
-abbrev new4_text : List ℕ
-new4_text = codes "z1"
-
 abbrev new4_pieces : List (List ℕ)
 new4_pieces = codes "z1" ∷ []
-
-abbrev new4_tokens : List Token
-new4_tokens = token 0 kinds_of.Identifier 0 2 ∷ token 0 kinds_of.Semicolon 2 0 ∷ []
 
 abbrev new4_comments : List Span
 new4_comments = []
@@ -193,33 +111,8 @@ new4_lexes = lexes_by_test 0 new4_pieces refl
 abbrev words4 : List TokenKind
 words4 = kinds_of.Identifier ∷ []
 
-abbrev next4 : List TokenKind
-next4 = kinds_of.Period ∷ []
-
-abbrev all4 : List TokenKind
-all4 = kinds_of.Identifier ∷ kinds_of.Period ∷ []
-
-abbrev rewrite4 : Rewrite
-rewrite4 = record {
-  kept = codes ".f\n\t";
-  old = codes "x";
-  from = 26;
-  upto = 27;
-  new = new4_text;
-  alone = new4_tokens;
-  path = 2 ∷ 1 ∷ 1 ∷ 0 ∷ 0 ∷ 0 ∷ 0 ∷ [];
-  change = whole (node kind.Name 0 1 none);
-  next = next4;
-}
-
-abbrev new5_text : List ℕ
-new5_text = codes "w"
-
 abbrev new5_pieces : List (List ℕ)
 new5_pieces = codes "w" ∷ []
-
-abbrev new5_tokens : List Token
-new5_tokens = token 0 kinds_of.Identifier 0 1 ∷ token 0 kinds_of.Semicolon 1 0 ∷ []
 
 abbrev new5_comments : List Span
 new5_comments = []
@@ -231,33 +124,8 @@ new5_lexes = lexes_by_test 0 new5_pieces refl
 abbrev words5 : List TokenKind
 words5 = kinds_of.Identifier ∷ []
 
-abbrev next5 : List TokenKind
-next5 = kinds_of.Semicolon ∷ []
-
-abbrev all5 : List TokenKind
-all5 = kinds_of.Identifier ∷ kinds_of.Semicolon ∷ []
-
-abbrev rewrite5 : Rewrite
-rewrite5 = record {
-  kept = codes ".f = ";
-  old = codes "y";
-  from = 30;
-  upto = 31;
-  new = new5_text;
-  alone = new5_tokens;
-  path = 2 ∷ 1 ∷ 1 ∷ 1 ∷ 0 ∷ [];
-  change = whole (node kind.Name 0 1 none);
-  next = next5;
-}
-
-abbrev new6_text : List ℕ
-new6_text = codes "z1"
-
 abbrev new6_pieces : List (List ℕ)
 new6_pieces = codes "z1" ∷ []
-
-abbrev new6_tokens : List Token
-new6_tokens = token 0 kinds_of.Identifier 0 2 ∷ token 0 kinds_of.Semicolon 2 0 ∷ []
 
 abbrev new6_comments : List Span
 new6_comments = []
@@ -268,37 +136,6 @@ new6_lexes = lexes_by_test 0 new6_pieces refl
 
 abbrev words6 : List TokenKind
 words6 = kinds_of.Identifier ∷ []
-
-abbrev next6 : List TokenKind
-next6 = kinds_of.Period ∷ []
-
-abbrev all6 : List TokenKind
-all6 = kinds_of.Identifier ∷ kinds_of.Period ∷ []
-
-abbrev rewrite6 : Rewrite
-rewrite6 = record {
-  kept = codes "\n\treturn ";
-  old = codes "x";
-  from = 33;
-  upto = 34;
-  new = new6_text;
-  alone = new6_tokens;
-  path = 2 ∷ 1 ∷ 2 ∷ 0 ∷ 0 ∷ 0 ∷ [];
-  change = whole (node kind.Name 0 1 none);
-  next = next6;
-}
-
-abbrev rewrites : List Rewrite
-rewrites = rewrite1 ∷ rewrite2 ∷ rewrite3 ∷ rewrite4 ∷ rewrite5 ∷ rewrite6 ∷ []
-
-abbrev rest_text : List ℕ
-rest_text = codes ".f\n}\n"
-
-abbrev tail_text : List ℕ
-tail_text = []
-
-abbrev tail_tokens : List Token
-tail_tokens = []
 
 abbrev tail_pieces : List (List ℕ)
 tail_pieces = []
@@ -663,9 +500,6 @@ tree_fits6 = record {
   edge = plain_edge file_kinds words6 33 refl refl;
 }
 
-abbrev result_text : List ℕ
-result_text = codes "package p\n\ntype t struct {\n\tf int\n}\n\nfunc g(z1 t) int {\n\tw := z1.f\n\tz1.f = w\n\treturn z1.f\n}\n"
-
 -- the text of the edits is this one
 whole_text : new_text (edits rewrites rest_text) tail_text ≡ result_text
 whole_text = refl
@@ -687,3 +521,6 @@ holds = new_file 0 (encode_utf8_all old_text_is) (encode_utf8_all result_text) o
   appended = record { begins = refl; comments = tail_comments; lexes = tail_lexes };
   added_fits = refl;
 })
+
+pub all : NamesExample
+all = record { whole_text = whole_text; holds = holds }

@@ -1,11 +1,10 @@
--- A worked example: in a function a parameter takes the place of a constant.
+-- The worked example of a parameter.
 use Rattle.std.proofs.Common.{◌≡◌, ℕ, List, [], ◌∷◌, refl, codes, arith}
 use Rattle.std.specs.Char.{encode_utf8}
 use Rattle.ucd_category.specs.GeneralCategory.{general_category}
 use Rattle.ucd_category.specs.GeneralCategoryRows.{general_category_rows}
 use Rattle.ucd_table.specs.Rows.{value_in}
 use Rattle.go_base.specs.declared.Span.{Span}
-use Rattle.go_tokens.specs.declared.token.Token.{Token}
 use Rattle.go_tokens.specs.declared.token.TokenKind.{TokenKind}
 use Rattle.go_tokens.specs.declared.token.TokenKind.TheVariants as kinds_of
 use Rattle.go_tokens.specs.Characters.{is_white, is_letter, is_digit, is_in_word, is_in_run, is_exponent, is_power, is_sign, is_x, is_b, is_o}
@@ -20,25 +19,21 @@ use Rattle.go_tokens.proofs.Examples.{lexes_by_test}
 use Rattle.go_grammar.specs.declared.kind.Level.TheVariants as level
 use Rattle.go_grammar.specs.declared.kind.Place.TheVariants as place
 use Rattle.go_grammar.specs.declared.kind.Category.TheVariants as category
-use Rattle.go_grammar.specs.Trees.{Tree}
-use Rattle.go_grammar.specs.Reader.{read}
 use Rattle.go_grammar.proofs.Sound.{read_stands}
 use Rattle.go_splice.specs.Replacing.{subtree_at}
-use Rattle.go_splice.specs.Sites.{whole}
 use Rattle.go_splice.specs.Places.{IsDeclaration}
-use Rattle.go_rewrite.specs.Rewriting.{Rewrite, edits, TextFits, TreeFits, NewDeclaration}
+use Rattle.go_rewrite.specs.Rewriting.{edits, TextFits, TreeFits, NewDeclaration}
 use Rattle.go_rewrite.proofs.Tokens.{among_get}
 use Rattle.go_rewrite.proofs.Rewritten.{new_declaration}
-use Rattle.go_rewrite.proofs.Testing.{tree_in, written, plain_edge, read_at, read_fits}
+use Rattle.go_rewrite.specs.Readings.{tree_in, read_at}
+use Rattle.go_rewrite.proofs.Testing.{written, plain_edge, read_fits}
+use Rattle.go_rewrite.specs.ExampleParameter.{ParameterExample, old_tokens, file_kinds, file_tree, new1_text, new1_tokens, all1, rewrite1, rewrites, rest_text, tail_text, result_text}
 
 abbrev old_text_is : List ℕ
 old_text_is = codes "\nfunc addmul(a int, p0 int) int {\nb := a + 1 // one more\n\tb = b * 2\nreturn b\n}\n"
 
 abbrev old_pieces : List (List ℕ)
 old_pieces = codes "\n" ∷ codes "func" ∷ codes " " ∷ codes "addmul" ∷ codes "(" ∷ codes "a" ∷ codes " " ∷ codes "int" ∷ codes "," ∷ codes " " ∷ codes "p0" ∷ codes " " ∷ codes "int" ∷ codes ")" ∷ codes " " ∷ codes "int" ∷ codes " " ∷ codes "{" ∷ codes "\n" ∷ codes "b" ∷ codes " " ∷ codes ":=" ∷ codes " " ∷ codes "a" ∷ codes " " ∷ codes "+" ∷ codes " " ∷ codes "1" ∷ codes " " ∷ codes "// one more" ∷ codes "\n" ∷ codes "\t" ∷ codes "b" ∷ codes " " ∷ codes "=" ∷ codes " " ∷ codes "b" ∷ codes " " ∷ codes "*" ∷ codes " " ∷ codes "2" ∷ codes "\n" ∷ codes "return" ∷ codes " " ∷ codes "b" ∷ codes "\n" ∷ codes "}" ∷ codes "\n" ∷ []
-
-abbrev old_tokens : List Token
-old_tokens = token 0 kinds_of.Func 1 4 ∷ token 0 kinds_of.Identifier 6 6 ∷ token 0 kinds_of.LeftParenthesis 12 1 ∷ token 0 kinds_of.Identifier 13 1 ∷ token 0 kinds_of.Identifier 15 3 ∷ token 0 kinds_of.Comma 18 1 ∷ token 0 kinds_of.Identifier 20 2 ∷ token 0 kinds_of.Identifier 23 3 ∷ token 0 kinds_of.RightParenthesis 26 1 ∷ token 0 kinds_of.Identifier 28 3 ∷ token 0 kinds_of.LeftBrace 32 1 ∷ token 0 kinds_of.Identifier 34 1 ∷ token 0 kinds_of.Define 36 2 ∷ token 0 kinds_of.Identifier 39 1 ∷ token 0 kinds_of.Plus 41 1 ∷ token 0 kinds_of.Integer 43 1 ∷ token 0 kinds_of.Semicolon 44 0 ∷ token 0 kinds_of.Identifier 58 1 ∷ token 0 kinds_of.Assign 60 1 ∷ token 0 kinds_of.Identifier 62 1 ∷ token 0 kinds_of.Star 64 1 ∷ token 0 kinds_of.Integer 66 1 ∷ token 0 kinds_of.Semicolon 67 0 ∷ token 0 kinds_of.Return 68 6 ∷ token 0 kinds_of.Identifier 75 1 ∷ token 0 kinds_of.Semicolon 76 0 ∷ token 0 kinds_of.RightBrace 77 1 ∷ token 0 kinds_of.Semicolon 78 0 ∷ []
 
 abbrev old_comments : List Span
 old_comments = span 0 45 11 ∷ []
@@ -47,23 +42,11 @@ old_lexes : Lexes 0 old_text_is old_tokens old_comments
 unfolding width span begun_by is_white is_letter is_digit is_in_word is_in_run is_exponent is_power is_sign is_x is_b is_o is_digit_of letter_base goes operators punctuation outside_operators keywords general_category value_in general_category_rows encode_utf8
 old_lexes = lexes_by_test 0 old_pieces refl
 
-abbrev file_kinds : List TokenKind
-file_kinds = kinds_of.Func ∷ kinds_of.Identifier ∷ kinds_of.LeftParenthesis ∷ kinds_of.Identifier ∷ kinds_of.Identifier ∷ kinds_of.Comma ∷ kinds_of.Identifier ∷ kinds_of.Identifier ∷ kinds_of.RightParenthesis ∷ kinds_of.Identifier ∷ kinds_of.LeftBrace ∷ kinds_of.Identifier ∷ kinds_of.Define ∷ kinds_of.Identifier ∷ kinds_of.Plus ∷ kinds_of.Integer ∷ kinds_of.Semicolon ∷ kinds_of.Identifier ∷ kinds_of.Assign ∷ kinds_of.Identifier ∷ kinds_of.Star ∷ kinds_of.Integer ∷ kinds_of.Semicolon ∷ kinds_of.Return ∷ kinds_of.Identifier ∷ kinds_of.Semicolon ∷ kinds_of.RightBrace ∷ kinds_of.Semicolon ∷ []
-
-abbrev file_tree : Tree
-file_tree = tree_in (read 60 file_kinds 100 category.Declaration 0)
-
 file_is : IsDeclaration (kinds old_tokens) file_tree
 file_is = let r = read_stands file_kinds 60 100 category.Declaration 0 file_tree refl in record { derives = r.0; begins = refl; closed = refl; all = refl; shallow = r.2 }
 
-abbrev new1_text : List ℕ
-new1_text = codes " p0 "
-
 abbrev new1_pieces : List (List ℕ)
 new1_pieces = codes " " ∷ codes "p0" ∷ codes " " ∷ []
-
-abbrev new1_tokens : List Token
-new1_tokens = token 0 kinds_of.Identifier 1 2 ∷ token 0 kinds_of.Semicolon 3 0 ∷ []
 
 abbrev new1_comments : List Span
 new1_comments = []
@@ -74,34 +57,6 @@ new1_lexes = lexes_by_test 0 new1_pieces refl
 
 abbrev words1 : List TokenKind
 words1 = kinds_of.Identifier ∷ []
-
-abbrev next1 : List TokenKind
-next1 = kinds_of.Semicolon ∷ []
-
-abbrev all1 : List TokenKind
-all1 = kinds_of.Identifier ∷ kinds_of.Semicolon ∷ []
-
-abbrev rewrite1 : Rewrite
-rewrite1 = record {
-  kept = codes "\nfunc addmul(a int, p0 int) int {\nb := a + ";
-  old = codes "1";
-  from = 15;
-  upto = 16;
-  new = new1_text;
-  alone = new1_tokens;
-  path = 1 ∷ 0 ∷ 1 ∷ 0 ∷ 1 ∷ [];
-  change = whole (tree_in (read_at all1 (category.Expression level.Product place.Free)));
-  next = next1;
-}
-
-abbrev rewrites : List Rewrite
-rewrites = rewrite1 ∷ []
-
-abbrev rest_text : List ℕ
-rest_text = codes " // one more\n\tb = b * 2\nreturn b\n}\n"
-
-abbrev tail_text : List ℕ
-tail_text = []
 
 stands1 : Stands 0 new1_text
 unfolding width span begun_by is_white is_letter is_digit is_in_word is_in_run is_exponent is_power is_sign is_x is_b is_o is_digit_of letter_base goes operators punctuation outside_operators keywords general_category value_in general_category_rows encode_utf8 joins
@@ -162,9 +117,6 @@ tree_fits1 = record {
   edge = plain_edge file_kinds words1 15 refl refl;
 }
 
-abbrev result_text : List ℕ
-result_text = codes "\nfunc addmul(a int, p0 int) int {\nb := a +  p0  // one more\n\tb = b * 2\nreturn b\n}\n"
-
 -- the text of the edits is this one
 whole_text : new_text (edits rewrites rest_text) tail_text ≡ result_text
 whole_text = refl
@@ -172,3 +124,6 @@ whole_text = refl
 holds : NewDeclaration 0 old_tokens file_tree rewrites rest_text
 unfolding width span begun_by is_white is_letter is_digit is_in_word is_in_run is_exponent is_power is_sign is_x is_b is_o is_digit_of letter_base goes operators punctuation outside_operators keywords general_category value_in general_category_rows encode_utf8 joins
 holds = new_declaration 0 old_tokens old_comments file_tree rewrites rest_text (record { lexes = old_lexes; derives = file_is.derives; texts = (text_fits1, tt); trees = (tree_fits1, tt); agrees = refl }) file_is (omega arith)
+
+pub all : ParameterExample
+all = record { whole_text = whole_text; holds = holds }

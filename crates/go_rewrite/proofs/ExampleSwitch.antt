@@ -1,4 +1,4 @@
--- A worked example: windows with a switch in them, and a function with a hole where a case was.
+-- The worked example of a switch.
 use Rattle.std.proofs.Common.{◌≡◌, ℕ, true, List, [], ◌∷◌, Some, refl, codes, arith}
 use Rattle.std.specs.Char.{encode_utf8}
 use Rattle.std.specs.Str.{encode_utf8_all}
@@ -6,7 +6,6 @@ use Rattle.ucd_category.specs.GeneralCategory.{general_category}
 use Rattle.ucd_category.specs.GeneralCategoryRows.{general_category_rows}
 use Rattle.ucd_table.specs.Rows.{value_in}
 use Rattle.go_base.specs.declared.Span.{Span}
-use Rattle.go_tokens.specs.declared.token.Token.{Token}
 use Rattle.go_tokens.specs.declared.token.TokenKind.{TokenKind}
 use Rattle.go_tokens.specs.declared.token.TokenKind.TheVariants as kinds_of
 use Rattle.go_tokens.specs.Characters.{is_white, is_letter, is_digit, is_in_word, is_in_run, is_exponent, is_power, is_sign, is_x, is_b, is_o}
@@ -19,27 +18,23 @@ use Rattle.go_tokens.specs.Replacing.{joins}
 use Rattle.go_tokens.specs.Editing.{Stands, old_text, new_text}
 use Rattle.go_tokens.proofs.Examples.{lexes_by_test}
 use Rattle.go_grammar.specs.declared.kind.Category.TheVariants as category
-use Rattle.go_grammar.specs.Trees.{Tree}
 use Rattle.go_grammar.specs.Grammar.{IsFile}
-use Rattle.go_grammar.specs.Reader.{read}
 use Rattle.go_grammar.proofs.Sound.{read_stands}
 use Rattle.go_splice.specs.Replacing.{subtree_at}
-use Rattle.go_splice.specs.Sites.{items}
 use Rattle.go_splice.specs.Places.{IsDeclaration}
-use Rattle.go_rewrite.specs.Rewriting.{Rewrite, edits, TextFits, TreeFits, NewFile}
+use Rattle.go_rewrite.specs.Rewriting.{edits, TextFits, TreeFits, NewFile}
 use Rattle.go_rewrite.proofs.Tokens.{among_get}
 use Rattle.go_rewrite.proofs.Rewritten.{new_file}
 use Rattle.go_splice.specs.Lists.{in_block}
-use Rattle.go_rewrite.proofs.Testing.{tree_in, written, statement_at, statements, statements_run, plain_edge}
+use Rattle.go_rewrite.specs.Readings.{tree_in, statement_at}
+use Rattle.go_rewrite.proofs.Testing.{written, statements_run, plain_edge}
+use Rattle.go_rewrite.specs.ExampleSwitch.{SwitchExample, old_tokens, file_kinds, file_tree, new1_text, new1_tokens, all1, rewrite1, new2_text, new2_tokens, all2, rewrite2, rewrites, rest_text, tail_text, tail_tokens, tail_kinds, added, result_text}
 
 abbrev old_text_is : List ℕ
 old_text_is = codes "package p\n\nfunc f(x int) {\n\tswitch x {\n\tcase-3:\n\t\tx++\n\t}\n\tx--\n}\n\nfunc g(x int) {\n\tswitch x {\n\tcase-4:\n\t\tx++\n\t}\n\tx--\n}\n"
 
 abbrev old_pieces : List (List ℕ)
 old_pieces = codes "package" ∷ codes " " ∷ codes "p" ∷ codes "\n" ∷ codes "\n" ∷ codes "func" ∷ codes " " ∷ codes "f" ∷ codes "(" ∷ codes "x" ∷ codes " " ∷ codes "int" ∷ codes ")" ∷ codes " " ∷ codes "{" ∷ codes "\n" ∷ codes "\t" ∷ codes "switch" ∷ codes " " ∷ codes "x" ∷ codes " " ∷ codes "{" ∷ codes "\n" ∷ codes "\t" ∷ codes "case" ∷ codes "-" ∷ codes "3" ∷ codes ":" ∷ codes "\n" ∷ codes "\t" ∷ codes "\t" ∷ codes "x" ∷ codes "++" ∷ codes "\n" ∷ codes "\t" ∷ codes "}" ∷ codes "\n" ∷ codes "\t" ∷ codes "x" ∷ codes "--" ∷ codes "\n" ∷ codes "}" ∷ codes "\n" ∷ codes "\n" ∷ codes "func" ∷ codes " " ∷ codes "g" ∷ codes "(" ∷ codes "x" ∷ codes " " ∷ codes "int" ∷ codes ")" ∷ codes " " ∷ codes "{" ∷ codes "\n" ∷ codes "\t" ∷ codes "switch" ∷ codes " " ∷ codes "x" ∷ codes " " ∷ codes "{" ∷ codes "\n" ∷ codes "\t" ∷ codes "case" ∷ codes "-" ∷ codes "4" ∷ codes ":" ∷ codes "\n" ∷ codes "\t" ∷ codes "\t" ∷ codes "x" ∷ codes "++" ∷ codes "\n" ∷ codes "\t" ∷ codes "}" ∷ codes "\n" ∷ codes "\t" ∷ codes "x" ∷ codes "--" ∷ codes "\n" ∷ codes "}" ∷ codes "\n" ∷ []
-
-abbrev old_tokens : List Token
-old_tokens = token 0 kinds_of.Package 0 7 ∷ token 0 kinds_of.Identifier 8 1 ∷ token 0 kinds_of.Semicolon 9 0 ∷ token 0 kinds_of.Func 11 4 ∷ token 0 kinds_of.Identifier 16 1 ∷ token 0 kinds_of.LeftParenthesis 17 1 ∷ token 0 kinds_of.Identifier 18 1 ∷ token 0 kinds_of.Identifier 20 3 ∷ token 0 kinds_of.RightParenthesis 23 1 ∷ token 0 kinds_of.LeftBrace 25 1 ∷ token 0 kinds_of.Switch 28 6 ∷ token 0 kinds_of.Identifier 35 1 ∷ token 0 kinds_of.LeftBrace 37 1 ∷ token 0 kinds_of.Case 40 4 ∷ token 0 kinds_of.Minus 44 1 ∷ token 0 kinds_of.Integer 45 1 ∷ token 0 kinds_of.Colon 46 1 ∷ token 0 kinds_of.Identifier 50 1 ∷ token 0 kinds_of.Increment 51 2 ∷ token 0 kinds_of.Semicolon 53 0 ∷ token 0 kinds_of.RightBrace 55 1 ∷ token 0 kinds_of.Semicolon 56 0 ∷ token 0 kinds_of.Identifier 58 1 ∷ token 0 kinds_of.Decrement 59 2 ∷ token 0 kinds_of.Semicolon 61 0 ∷ token 0 kinds_of.RightBrace 62 1 ∷ token 0 kinds_of.Semicolon 63 0 ∷ token 0 kinds_of.Func 65 4 ∷ token 0 kinds_of.Identifier 70 1 ∷ token 0 kinds_of.LeftParenthesis 71 1 ∷ token 0 kinds_of.Identifier 72 1 ∷ token 0 kinds_of.Identifier 74 3 ∷ token 0 kinds_of.RightParenthesis 77 1 ∷ token 0 kinds_of.LeftBrace 79 1 ∷ token 0 kinds_of.Switch 82 6 ∷ token 0 kinds_of.Identifier 89 1 ∷ token 0 kinds_of.LeftBrace 91 1 ∷ token 0 kinds_of.Case 94 4 ∷ token 0 kinds_of.Minus 98 1 ∷ token 0 kinds_of.Integer 99 1 ∷ token 0 kinds_of.Colon 100 1 ∷ token 0 kinds_of.Identifier 104 1 ∷ token 0 kinds_of.Increment 105 2 ∷ token 0 kinds_of.Semicolon 107 0 ∷ token 0 kinds_of.RightBrace 109 1 ∷ token 0 kinds_of.Semicolon 110 0 ∷ token 0 kinds_of.Identifier 112 1 ∷ token 0 kinds_of.Decrement 113 2 ∷ token 0 kinds_of.Semicolon 115 0 ∷ token 0 kinds_of.RightBrace 116 1 ∷ token 0 kinds_of.Semicolon 117 0 ∷ []
 
 abbrev old_comments : List Span
 old_comments = []
@@ -48,23 +43,11 @@ old_lexes : Lexes 0 old_text_is old_tokens old_comments
 unfolding width span begun_by is_white is_letter is_digit is_in_word is_in_run is_exponent is_power is_sign is_x is_b is_o is_digit_of letter_base goes operators punctuation outside_operators keywords general_category value_in general_category_rows encode_utf8
 old_lexes = lexes_by_test 0 old_pieces refl
 
-abbrev file_kinds : List TokenKind
-file_kinds = kinds_of.Package ∷ kinds_of.Identifier ∷ kinds_of.Semicolon ∷ kinds_of.Func ∷ kinds_of.Identifier ∷ kinds_of.LeftParenthesis ∷ kinds_of.Identifier ∷ kinds_of.Identifier ∷ kinds_of.RightParenthesis ∷ kinds_of.LeftBrace ∷ kinds_of.Switch ∷ kinds_of.Identifier ∷ kinds_of.LeftBrace ∷ kinds_of.Case ∷ kinds_of.Minus ∷ kinds_of.Integer ∷ kinds_of.Colon ∷ kinds_of.Identifier ∷ kinds_of.Increment ∷ kinds_of.Semicolon ∷ kinds_of.RightBrace ∷ kinds_of.Semicolon ∷ kinds_of.Identifier ∷ kinds_of.Decrement ∷ kinds_of.Semicolon ∷ kinds_of.RightBrace ∷ kinds_of.Semicolon ∷ kinds_of.Func ∷ kinds_of.Identifier ∷ kinds_of.LeftParenthesis ∷ kinds_of.Identifier ∷ kinds_of.Identifier ∷ kinds_of.RightParenthesis ∷ kinds_of.LeftBrace ∷ kinds_of.Switch ∷ kinds_of.Identifier ∷ kinds_of.LeftBrace ∷ kinds_of.Case ∷ kinds_of.Minus ∷ kinds_of.Integer ∷ kinds_of.Colon ∷ kinds_of.Identifier ∷ kinds_of.Increment ∷ kinds_of.Semicolon ∷ kinds_of.RightBrace ∷ kinds_of.Semicolon ∷ kinds_of.Identifier ∷ kinds_of.Decrement ∷ kinds_of.Semicolon ∷ kinds_of.RightBrace ∷ kinds_of.Semicolon ∷ []
-
-abbrev file_tree : Tree
-file_tree = tree_in (read 60 file_kinds 101 category.File 0)
-
 file_is : IsFile (kinds old_tokens) file_tree
 file_is = let r = read_stands file_kinds 60 101 category.File 0 file_tree refl in record { derives = r.0; begins = refl; ends = refl; shallow = r.2 }
 
-abbrev new1_text : List ℕ
-new1_text = codes "x = h(x, -3)"
-
 abbrev new1_pieces : List (List ℕ)
 new1_pieces = codes "x" ∷ codes " " ∷ codes "=" ∷ codes " " ∷ codes "h" ∷ codes "(" ∷ codes "x" ∷ codes "," ∷ codes " " ∷ codes "-" ∷ codes "3" ∷ codes ")" ∷ []
-
-abbrev new1_tokens : List Token
-new1_tokens = token 0 kinds_of.Identifier 0 1 ∷ token 0 kinds_of.Assign 2 1 ∷ token 0 kinds_of.Identifier 4 1 ∷ token 0 kinds_of.LeftParenthesis 5 1 ∷ token 0 kinds_of.Identifier 6 1 ∷ token 0 kinds_of.Comma 7 1 ∷ token 0 kinds_of.Minus 9 1 ∷ token 0 kinds_of.Integer 10 1 ∷ token 0 kinds_of.RightParenthesis 11 1 ∷ token 0 kinds_of.Semicolon 12 0 ∷ []
 
 abbrev new1_comments : List Span
 new1_comments = []
@@ -76,33 +59,8 @@ new1_lexes = lexes_by_test 0 new1_pieces refl
 abbrev words1 : List TokenKind
 words1 = kinds_of.Identifier ∷ kinds_of.Assign ∷ kinds_of.Identifier ∷ kinds_of.LeftParenthesis ∷ kinds_of.Identifier ∷ kinds_of.Comma ∷ kinds_of.Minus ∷ kinds_of.Integer ∷ kinds_of.RightParenthesis ∷ []
 
-abbrev next1 : List TokenKind
-next1 = kinds_of.Semicolon ∷ []
-
-abbrev all1 : List TokenKind
-all1 = kinds_of.Identifier ∷ kinds_of.Assign ∷ kinds_of.Identifier ∷ kinds_of.LeftParenthesis ∷ kinds_of.Identifier ∷ kinds_of.Comma ∷ kinds_of.Minus ∷ kinds_of.Integer ∷ kinds_of.RightParenthesis ∷ kinds_of.Semicolon ∷ []
-
-abbrev rewrite1 : Rewrite
-rewrite1 = record {
-  kept = codes "package p\n\nfunc f(x int) {\n\t";
-  old = codes "switch x {\n\tcase-3:\n\t\tx++\n\t}\n\tx--";
-  from = 10;
-  upto = 24;
-  new = new1_text;
-  alone = new1_tokens;
-  path = 1 ∷ 1 ∷ [];
-  change = items 0 1 (statements 0 (statement_at all1 0) all1);
-  next = next1;
-}
-
-abbrev new2_text : List ℕ
-new2_text = codes "x = h(x, -4)"
-
 abbrev new2_pieces : List (List ℕ)
 new2_pieces = codes "x" ∷ codes " " ∷ codes "=" ∷ codes " " ∷ codes "h" ∷ codes "(" ∷ codes "x" ∷ codes "," ∷ codes " " ∷ codes "-" ∷ codes "4" ∷ codes ")" ∷ []
-
-abbrev new2_tokens : List Token
-new2_tokens = token 0 kinds_of.Identifier 0 1 ∷ token 0 kinds_of.Assign 2 1 ∷ token 0 kinds_of.Identifier 4 1 ∷ token 0 kinds_of.LeftParenthesis 5 1 ∷ token 0 kinds_of.Identifier 6 1 ∷ token 0 kinds_of.Comma 7 1 ∷ token 0 kinds_of.Minus 9 1 ∷ token 0 kinds_of.Integer 10 1 ∷ token 0 kinds_of.RightParenthesis 11 1 ∷ token 0 kinds_of.Semicolon 12 0 ∷ []
 
 abbrev new2_comments : List Span
 new2_comments = []
@@ -114,39 +72,8 @@ new2_lexes = lexes_by_test 0 new2_pieces refl
 abbrev words2 : List TokenKind
 words2 = kinds_of.Identifier ∷ kinds_of.Assign ∷ kinds_of.Identifier ∷ kinds_of.LeftParenthesis ∷ kinds_of.Identifier ∷ kinds_of.Comma ∷ kinds_of.Minus ∷ kinds_of.Integer ∷ kinds_of.RightParenthesis ∷ []
 
-abbrev next2 : List TokenKind
-next2 = kinds_of.Semicolon ∷ []
-
-abbrev all2 : List TokenKind
-all2 = kinds_of.Identifier ∷ kinds_of.Assign ∷ kinds_of.Identifier ∷ kinds_of.LeftParenthesis ∷ kinds_of.Identifier ∷ kinds_of.Comma ∷ kinds_of.Minus ∷ kinds_of.Integer ∷ kinds_of.RightParenthesis ∷ kinds_of.Semicolon ∷ []
-
-abbrev rewrite2 : Rewrite
-rewrite2 = record {
-  kept = codes "\n}\n\nfunc g(x int) {\n\t";
-  old = codes "switch x {\n\tcase-4:\n\t\tx++\n\t}\n\tx--";
-  from = 34;
-  upto = 48;
-  new = new2_text;
-  alone = new2_tokens;
-  path = 2 ∷ 1 ∷ [];
-  change = items 0 1 (statements 0 (statement_at all2 0) all2);
-  next = next2;
-}
-
-abbrev rewrites : List Rewrite
-rewrites = rewrite1 ∷ rewrite2 ∷ []
-
-abbrev rest_text : List ℕ
-rest_text = codes "\n}\n"
-
-abbrev tail_text : List ℕ
-tail_text = codes "\nfunc h(x int, p0 int) int {\nswitch x {\n\tcase p0 :\n\t\tx++\n\t}\n\tx--\nreturn x\n}\n"
-
 abbrev tail_pieces : List (List ℕ)
 tail_pieces = codes "\n" ∷ codes "func" ∷ codes " " ∷ codes "h" ∷ codes "(" ∷ codes "x" ∷ codes " " ∷ codes "int" ∷ codes "," ∷ codes " " ∷ codes "p0" ∷ codes " " ∷ codes "int" ∷ codes ")" ∷ codes " " ∷ codes "int" ∷ codes " " ∷ codes "{" ∷ codes "\n" ∷ codes "switch" ∷ codes " " ∷ codes "x" ∷ codes " " ∷ codes "{" ∷ codes "\n" ∷ codes "\t" ∷ codes "case" ∷ codes " " ∷ codes "p0" ∷ codes " " ∷ codes ":" ∷ codes "\n" ∷ codes "\t" ∷ codes "\t" ∷ codes "x" ∷ codes "++" ∷ codes "\n" ∷ codes "\t" ∷ codes "}" ∷ codes "\n" ∷ codes "\t" ∷ codes "x" ∷ codes "--" ∷ codes "\n" ∷ codes "return" ∷ codes " " ∷ codes "x" ∷ codes "\n" ∷ codes "}" ∷ codes "\n" ∷ []
-
-abbrev tail_tokens : List Token
-tail_tokens = token 0 kinds_of.Func 1 4 ∷ token 0 kinds_of.Identifier 6 1 ∷ token 0 kinds_of.LeftParenthesis 7 1 ∷ token 0 kinds_of.Identifier 8 1 ∷ token 0 kinds_of.Identifier 10 3 ∷ token 0 kinds_of.Comma 13 1 ∷ token 0 kinds_of.Identifier 15 2 ∷ token 0 kinds_of.Identifier 18 3 ∷ token 0 kinds_of.RightParenthesis 21 1 ∷ token 0 kinds_of.Identifier 23 3 ∷ token 0 kinds_of.LeftBrace 27 1 ∷ token 0 kinds_of.Switch 29 6 ∷ token 0 kinds_of.Identifier 36 1 ∷ token 0 kinds_of.LeftBrace 38 1 ∷ token 0 kinds_of.Case 41 4 ∷ token 0 kinds_of.Identifier 46 2 ∷ token 0 kinds_of.Colon 49 1 ∷ token 0 kinds_of.Identifier 53 1 ∷ token 0 kinds_of.Increment 54 2 ∷ token 0 kinds_of.Semicolon 56 0 ∷ token 0 kinds_of.RightBrace 58 1 ∷ token 0 kinds_of.Semicolon 59 0 ∷ token 0 kinds_of.Identifier 61 1 ∷ token 0 kinds_of.Decrement 62 2 ∷ token 0 kinds_of.Semicolon 64 0 ∷ token 0 kinds_of.Return 65 6 ∷ token 0 kinds_of.Identifier 72 1 ∷ token 0 kinds_of.Semicolon 73 0 ∷ token 0 kinds_of.RightBrace 74 1 ∷ token 0 kinds_of.Semicolon 75 0 ∷ []
 
 abbrev tail_comments : List Span
 tail_comments = []
@@ -154,12 +81,6 @@ tail_comments = []
 tail_lexes : Lexes 0 tail_text tail_tokens tail_comments
 unfolding width span begun_by is_white is_letter is_digit is_in_word is_in_run is_exponent is_power is_sign is_x is_b is_o is_digit_of letter_base goes operators punctuation outside_operators keywords general_category value_in general_category_rows encode_utf8
 tail_lexes = lexes_by_test 0 tail_pieces refl
-
-abbrev tail_kinds : List TokenKind
-tail_kinds = kinds_of.Func ∷ kinds_of.Identifier ∷ kinds_of.LeftParenthesis ∷ kinds_of.Identifier ∷ kinds_of.Identifier ∷ kinds_of.Comma ∷ kinds_of.Identifier ∷ kinds_of.Identifier ∷ kinds_of.RightParenthesis ∷ kinds_of.Identifier ∷ kinds_of.LeftBrace ∷ kinds_of.Switch ∷ kinds_of.Identifier ∷ kinds_of.LeftBrace ∷ kinds_of.Case ∷ kinds_of.Identifier ∷ kinds_of.Colon ∷ kinds_of.Identifier ∷ kinds_of.Increment ∷ kinds_of.Semicolon ∷ kinds_of.RightBrace ∷ kinds_of.Semicolon ∷ kinds_of.Identifier ∷ kinds_of.Decrement ∷ kinds_of.Semicolon ∷ kinds_of.Return ∷ kinds_of.Identifier ∷ kinds_of.Semicolon ∷ kinds_of.RightBrace ∷ kinds_of.Semicolon ∷ []
-
-abbrev added : Tree
-added = tree_in (read 60 tail_kinds 100 category.Declaration 0)
 
 added_is : IsDeclaration (kinds tail_tokens) added
 added_is = let r = read_stands tail_kinds 60 100 category.Declaration 0 added refl in record { derives = r.0; begins = refl; closed = refl; all = refl; shallow = r.2 }
@@ -282,9 +203,6 @@ tree_fits2 = record {
   edge = plain_edge file_kinds words2 34 refl refl;
 }
 
-abbrev result_text : List ℕ
-result_text = codes "package p\n\nfunc f(x int) {\n\tx = h(x, -3)\n}\n\nfunc g(x int) {\n\tx = h(x, -4)\n}\n\nfunc h(x int, p0 int) int {\nswitch x {\n\tcase p0 :\n\t\tx++\n\t}\n\tx--\nreturn x\n}\n"
-
 -- the text of the edits is this one
 whole_text : new_text (edits rewrites rest_text) tail_text ≡ result_text
 whole_text = refl
@@ -303,3 +221,6 @@ holds = new_file 0 (encode_utf8_all old_text_is) (encode_utf8_all result_text) o
   appended = record { begins = refl; comments = tail_comments; lexes = tail_lexes };
   added_fits = added_is;
 })
+
+pub all : SwitchExample
+all = record { whole_text = whole_text; holds = holds }

@@ -63,9 +63,6 @@ module _ (file : ℕ) (text before inner behind : List ℕ) (whole : List (List 
       let b : width (join r.range.blanks) ≡ width [] = ap (λ x. width (join x)) r.is_old.blanks in
       omega (arith, z, b, width-nil, width-append (join r.range.before) (r.range.last ++ join r.range.blanks), width-append r.range.last (join r.range.blanks))
 
-  before_last : List (List ℕ)
-  before_last = r.first_pieces ++ r.range.before
-
   divided : whole ≡ (r.first_pieces ++ r.range.before) ++ r.range.last ∷ r.rest_pieces
   divided =
       let tight : pieces_of r.range ++ r.rest_pieces ≡ r.range.before ++ (r.range.last ∷ r.rest_pieces) = append_assoc r.range.before (r.range.last ∷ r.range.blanks) r.rest_pieces ∙ ap (λ x. r.range.before ++ (r.range.last ∷ (x ++ r.rest_pieces))) r.is_old.blanks in
@@ -92,9 +89,6 @@ module _ (file : ℕ) (text before inner behind : List ℕ) (whole : List (List 
 
   lexes : Lexes file inner (tokens file 0 (pieces_of r.range) true) (comments file 0 (pieces_of r.range))
   lexes = record { pieces = pieces_of r.range; whole = r.old_is; cut = cut_here; good = good_here; spelled = refl; noted = refl }
-
-  first_token : Token
-  first_token = token file (token_kind head.piece) (width []) (width head.piece)
 
   first_at : slice_get (tokens file 0 (pieces_of r.range) true) 0 ≡ Some (token file (token_kind head.piece) (width []) (width head.piece))
   first_at = ap (λ x. slice_get (tokens file 0 x true) 0) head.is ∙ token_behind file [] head.piece head.rest true head.token

@@ -15,5 +15,6 @@ mod Parts
 mod Rewritten
 mod Settled
 mod Testing
+mod TextExamples
 mod Tokens
 mod Trees

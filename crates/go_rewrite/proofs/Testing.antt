@@ -5,46 +5,23 @@ use Rattle.std.proofs.lemmas.Bool.{ltb-true}
 use Rattle.go_tokens.specs.declared.token.Token.{Token}
 use Rattle.go_tokens.specs.declared.token.TokenKind.{TokenKind}
 use Rattle.go_tokens.specs.declared.token.TokenKind.TheVariants as token
-use Rattle.go_tokens.specs.Lexing.{inserted}
 use Rattle.go_tokens.specs.Editing.{IsWritten}
-use Rattle.go_grammar.specs.declared.kind.Kind.TheVariants as kind
 use Rattle.go_grammar.specs.declared.kind.Category.{Category}
 use Rattle.go_grammar.specs.declared.kind.Category.TheVariants as category
 use Rattle.go_grammar.specs.Rules.{Items}
-use Rattle.go_grammar.specs.Trees.{Tree, node, Trees, none, more, skip, first, last}
+use Rattle.go_grammar.specs.Trees.{Tree, Trees, none, more, skip, first, last}
 use Rattle.go_grammar.specs.Grammar.{IsAt, Only, Derives}
 use Rattle.go_grammar.specs.Words.{is_word}
-use Rattle.go_grammar.specs.Reader.{read}
 use Rattle.go_grammar.proofs.Rows.{and_both}
 use Rattle.go_grammar.proofs.Sound.{read_stands}
 use Rattle.go_grammar.proofs.Words.{at-is_word}
 use Rattle.go_splice.specs.Replacing.{Edge, Run}
 use Rattle.go_splice.specs.Lists.{in_block, in_clause}
+use Rattle.go_rewrite.specs.Readings.{statement_at, statements, read_at}
 use Rattle.go_rewrite.specs.Rewriting.{is_written}
-
--- the tree that a reading finds
-abbrev pub tree_in : Option Tree → Tree
-tree_in None = node kind.File 0 0 none
-tree_in (Some t) = t
-
--- the token that is found
-abbrev pub token_in : Option Token → Token
-token_in None = inserted 0 0
-token_in (Some t) = t
 
 pub written : (t : Token) → is_written t ≡ true → IsWritten t
 written t h = ltb-true t.span.start t.span.end h
-
--- a statement that begins here
-abbrev pub statement_at : List TokenKind → ℕ → Option Tree
-statement_at ts i = read 60 ts 60 category.Statement i
-
--- this statement and so many more, each behind one semicolon
-abbrev pub statements : ℕ → Option Tree → List TokenKind → Trees
-statements zero None ts = none
-statements (suc n) None ts = none
-statements zero (Some p) ts = more p none
-statements (suc n) (Some p) ts = more p (statements n (statement_at ts (suc (last p))) ts)
 
 -- do they end here
 abbrev pub statements_end : ℕ → Option Tree → List TokenKind → ℕ → Bool
@@ -105,10 +82,6 @@ plain_edge ts ws i brace closed = record {
         let same : n ≡ i = omega (arith, e) in
         let here : is_word (slice_get ts i) token.RightParenthesis ≡ true = ap (λ w. is_word w token.RightParenthesis) (ap (slice_get ts) (sym same) ∙ at) in
         cc
-
--- a text that is read
-abbrev pub read_at : List TokenKind → Category → Option Tree
-read_at ts c = read 60 ts 60 c 0
 
 pub read_fits : (ts : List TokenKind) (c : Category) (s : Tree) (n : ℕ) → read_at ts c ≡ Some s → last s ≡ n → Derives ts c s × (first s ≡ 0) × (last s ≡ n)
 read_fits ts c s n e l = let r = read_stands ts 60 60 c 0 s e in (r.0, r.1, l)

@@ -1,2 +1,12 @@
+pub mod ExampleCalls
+pub mod ExampleExcerpt
+pub mod ExampleFunction
+pub mod ExampleHoles
+pub mod ExampleNames
+pub mod ExampleParameter
+pub mod ExampleSwitch
+pub mod ExampleWindows
 pub mod Excerpts
+pub mod Readings
 pub mod Rewriting
+pub mod TextExamples

@@ -15,6 +15,13 @@ ghost use Rattle.go_splice.specs.Endings.{Ending};
 ghost use Rattle.go_splice.specs.Lists.{AllAlike};
 ghost use Rattle.go_rewrite.specs.Excerpts.{Part, IsPart, ExcerptOf, ItemsInside, TextInside, ItemsStand, TextStands};
 ghost use Rattle.go_rewrite.specs.Rewriting.{Rewrite, IsRange, sites_alone, new_tree, agreeing, Rewriting, before, HasTexts, HasTail, IsWellFormed, HasNewTokens, HasNewTree, IsDeclarationRewriting, NewDeclaration, FileRewriting, IsFileWellFormed, HasNewFile};
+ghost use Rattle.go_rewrite.specs.TextExamples.{Examples};
+
+/// Texts, tokens and trees of eight worked examples: calls in place of statements, excerpts, new functions, holes, names, a
+/// parameter, a switch, and windows.
+pub fn examples()
+    ensures { Examples }
+{}
 
 /// Where ranges of a file are replaced and nothing or a declaration is appended, the new bytes have the lexing and the tree that
 /// the new texts make of the old ones. What is asked is asked of each new text by itself and of its neighbours

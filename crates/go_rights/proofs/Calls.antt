@@ -9,7 +9,7 @@ use Rattle.go_tree.specs.declared.object.Predeclared.TheVariants as predeclared
 use Rattle.go_types.specs.Trees.{TypeTree, integer, array, slice, structure, function, TypeRow, none, more}
 use Rattle.go_types.specs.Relations.{Rights}
 use Rattle.type_tests.specs.Tests.{underlying_of}
-use Rattle.go_typed.specs.Trees.{Typed, typed, Typeds, sort_of, parts_of, label_of, EveryPart}
+use Rattle.go_typed.specs.Trees.{typed, Typeds, sort_of, parts_of, EveryPart}
 use Rattle.go_typed.specs.Trees as sort
 use Rattle.go_rules.specs.declared.family.OpenKind.{OpenKind}
 use Rattle.go_rules.specs.Calls.{keeps_value, becomes_text, is_integer_type, is_text_type, converts, converts_value, open_conversion, value_conversion, kept_conversion, conversion_failing, constant_or_value, conversion_sort, conversion_take, parameters_of, results_of, all_unassignable, function_call_failing, called, function_call_sort, all_as, printed, all_printed, length_failing, sizes_failing, make_failing, each_unassignable, append_failing_in, append_failing, copies, copy_failing, panic_failing, builtin_failing, constant_length, length_value, length_sort, made_sort, appended_sort, builtin_sort, appended_takes, builtin_takes, one_conversion, call_failing, converted_sort, call_sort, function_takes, call_takes}

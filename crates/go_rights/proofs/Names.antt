@@ -58,9 +58,6 @@ module _ (p : ℕ → Bool) (old r : Standing) (objects : ℕ → Option Object)
       subst (λ (f : ℕ → Option Object). NameHas (λ t. ObjectAgrees p s.sorts r m (f t)) k i) (sym of.name)
       (subst (λ (g : Standing). NameHas (λ t. ObjectAgrees p g r m (objects t)) k i) (sym of.stand) e)
 
-  need_in_full : (h : Hint) → need_of in_full h ≡ in_full
-  need_in_full h = refl
-
   pub name_needed : (s : Scope) (n : Needed) → Of s n → (k : Kind) (h : Hint) (i : ℕ) → NameHas (λ t. ObjectAgrees p old r (need_of n h) (objects t)) k i → NameAgrees p s new r k h i
   name_needed s n of k h i e =
       name_agrees s k h i (subst (λ m. NameHas (λ t. ObjectAgrees p s.sorts r (need_of m h) (s.objects t)) k i) (sym of.need) (here s n of (need_of n h) k i e))

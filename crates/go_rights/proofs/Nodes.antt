@@ -9,7 +9,7 @@ use Rattle.go_tree.specs.declared.object.Object.TheVariants as object
 use Rattle.go_types.specs.Trees.{TypeTree, array, slice, structure}
 use Rattle.go_types.specs.Relations.{Rights}
 use Rattle.type_tests.specs.Tests.{underlying_of}
-use Rattle.go_typed.specs.Trees.{Typed, typed, Typeds, list_of, form_of, sort_of, parts_of}
+use Rattle.go_typed.specs.Trees.{typed, list_of, form_of, sort_of, parts_of}
 use Rattle.go_typed.specs.Trees as sort
 use Rattle.go_rules.specs.Calls.{call_failing, call_sort, call_takes}
 use Rattle.go_rules.specs.Indexes.{selector_failing, selector_sort, index_failing, index_sort, slice_failing, slice_sort}

@@ -7,7 +7,7 @@ use Rattle.go_tree.specs.declared.object.Predeclared.TheVariants as predeclared
 use Rattle.go_types.specs.Trees.{TypeTree, integer, array, slice, row}
 use Rattle.go_types.specs.Relations.{Rights}
 use Rattle.type_tests.specs.Tests.{underlying_of}
-use Rattle.go_typed.specs.Trees.{Typed, typed, Typeds, list_of, sort_of, form_of, parts_of, first_of, EveryPart}
+use Rattle.go_typed.specs.Trees.{typed, Typeds, list_of, sort_of, form_of, parts_of, first_of, EveryPart}
 use Rattle.go_typed.specs.Trees as sort
 use Rattle.go_rules.specs.declared.family.OpenKind.{OpenKind}
 use Rattle.go_rules.specs.declared.family.OpenKind.TheVariants as untyped_kind

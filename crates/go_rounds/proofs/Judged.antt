@@ -6,8 +6,9 @@ use Rattle.go_tree.specs.declared.context.Entity.{Entity}
 use Rattle.go_tree.specs.declared.context.Entity.TheVariants as entity
 use Rattle.go_types.specs.Relations.{Rights}
 use Rattle.go_rules.specs.Scopes.{in_full, at_once, Scope, Hint, value, several, type_place}
+use Rattle.go_rules.specs.Faults.{joined}
 use Rattle.go_package.specs.Declarations.{Specification, is_alone}
-use Rattle.go_package.specs.Verdicts.{joined, type_hint, value_hint, part_in, faults_in, own_value, own_faults, value_state, state_with, assigned_of, right_found}
+use Rattle.go_package.specs.Verdicts.{type_hint, value_hint, part_in, faults_in, own_value, own_faults, value_state, state_with, assigned_of, right_found}
 use Rattle.go_rights.specs.Reach.{AgreeOn, MaybePart, HintWithin, Standing, moved, IsTypedSo}
 use Rattle.go_rights.proofs.Names.{expression_agrees, type_agrees}
 use Rattle.go_rights.proofs.Typing.{typed_so}

@@ -16,7 +16,7 @@ use Rattle.go_rights.specs.Names.{ObjectWithin}
 use Rattle.go_rights.specs.Reach.{StandsWithin}
 use Rattle.go_rounds.specs.Ranks.{Ranks, reached, ReachedBefore, NamesBefore, told_ways, own_ways, NeedsBefore, IsFoundAs, AreFound, AreAtMost}
 use Rattle.go_rounds.specs.Stages.{TypesBefore, StageBefore, NamesStaged, told_stages, own_stages, IsStagedAs, AreStaged}
-use Rattle.go_rounds.proofs.Needs.{each_more, needs_more, within_more}
+use Rattle.go_rounds.proofs.Needs.{each_more, needs_more}
 use Rattle.go_rounds.proofs.Rounds.{at_next, next_length, settled}
 
 -- ---- objects

@@ -1,24 +1,13 @@
 //! Laws of rounds of judging. These functions do nothing: their contracts are what holds.
-ghost use Rattle.std.specs.Prelude.{◌≡◌, ℕ, ◌<◌, suc, Bool, List};
+ghost use Rattle.std.specs.Prelude.{◌≡◌, ℕ, ◌<◌, suc, List};
 ghost use Rattle.go_tree.specs.Needs.{Needed};
 ghost use Rattle.go_tree.specs.Uses.{UsesView};
-ghost use Rattle.go_rules.specs.Scopes.{Scope};
-ghost use Rattle.go_types.specs.Relations.{Rights};
-ghost use Rattle.go_package.specs.Declarations.{Specification};
 ghost use Rattle.go_package.specs.Knowledge.{Outline, State, outlines};
 ghost use Rattle.go_package.specs.Answer.{specifications, answer_on, package_answer};
 ghost use Rattle.go_package.specs.Sources.{Source, Package, package_of, rounds, needed_by};
 ghost use Rattle.go_package.specs.Verdicts.{known};
-ghost use Rattle.go_rights.specs.Reach.{Standing};
-ghost use Rattle.go_rounds.specs.Judged.{ValueAgrees, IsJudgedSo};
 ghost use Rattle.go_rounds.specs.Stages.{AreStaged};
 ghost use Rattle.go_rounds.specs.Ranks.{Ranks, AreFound, AreAtMost, AllBefore, Falls, IsBound};
-
-/// A constant, a variable or a function is judged the same in two scopes whose right sides agree that its names reach, and in which these
-/// names stand for the same.
-pub fn judged_alike()
-    ensures { (within : ℕ → Bool) (s : Scope) (new : Rights) (r : Standing) (d : Specification) (column : ℕ) → ValueAgrees within s new r d column → IsJudgedSo s new r d column }
-{}
 
 /// Where states of the objects are found one behind the other, each by those that it needs, they are what is known after as many rounds
 /// as the greatest of their ranks, and further rounds change nothing.

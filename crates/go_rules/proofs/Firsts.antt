@@ -86,9 +86,3 @@ some_least f (Some g) p = refl
 pub least_or_else : (fs gs : List TypeFault) → least (or_else fs gs) ≡ instead (least fs) (least gs)
 least_or_else [] gs = refl
 least_or_else (f ∷ fs) gs = sym (some_least f (least fs) (least gs))
-
-never_itself : (a b c : ℕ) → test a b c a b c ≡ false
-never_itself a b c = grind (arith, nat_tests)
-
-pub not_before_itself : (f : TypeFault) → before f f ≡ false
-not_before_itself f = never_itself f.first f.last (code_number f.code)

@@ -1,5 +1,5 @@
 -- Faults placed by tokens, their order, and which of them is reported.
-use Rattle.std.specs.Prelude.{ℕ, Bool, nat_lt, nat_eq, List, [], ◌∷◌, Option, Some, None, Result, Ok, Err, if◌then◌else◌}
+use Rattle.std.specs.Prelude.{ℕ, Bool, nat_lt, nat_eq, List, [], ◌∷◌, ◌++◌, Option, Some, None, Result, Ok, Err, if◌then◌else◌}
 use Rattle.go_base.specs.declared.fault.FaultCode.{FaultCode}
 use Rattle.go_base.specs.Fault.{code_number}
 use Rattle.go_rules.specs.declared.fault.TypeFault.{TypeFault}
@@ -43,6 +43,11 @@ abbrev pub reported : List (List TypeFault) → Option TypeFault
 reported [] = None
 reported ([] ∷ nodes) = reported nodes
 reported ((f ∷ fs) ∷ nodes) = least (f ∷ fs)
+
+-- the rules that fail at the nodes, in one list
+abbrev pub joined : List (List TypeFault) → List TypeFault
+joined [] = []
+joined (fs ∷ nodes) = fs ++ joined nodes
 
 -- the fault that an error names, or `None` where memory ran out
 abbrev pub refusal_of : TypeError → Option TypeFault

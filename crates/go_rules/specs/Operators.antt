@@ -2,7 +2,6 @@
 use Rattle.std.specs.Prelude.{ℕ, ◌^◌, ◌-◌, Bool, true, false, ◌&&◌, ◌||◌, not, if◌then◌else◌, List, [], ◌∷◌, ◌++◌, Option, Some, None, Result, Ok, Err, pos, neg_ℤ}
 use Rattle.go_base.specs.declared.fault.FaultCode.TheVariants as code
 use Rattle.go_ints.specs.declared.kinds.Kind.{Kind}
-use Rattle.go_ints.specs.declared.operators.Op.{Op}
 use Rattle.go_ints.specs.declared.operators.Op.TheVariants as op
 use Rattle.go_ints.specs.Kinds.{bits_of, is_signed}
 use Rattle.go_constants.specs.declared.values.Const.{Const}
@@ -12,7 +11,6 @@ use Rattle.go_constants.specs.declared.values.ConstOp.TheVariants as const_op
 use Rattle.go_constants.specs.declared.values.ConstFault.{ConstFault}
 use Rattle.go_constants.specs.declared.values.ConstFault.TheVariants as const_fault
 use Rattle.go_constants.specs.Folding.{folded}
-use Rattle.go_grammar.specs.declared.kind.Arithmetic.{Arithmetic}
 use Rattle.go_grammar.specs.declared.kind.Arithmetic.TheVariants as arithmetic
 use Rattle.go_grammar.specs.declared.kind.Comparison.{Comparison}
 use Rattle.go_grammar.specs.declared.kind.Comparison.TheVariants as comparison
@@ -25,6 +23,7 @@ use Rattle.go_types.specs.Relations.{Rights}
 use Rattle.type_tests.specs.Tests.{underlying_of, is_assignable, is_comparable}
 use Rattle.type_tests.specs.Identity.{is_identical}
 use Rattle.go_typed.specs.declared.sort.Untyped.TheVariants as untyped
+use Rattle.go_typed.specs.Operators.{op_of}
 use Rattle.go_typed.specs.Trees.{sort_of}
 use Rattle.go_typed.specs.Trees as sort
 use Rattle.go_rules.specs.declared.fault.TypeFault.{TypeFault}
@@ -37,19 +36,6 @@ use Rattle.go_rules.specs.Sorts.{Stands, is_family, family_of_open, family_of_ty
 use Rattle.go_rules.specs.Settling.{Part, at_part, unrepresented, Take, stay, default, as_type}
 
 -- ---- operators on constants
-
-abbrev pub op_of : Arithmetic → Op
-op_of arithmetic.Add = op.Add
-op_of arithmetic.Subtract = op.Sub
-op_of arithmetic.Or = op.Or
-op_of arithmetic.Xor = op.Xor
-op_of arithmetic.Multiply = op.Mul
-op_of arithmetic.Divide = op.Div
-op_of arithmetic.Remainder = op.Rem
-op_of arithmetic.ShiftLeft = op.Shl
-op_of arithmetic.ShiftRight = op.Shr
-op_of arithmetic.And = op.And
-op_of arithmetic.AndNot = op.AndNot
 
 abbrev pub comparing : Comparison → ConstOp
 comparing comparison.Equal = const_op.Eq

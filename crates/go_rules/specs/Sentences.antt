@@ -5,7 +5,7 @@
 --   var n int; var u uint; var x8 int8; var b bool; var t string; var s []int; var a3 [3]int; var v T; var d D
 --   var f func(int, string) bool; var bs []byte; var ss S; const c8 int8 = 5; const k = 300; const cs string = "abc"
 --   func two() (int, string); func do()
-use Rattle.std.specs.Prelude.{ℕ, ◌+◌, ◌-◌, List, [], ◌∷◌, map, codes, Option, Some, None, Result, Ok, Err, pos, slice_get, true, false}
+use Rattle.std.specs.Prelude.{ℕ, ◌+◌, ◌-◌, List, [], ◌∷◌, map, codes, Option, Some, None, Result, Err, pos, slice_get, true, false}
 use Rattle.std.specs.Option.{option_map}
 use Rattle.go_base.specs.declared.fault.FaultCode.{FaultCode}
 use Rattle.go_ints.specs.declared.kinds.Kind.TheVariants as integer_kind
@@ -13,19 +13,18 @@ use Rattle.go_constants.specs.declared.values.Const.TheVariants as const
 use Rattle.go_grammar.specs.declared.kind.Kind.TheVariants as kind
 use Rattle.go_grammar.specs.declared.kind.Operator.{Operator}
 use Rattle.go_grammar.specs.declared.kind.Sign.{Sign}
-use Rattle.go_grammar.specs.Trees.{Tree, node, Trees, none, more, skip, first, last}
+use Rattle.go_grammar.specs.Trees.{Tree, node, none, more, first, last}
 use Rattle.go_tree.specs.declared.object.Object.{Object}
 use Rattle.go_tree.specs.declared.object.Object.TheVariants as object
 use Rattle.go_tree.specs.declared.object.Predeclared.{Predeclared}
-use Rattle.go_tree.specs.Uses.{object_there}
 use Rattle.go_types.specs.Trees.{boolean, text, integer, array, slice, structure, function, declared, row}
 use Rattle.go_types.specs.Relations.{Rights}
 use Rattle.go_typed.specs.declared.form.Referent.TheVariants as referent
-use Rattle.go_typed.specs.Trees.{Typed, sort_of, parts_of, list_of}
+use Rattle.go_typed.specs.Trees.{sort_of, parts_of, list_of}
 use Rattle.go_typed.specs.Trees as sort
 use Rattle.go_rules.specs.declared.fault.TypeFault.{TypeFault}
 use Rattle.go_rules.specs.Faults.{judged, reported}
-use Rattle.go_rules.specs.Sorts.{Stands}
+use Rattle.go_rules.specs.Sorts.{Stands, known}
 use Rattle.go_rules.specs.Scopes.{Needed, in_full, Scope, Hint, value}
 use Rattle.go_rules.specs.Typing.{typing, faults}
 
@@ -120,10 +119,6 @@ locals =
 abbrev pub functions : List Stands
 functions = (sort.Value (function (row ([])) (row ((integer integer_kind.Int) ∷ text ∷ [])))) ∷ (sort.Value (function (row ([])) (row ([])))) ∷ []
 
-abbrev pub known : Option Stands → Stands
-known (Some x) = x
-known None = sort.Unknown
-
 abbrev pub sorts : Needed → Object → Stands
 sorts need (object.Local f n) = known (slice_get locals n)
 sorts need (object.Package n) = known (slice_get functions n)
@@ -202,9 +197,6 @@ bs_word = local_word (codes "bs") 10
 abbrev pub ss_word : Word
 ss_word = local_word (codes "ss") 11
 
-abbrev pub c8_word : Word
-c8_word = local_word (codes "c8") 12
-
 abbrev pub k_word : Word
 k_word = local_word (codes "k") 13
 
@@ -225,9 +217,6 @@ D_word = local_word (codes "D") 18
 
 abbrev pub S_word : Word
 S_word = local_word (codes "S") 19
-
-abbrev pub G_word : Word
-G_word = local_word (codes "G") 20
 
 abbrev pub two_word : Word
 two_word = (codes "two", Some (object.Package 0))

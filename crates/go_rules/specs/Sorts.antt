@@ -81,14 +81,16 @@ constant_of (sort.Constant t c) = Some c
 constant_of (sort.OpenConstant c) = Some c
 constant_of _ = None
 
+-- what it is, or unknown
+abbrev pub known : Option Stands → Stands
+known (Some x) = x
+known None = sort.Unknown
+
 abbrev pub is_open : Stands → Bool
 is_open x = is_some (open_kind x)
 
 abbrev pub is_constant : Stands → Bool
 is_constant x = is_some (constant_of x)
-
-abbrev pub is_value : Stands → Bool
-is_value x = is_some (own_type x) || is_open x
 
 abbrev pub is_unknown : Stands → Bool
 is_unknown sort.Unknown = true

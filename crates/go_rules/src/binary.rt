@@ -8,7 +8,7 @@ ghost use Rattle.go_typed.specs.Views.{seen, sort_seen, Known, KnownSort};
 ghost use Rattle.go_rules.specs.Faults.{least, judged, refusal_of};
 ghost use Rattle.go_rules.specs.Seen.{common_seen, KnownJoint};
 ghost use Rattle.go_rules.specs.Sorts.{is_zero};
-ghost use Rattle.go_rules.specs.Operators.{admits, divides, zero_divisor, refused, both_refuse, constant_op, op_of, comparing, binary_failing, binary_sort};
+ghost use Rattle.go_rules.specs.Operators.{admits, divides, zero_divisor, refused, both_refuse, constant_op, comparing, binary_failing, binary_sort};
 
 use crate::family::Family;
 use crate::fault::{Place, TypeError, TypeFault, earlier, or_earlier};
@@ -19,28 +19,10 @@ use crate::sorts::{constant_of, is_family};
 use go_base::FaultCode;
 use go_constants::{Const, ConstOp};
 use go_grammar::kind::{Arithmetic, Comparison, Operator};
-use go_ints::Op;
+use go_typed::operators::op_of;
 use go_typed::{Sort, TypedNode};
 use go_types::Types;
 use std::alloc::Global;
-
-fn op_of(operator: Arithmetic) -> Op
-    ensures { result ≡ op_of operator }
-{
-    match operator {
-        Arithmetic::Add => Op::Add,
-        Arithmetic::Subtract => Op::Sub,
-        Arithmetic::Or => Op::Or,
-        Arithmetic::Xor => Op::Xor,
-        Arithmetic::Multiply => Op::Mul,
-        Arithmetic::Divide => Op::Div,
-        Arithmetic::Remainder => Op::Rem,
-        Arithmetic::ShiftLeft => Op::Shl,
-        Arithmetic::ShiftRight => Op::Shr,
-        Arithmetic::And => Op::And,
-        Arithmetic::AndNot => Op::AndNot,
-    }
-}
 
 /// The operation on constants of a comparison.
 pub fn comparing(operator: Comparison) -> ConstOp

@@ -4,8 +4,8 @@ use Rattle.std.specs.Prelude.{if◌then◌else◌}
 use Rattle.go_tree.specs.declared.context.Entity.{Entity}
 use Rattle.go_tree.specs.declared.context.Entity.TheVariants as entity
 use Rattle.go_tree.specs.declared.object.Declared.{Declared}
+use Rattle.go_tree.specs.Declarations.{is_variable}
 use Rattle.go_typed.specs.Packages.{Counts, counted, counts_from, no_counts}
-use Rattle.go_run.specs.Runs.{is_variable}
 
 abbrev pub variables_in : List Declared → ℕ
 variables_in [] = 0

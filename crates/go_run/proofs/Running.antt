@@ -33,32 +33,6 @@ use Rattle.go_run.specs.Runs.{depth, tree_run, main_run}
 -- ---- what was done is what was run
 
 module _ (c : ℕ → Machine → Outcome) (old : Machine) (r : Result (Unit {0}) Exit) (new : Machine) where
-  pub ran_on : RanOn c old r new → IsRan c old r new
-  ran_on h = by_cases r h
-    where
-      by_cases : (s : Result (Unit {0}) Exit) → RanOn c old s new → IsRan c old s new
-      by_cases (Ok x) h = h
-      by_cases (Err (exit.Return vs)) h = h
-      by_cases (Err exit.Break) h = h
-      by_cases (Err exit.Continue) h = h
-      by_cases (Err exit.Fallthrough) h = h
-      by_cases (Err (exit.Panic k)) h = h
-      by_cases (Err exit.Undecided) h = h
-      by_cases (Err exit.Memory) h = tt
-
-  -- where memory isn't wanting
-  pub ran_of : wants_memory r ≡ false → IsRan c old r new → RanOn c old r new
-  ran_of e h = by_cases r e h
-    where
-      by_cases : (s : Result (Unit {0}) Exit) → wants_memory s ≡ false → IsRan c old s new → RanOn c old s new
-      by_cases (Ok x) e h = h
-      by_cases (Err (exit.Return vs)) e h = h
-      by_cases (Err exit.Break) e h = h
-      by_cases (Err exit.Continue) e h = h
-      by_cases (Err exit.Fallthrough) e h = h
-      by_cases (Err (exit.Panic k)) e h = h
-      by_cases (Err exit.Undecided) e h = h
-      by_cases (Err exit.Memory) e h = absurd cc
 
   pub ran_wanting : wants_memory r ≡ true → IsRan c old r new
   ran_wanting e = by_cases r e

@@ -1,8 +1,6 @@
 -- What is run of a package, and what is said of its run.
-use Rattle.std.specs.Prelude.{◌≡◌, ℕ, Bool, true, false, List, [], ◌∷◌, map, Option, Some, None, Result, Ok, Err, slice_get}
+use Rattle.std.specs.Prelude.{◌≡◌, ℕ, List, [], ◌∷◌, map, Option, Some, None, Result, Ok, Err, slice_get}
 use Rattle.std.specs.Option.{option_map}
-use Rattle.go_tree.specs.declared.context.Entity.{Entity}
-use Rattle.go_tree.specs.declared.context.Entity.TheVariants as entity
 use Rattle.go_typed.specs.declared.node.TypedNode.{TypedNode}
 use Rattle.go_typed.specs.Packages.{PackageView}
 use Rattle.go_typed.specs.Views.{Known, seen}
@@ -72,11 +70,6 @@ AreKnown k [] = Unit {0}
 AreKnown k (x ∷ xs) = Known k x × AreKnown k xs
 
 -- ---- the state in which it begins
-
-abbrev pub is_variable : Entity → Bool
-is_variable entity.Variable = true
-is_variable entity.Parameter = true
-is_variable e = false
 
 pub record Begins (p : PackageView) (input : List ℕ) (given : ℕ) (m : Machine) : Type 0 where
   pub frame : views m.frame.items ≡ []

@@ -3,7 +3,8 @@
 ghost use Rattle.std.specs.Prelude.{◌≡◌, Some, IfOk};
 ghost use Rattle.go_base.specs.Gives.{Gives};
 ghost use Rattle.go_typed.specs.Packages.{counts_from, no_counts};
-ghost use Rattle.go_run.specs.Runs.{Begins, is_variable, outcome_view, refusal, run_by, run_package};
+ghost use Rattle.go_tree.specs.Declarations.{is_variable};
+ghost use Rattle.go_run.specs.Runs.{Begins, outcome_view, refusal, run_by, run_package};
 
 use crate::entry::main_number;
 use crate::outcome::{Outcome, RunError, outcome_of};

@@ -6,7 +6,7 @@ use Rattle.go_typed.specs.Packages.{PackageView}
 use Rattle.go_meaning.specs.Values as meant
 use Rattle.go_meaning.specs.Values.{nth}
 use Rattle.go_meaning.specs.Computations as meaning
-use Rattle.go_meaning.specs.Computations.{World, Outcome, Ends, Undecided, Comp, go_on, undecided, end_by, give, then_do, one, read, write}
+use Rattle.go_meaning.specs.Computations.{Outcome, Ends, Undecided, Comp, go_on, undecided, end_by, give, then_do, one, read}
 use Rattle.go_meaning.specs.Operations.{Operation, Deed, Gives, Traps, perform, done, operate}
 use Rattle.go_meaning.specs.Doings.{Doing, at}
 use Rattle.go_values.specs.declared.value.Value.{Value}

@@ -9,7 +9,6 @@ use Rattle.go_meaning.specs.Doings.{Doing, blank_place, cell_place, element_plac
 use Rattle.go_values.specs.declared.value.Value.{Value}
 use Rattle.go_values.specs.declared.panic.Panic.{Panic}
 use Rattle.go_values.specs.declared.panic.Panic.TheVariants as panic
-use Rattle.go_values.specs.Deeds.{at_place}
 use Rattle.go_values.specs.Inner.{inner_at, with_inner}
 use Rattle.go_values.specs.Views.{view, views, panic_view}
 use Rattle.go_values.specs.Worlds.{world_view}
@@ -21,7 +20,7 @@ use Rattle.go_runs.specs.declared.targets.Root.TheVariants as root
 use Rattle.go_runs.specs.declared.targets.Target.{Target}
 use Rattle.go_runs.specs.Machines.{outcome, IsLeft, Reads}
 use Rattle.go_runs.specs.Places.{IsPlace}
-use Rattle.go_runs.specs.Targets.{IsIndex, IsReached, Reached, root_read, root_written}
+use Rattle.go_runs.specs.Targets.{IsReached, Reached, root_read, root_written}
 use Rattle.go_runs.proofs.Placing.{reads_local, reads_nothing, reads_by, one_is, one_reads, one_left, one_then_left, panics_by}
 
 -- ---- indexes

@@ -1,7 +1,6 @@
 -- What a machine does by computations that are made of others.
 use Rattle.std.proofs.Common.{◌≡◌, ℕ, List, sym, ap, subst, Result}
 use Rattle.go_meaning.specs.Values as meant
-use Rattle.go_meaning.specs.Values.{nth}
 use Rattle.go_meaning.specs.Computations.{World, Outcome, Comp, go_on}
 use Rattle.go_runs.specs.declared.exit.Values.{Values}
 use Rattle.go_runs.specs.declared.exit.Exit.{Exit}

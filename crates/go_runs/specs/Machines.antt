@@ -1,5 +1,5 @@
 -- What machines do: the computation that an evaluation carries out.
-use Rattle.std.specs.Prelude.{◌≡◌, ℕ, suc, Bool, true, false, List, [], ◌∷◌, Result, Ok, Err}
+use Rattle.std.specs.Prelude.{◌≡◌, ℕ, suc, List, [], ◌∷◌, Result, Ok, Err}
 use Rattle.go_meaning.specs.Values as meant
 use Rattle.go_meaning.specs.Computations as meaning
 use Rattle.go_meaning.specs.Computations.{Outcome, Ends, Undecided, Comp}
@@ -65,26 +65,3 @@ pub record Reads (c : Comp) (depth : ℕ) (old : Machine) (v : meant.Value) : Ty
 abbrev pub IsRead : Comp → ℕ → Machine → Result Value Exit → Type 0
 IsRead c depth m (Ok v) = Reads c depth m (view v)
 IsRead c depth m (Err e) = IsLeft e m (outcome c depth m)
-
--- behind the block of a loop: whether it goes on
-abbrev pub IsRound : Result Values Exit → Result Bool Exit → Type 0
-IsRound (Ok vs) r = r ≡ Ok true
-IsRound (Err exit.Continue) r = r ≡ Ok true
-IsRound (Err exit.Break) r = r ≡ Ok false
-IsRound (Err e) r = r ≡ Err e
-
--- behind a clause of a switch: whether the next one runs too
-abbrev pub IsFall : Result Values Exit → Result Bool Exit → Type 0
-IsFall (Err exit.Fallthrough) r = r ≡ Ok true
-IsFall (Err exit.Break) r = r ≡ Ok false
-IsFall (Ok vs) r = r ≡ Ok false
-IsFall (Err e) r = r ≡ Err e
-
--- behind a body
-abbrev pub left_by : Result Values Exit → Result Values Exit
-left_by (Err (exit.Return vs)) = Ok vs
-left_by (Err exit.Break) = Ok values.Nothing
-left_by (Err exit.Continue) = Ok values.Nothing
-left_by (Err exit.Fallthrough) = Ok values.Nothing
-left_by (Ok vs) = Ok values.Nothing
-left_by (Err e) = Err e

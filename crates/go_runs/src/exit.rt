@@ -14,7 +14,7 @@ pub enum Values {
 }
 
 impl Values {
-    ghost use Rattle.std.specs.Prelude.{◌≡◌, ◌++◌, IfOk};
+    ghost use Rattle.std.specs.Prelude.{◌≡◌, IfOk};
     ghost use Rattle.go_meaning.specs.Values.{nth};
     ghost use Rattle.go_values.specs.Views.{view, views};
     ghost use Rattle.go_runs.specs.Machines.{values_view};
@@ -50,27 +50,6 @@ impl Values {
             }
             Values::Many(list) => Ok(list),
         }
-    }
-
-    /// All of them behind those of a list.
-    ///
-    /// # Errors
-    ///
-    /// Want of memory.
-    #[tactic(auto, using(go_values::proofs::Appending::views_append))]
-    pub fn onto(self, list: Vec<Value>) -> Result<Vec<Value>, Exit>
-        ensures { IfOk result (λ vs. views vs.items ≡ views list.items ++ values_view self) }
-    {
-        let mut list = list;
-        match self {
-            Values::Nothing => {}
-            Values::One(value) => list.push(value)?,
-            Values::Many(more) => {
-                let mut more = more;
-                list.append(&mut more)?;
-            }
-        }
-        Ok(list)
     }
 }
 

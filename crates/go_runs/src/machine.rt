@@ -1,6 +1,6 @@
 //! The state of a run.
 
-use crate::exit::{Exit, Values};
+use crate::exit::Exit;
 use go_values::{Value, World};
 use std::mem;
 
@@ -14,7 +14,7 @@ pub struct Machine {
 
 impl Machine {
     ghost use Rattle.std.specs.Prelude.{◌≡◌};
-    ghost use Rattle.go_runs.specs.Machines.{IsSpent, left_by};
+    ghost use Rattle.go_runs.specs.Machines.{IsSpent};
 
     /// Spends one turn.
     ///
@@ -39,20 +39,5 @@ impl Machine {
         ensures turns { self.new.turns ≡ self.old.turns }
     {
         mem::replace(&mut self.frame, frame)
-    }
-
-    /// Takes back the frame of the caller: what the body's answer is to it (Go specification, "Return statements").
-    pub fn leave(&mut self, outer: Vec<Value>, answer: Result<Values, Exit>) -> Result<Values, Exit>
-        ensures answer { result ≡ left_by answer }
-        ensures frame { self.new.frame ≡ outer }
-        ensures world { self.new.world ≡ self.old.world }
-        ensures turns { self.new.turns ≡ self.old.turns }
-    {
-        self.frame = outer;
-        match answer {
-            Err(Exit::Return(values)) => Ok(values),
-            Ok(_) | Err(Exit::Break | Exit::Continue | Exit::Fallthrough) => Ok(Values::Nothing),
-            Err(exit) => Err(exit),
-        }
     }
 }

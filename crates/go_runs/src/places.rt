@@ -1,25 +1,23 @@
 //! What nodes are as places.
 
-ghost use Rattle.std.specs.Prelude.{◌≡◌, ℕ, [], ◌∷◌, drop, length, IfOk};
+ghost use Rattle.std.specs.Prelude.{◌≡◌, ℕ, drop, length};
 ghost use Rattle.go_typed.specs.Views.{AllKnown, Known};
 ghost use Rattle.go_meaning.specs.Values.{NilFunction, nth};
 ghost use Rattle.go_meaning.specs.Doings.{at};
-ghost use Rattle.go_meaning.specs.Operations as operations;
 ghost use Rattle.go_values.specs.Views.{view, views};
-ghost use Rattle.go_runs.specs.Machines.{IsRead, Runs};
-ghost use Rattle.go_runs.specs.declared.machine.Machine.{Machine};
+ghost use Rattle.go_runs.specs.Machines.{IsRead};
 ghost use Rattle.go_typed.specs.declared.node.TypedNode.TheViews.{out-TypedNode};
 ghost use Rattle.go_runs.specs.Places.{place_of, place_doing, IsPlace};
 ghost use Rattle.go_runs.specs.Programs.{doing, doings};
 
-use crate::exit::{Exit, Values};
+use crate::exit::Exit;
 use crate::machine::Machine;
 use go_eval::form_plan::plan_of;
 use go_eval::parts::part;
 use go_eval::plan::Plan;
 use go_typed::checked::Checked;
 use go_typed::node::TypedNode;
-use go_values::{Value, element, field, length, place_of};
+use go_values::{Value, element, field};
 use std::alloc::Global;
 
 /// What a node is as a place (Go specification, "Assignment statements"), and which clause of a switch it is.
@@ -139,34 +137,4 @@ pub fn load(
         Place::Otherwise => Err(Exit::Undecided),
         Place::Nothing => Err(Exit::Undecided),
     }
-}
-
-/// The test of the index of an element of an array of this length.
-pub fn in_array(length: u32, operands: &[Value]) -> Result<Values, Exit>
-    ensures { (d : ℕ) (m : Machine) → Runs (operations.operate (operations.InArray length) (nth (views operands.now) 0 ∷ [])) d m result m }
-{
-    let nil = Value::NilFunction;
-    place_of(operand(operands, 0, &nil), length as usize)?;
-    Ok(Values::Nothing)
-}
-
-/// The test of the index of an element of a slice.
-pub fn in_slice(operands: &[Value]) -> Result<Values, Exit>
-    ensures { (d : ℕ) (m : Machine) → Runs (operations.operate operations.InSlice (nth (views operands.now) 0 ∷ nth (views operands.now) 1 ∷ [])) d m result m }
-{
-    let nil = Value::NilFunction;
-    let slice = operand(operands, 0, &nil);
-    place_of(operand(operands, 1, &nil), length(slice))?;
-    Ok(Values::Nothing)
-}
-
-/// The operands of an element: its index, and behind it those of its array.
-pub fn before(alloc: Global, index: Value, array: Vec<Value>) -> Result<Vec<Value>, Exit>
-    ensures { IfOk result (λ vs. views vs.items ≡ view index ∷ views array.items) }
-{
-    let mut operands = Vec::with_capacity(alloc, 1)?;
-    operands.push(index)?;
-    let mut array = array;
-    operands.append(&mut array)?;
-    Ok(operands)
 }

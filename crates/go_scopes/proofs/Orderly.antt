@@ -1,10 +1,5 @@
 -- Files that are orderly, and one more behind them.
-use Rattle.std.proofs.Common.{◌≡◌, ◌∙◌, List, [], ◌∷◌, ◌++◌, length, sym, subst}
-use Rattle.std.proofs.lemmas.List.{length-map}
-use Rattle.go_tokens.specs.declared.token.Token.{Token}
-use Rattle.go_tokens.specs.Tokens.{kinds, kind_of}
-use Rattle.go_grammar.specs.Trees.{Tree, last}
-use Rattle.go_tree.specs.declared.event.Event.{Event}
+use Rattle.std.proofs.Common.{◌≡◌, List, [], ◌∷◌, ◌++◌, length, sym, subst}
 use Rattle.go_names.specs.Inside.{LocalsInside, nowhere}
 use Rattle.go_names.specs.Orders.{AreInOrder}
 use Rattle.go_names.specs.Scopes.{IsOrderly, AreOrderly}
@@ -26,10 +21,6 @@ counted_behind (x ∷ us) u h g = (h.0, counted_behind us u h.1 g)
 
 pub counted_more : (us vs : List Unit) (u : Unit) → vs ≡ us ++ u ∷ [] → AreCounted (units_view us) → AreInOrder 0 (length u.tokens.now.tokens) u.events.items → AreCounted (units_view vs)
 counted_more us vs u e h g = subst (λ l. AreCounted (units_view l)) (sym e) (counted_behind us u h g)
-
--- the tokens of a file, as many as those of which its tree tells
-pub counted_file : (ts : List Token) (t : Tree) (es : List Event) → AreInOrder 0 (last t) es → last t ≡ length (kinds ts) → AreInOrder 0 (length ts) es
-counted_file ts t es o e = subst (λ n. AreInOrder 0 n es) (e ∙ length-map ts kind_of) o
 
 -- and of the locals in its functions
 inside_behind : (us : List Unit) (u : Unit) → AreInside (units_view us) → LocalsInside nowhere u.events.items → AreInside (units_view (us ++ u ∷ []))

@@ -30,6 +30,3 @@ uses-spot a d = spot_of (is_assigned a.it.role) a.meaning d
 
 pub uses-some : (a : Asked) (d : Found) (p : ℕ × ℕ) → used_spot a ≡ Some p → uses d a ≡ same_spot p (d.file, d.it.name)
 uses-some a d p h = uses-spot a d ∙ ap (λ o. is_spot o d) h
-
-pub uses-none : (a : Asked) (d : Found) → used_spot a ≡ None → uses d a ≡ false
-uses-none a d h = uses-spot a d ∙ ap (λ o. is_spot o d) h

@@ -7,7 +7,7 @@ use Rattle.go_grammar.specs.Trees.{Tree}
 use Rattle.go_tree.specs.declared.node.Node.{Node}
 use Rattle.go_tree.specs.Views.{view, views}
 use Rattle.go_rules.specs.declared.fault.TypeFault.{TypeFault}
-use Rattle.go_rules.specs.Faults.{least, earlier}
+use Rattle.go_rules.specs.Faults.{least, earlier, joined}
 use Rattle.go_rules.specs.Settling.{Part}
 use Rattle.go_rules.specs.Scopes.{Scope, Hint}
 use Rattle.go_rules.specs.Tables.{Parts, present}
@@ -15,7 +15,7 @@ use Rattle.go_rules.specs.Typing.{typing, faults}
 use Rattle.go_rules.proofs.Firsts.{least_append, earlier_assoc}
 use Rattle.go_exprs.proofs.Nodes.{drop_step}
 use Rattle.go_package.specs.Declarations.{trees_of}
-use Rattle.go_package.specs.Verdicts.{joined, values_faults}
+use Rattle.go_package.specs.Verdicts.{values_faults}
 
 -- a part that is there is one of the trees
 pub tree_at : (row : List (Option Node)) (i : ℕ) (n : Node) → slice_get row i ≡ Some (Some n) → (c : ℕ) × (slice_get (trees_of (views row)) c ≡ Some (view n))
@@ -39,9 +39,6 @@ module _ (s : Scope) (h : Hint) (row : List (Option Node)) (i : ℕ) (d : Option
 
   there : (n : Node) → get_or row i d ≡ Some n → rest i ≡ view n ∷ rest (i + 1)
   there n is = ap (λ ns. trees_of (views ns)) (drop_step row i (Some n) d lt (sym is))
-
-  pub gap_parts : (xs : List Part) (due : List Part) → get_or row i d ≡ None → xs ++ map (typing s h) (rest i) ≡ due → xs ++ map (typing s h) (rest (i + 1)) ≡ due
-  gap_parts xs due is before = ap (λ ts. xs ++ map (typing s h) ts) (sym (gap is)) ∙ before
 
   pub gap_faults : (o due : Option TypeFault) → get_or row i d ≡ None → earlier o (least (values_faults s h (rest i))) ≡ due → earlier o (least (values_faults s h (rest (i + 1)))) ≡ due
   gap_faults o due is before = ap (λ ts. earlier o (least (values_faults s h ts))) (sym (gap is)) ∙ before

@@ -18,11 +18,11 @@ ghost use Rattle.go_specifications.specs.Whole.{unless_failing, failing_as_whole
 
 use crate::rules::own_rule;
 use go_base::Memory;
+use go_call_rules::arguments::present;
 use go_declarations::Specification;
 use go_declarations::judging::{survey_part, type_hint, value_hint};
 use go_rules::fault::earlier;
 use go_rules::{Basics, TypeFault};
-use go_stmt_rules::nodes::present;
 use go_survey::{Survey, survey};
 use go_type_rules::Scope;
 use go_type_rules::sequence::part_type;

@@ -1,5 +1,4 @@
--- Two examples: both operands of a sum are replaced at once; and three runs of statements in two lists of a file, with a
--- declaration more.
+-- The worked examples.
 use Rattle.std.proofs.Common.{◌≡◌, ℕ, suc, ◌+◌, true, false, List, [], ◌∷◌, Some, refl, sym, ap, subst, arith}
 use Rattle.std.specs.Prelude.{slice_get, ◌++◌}
 use Rattle.go_tokens.specs.declared.token.TokenKind.{TokenKind}
@@ -7,7 +6,6 @@ use Rattle.go_tokens.specs.declared.token.TokenKind.TheVariants as token
 use Rattle.go_grammar.specs.declared.kind.Kind.TheVariants as kind
 use Rattle.go_grammar.specs.declared.kind.Arithmetic.TheVariants as arithmetic
 use Rattle.go_grammar.specs.declared.kind.Operator.TheVariants as operator
-use Rattle.go_grammar.specs.declared.kind.Step.TheVariants as step
 use Rattle.go_grammar.specs.declared.kind.Level.TheVariants as level
 use Rattle.go_grammar.specs.declared.kind.Place.TheVariants as place
 use Rattle.go_grammar.specs.declared.kind.Category.{Category}
@@ -25,16 +23,7 @@ use Rattle.go_splice.specs.Sites.{Site, whole, items, patch_of, Sits}
 use Rattle.go_splice.proofs.Operands.{operand_stands}
 use Rattle.go_splice.proofs.Words.{run_fits}
 use Rattle.go_splice.proofs.Texts.{sites_changed, file_sites_changed, with_one_more}
-
-abbrev name : ℕ → Tree
-name i = node kind.Name i (suc i) none
-
--- f()
-abbrev call_words : List TokenKind
-call_words = token.Identifier ∷ token.LeftParenthesis ∷ token.RightParenthesis ∷ []
-
-abbrev call : ℕ → Tree
-call i = node kind.Call i (i + 3) (more (name i) none)
+use Rattle.go_splice.specs.Examples.{Examples, name, call_words, call, new_sum_tokens, new_sum, expression, signature, count_up, count_down, called, result_tokens, result}
 
 abbrev change : ℕ → ℕ → Change
 change i j = record { from = i; upto = j; words = call_words }
@@ -46,21 +35,11 @@ sum_tokens = token.Integer ∷ token.Plus ∷ token.Identifier ∷ []
 abbrev sum : Tree
 sum = node (kind.Binary (operator.Compute arithmetic.Add)) 0 3 (more (node kind.Integer 0 1 none) (more (name 2) none))
 
--- f() + f()
-abbrev new_sum_tokens : List TokenKind
-new_sum_tokens = token.Identifier ∷ token.LeftParenthesis ∷ token.RightParenthesis ∷ token.Plus ∷ token.Identifier ∷ token.LeftParenthesis ∷ token.RightParenthesis ∷ []
-
-abbrev new_sum : Tree
-new_sum = node (kind.Binary (operator.Compute arithmetic.Add)) 0 7 (more (call 0) (more (call 4) none))
-
 abbrev sum_changes : List Change
 sum_changes = change 0 1 ∷ change 2 3 ∷ []
 
 abbrev sum_sites : List Site
 sum_sites = record { path = 0 ∷ []; change = whole (call 0) } ∷ record { path = 1 ∷ []; change = whole (call 4) } ∷ []
-
-abbrev expression : Category
-expression = category.Expression level.Either place.Free
 
 -- an edge where the new text begins with a name and no parenthesis stands in front of the old one
 name_edge : (ts us : List TokenKind) (i j : ℕ) → slice_get us j ≡ Some token.Identifier → ((n : ℕ) → suc n ≡ i → IsAt ts n token.RightParenthesis → ⊥) → Edge ts us i j
@@ -105,15 +84,6 @@ abbrev helper_tokens : List TokenKind
 helper_tokens = token.Func ∷ token.Identifier ∷ token.LeftParenthesis ∷ token.RightParenthesis ∷ token.LeftBrace
     ∷ token.Identifier ∷ token.Increment ∷ token.Semicolon ∷ token.Identifier ∷ token.Decrement ∷ token.RightBrace ∷ token.Semicolon ∷ []
 
-abbrev signature : ℕ → Tree
-signature i = node kind.Signature i (i + 2) (more (node kind.Parameters i (i + 2) none) (skip none))
-
-abbrev count_up : ℕ → Tree
-count_up i = node (kind.StepStatement step.Increment) i (i + 2) (more (name i) none)
-
-abbrev count_down : ℕ → Tree
-count_down i = node (kind.StepStatement step.Decrement) i (i + 2) (more (name i) none)
-
 abbrev helper : Tree
 helper = node kind.FunctionDeclaration 0 11 (more (signature 2) (more (node kind.Block 4 11 (more (count_up 5) (more (count_down 8) none))) none))
 
@@ -135,10 +105,6 @@ second_function = node kind.FunctionDeclaration 19 33 (more (signature 21) (more
 abbrev file : Tree
 file = node kind.File 0 34 (skip (more first_function (more second_function none)))
 
--- a call as a statement
-abbrev called : ℕ → Tree
-called i = node kind.ExpressionStatement i (i + 3) (more (call i) none)
-
 -- the first two statements of f, the third one, and both of the loop in g
 abbrev calls : List Change
 calls = change 8 15 ∷ change 16 17 ∷ change 26 31 ∷ []
@@ -158,23 +124,6 @@ file_before = let r = read_stands file_tokens 40 101 category.File 0 file refl i
 
 ascending : Ascending 0 (ranges calls) 34
 ascending = (omega arith, omega arith, (omega arith, omega arith, (omega arith, omega arith, omega arith)))
-
--- package p; func f() { f(); f() }; func g() { for { f() } }; func h() { x++; x-- };
-abbrev result_tokens : List TokenKind
-result_tokens = token.Package ∷ token.Identifier ∷ token.Semicolon
-    ∷ token.Func ∷ token.Identifier ∷ token.LeftParenthesis ∷ token.RightParenthesis ∷ token.LeftBrace
-    ∷ token.Identifier ∷ token.LeftParenthesis ∷ token.RightParenthesis ∷ token.Semicolon
-    ∷ token.Identifier ∷ token.LeftParenthesis ∷ token.RightParenthesis ∷ token.RightBrace ∷ token.Semicolon
-    ∷ token.Func ∷ token.Identifier ∷ token.LeftParenthesis ∷ token.RightParenthesis ∷ token.LeftBrace
-    ∷ token.For ∷ token.LeftBrace ∷ token.Identifier ∷ token.LeftParenthesis ∷ token.RightParenthesis ∷ token.RightBrace ∷ token.RightBrace ∷ token.Semicolon
-    ∷ token.Func ∷ token.Identifier ∷ token.LeftParenthesis ∷ token.RightParenthesis ∷ token.LeftBrace
-    ∷ token.Identifier ∷ token.Increment ∷ token.Semicolon ∷ token.Identifier ∷ token.Decrement ∷ token.RightBrace ∷ token.Semicolon ∷ []
-
-abbrev result : Tree
-result = node kind.File 0 42 (skip
-    (more (node kind.FunctionDeclaration 3 16 (more (signature 5) (more (node kind.Block 7 16 (more (called 8) (more (called 12) none))) none)))
-    (more (node kind.FunctionDeclaration 17 29 (more (signature 19) (more (node kind.Block 21 29 (more (node kind.For 22 28 (skip (more (node kind.Block 23 28 (more (called 24) none)) none))) none)) none)))
-    (more (node kind.FunctionDeclaration 30 41 (more (signature 32) (more (node kind.Block 34 41 (more (count_up 35) (more (count_down 38) none))) none))) none))))
 
 -- over the new tokens
 first_sits : Sits file_tokens new_tokens (moved_by calls) category.File file (record { path = 1 ∷ 1 ∷ []; change = items 0 1 (more (called 8) none) })
@@ -214,3 +163,6 @@ three_runs : IsFile result_tokens result
 three_runs =
     let changed_file : IsFile new_tokens (become (moved_by calls) file (patch_of sites)) = file_sites_changed file_tokens calls file sites file_before refl ascending (first_sits, (second_sits, (third_sits, tt))) refl (omega arith) in
     with_one_more new_tokens helper_tokens (become (moved_by calls) file (patch_of sites)) helper changed_file (read_stands helper_tokens 40 100 category.Declaration 0 helper refl).0 refl refl refl (omega arith)
+
+pub all : Examples
+all = record { both_operands = both_operands; three_runs = three_runs }

@@ -95,10 +95,6 @@ ascending_from : (rs : List Range) (i k j : ℕ) → i ≤ k → Ascending k rs 
 ascending_from [] i k j le h = omega (arith, le, h)
 ascending_from (r ∷ rs) i k j le h = (omega (arith, le, h.0), h.1, h.2)
 
-pub ascending_widen : (rs : List Range) (i k j l : ℕ) → i ≤ k → j ≤ l → Ascending k rs j → Ascending i rs l
-ascending_widen [] i k j l lo hi h = omega (arith, lo, hi, h)
-ascending_widen (r ∷ rs) i k j l lo hi h = (omega (arith, lo, h.0), h.1, ascending_widen rs r.upto r.upto j l (omega arith) hi h.2)
-
 ascending_both : (rs us : List Range) (i k j : ℕ) → Ascending i rs k → Ascending k us j → Ascending i (rs ++ us) j
 ascending_both [] us i k j h g = ascending_from us i k j h g
 ascending_both (r ∷ rs) us i k j h g = (h.0, h.1, ascending_both rs us r.upto k j h.2 g)

@@ -3,3 +3,4 @@ pub mod Lists
 pub mod Places
 pub mod Replacing
 pub mod Sites
+pub mod Examples

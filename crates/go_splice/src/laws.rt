@@ -13,6 +13,12 @@ ghost use Rattle.go_splice.specs.Endings.{ends_well, Ending};
 ghost use Rattle.go_splice.specs.Lists.{Subtree, NewRun, NewRunFits, IsRun, RunStands, no_clause, Elsewhere, in_block, in_clause, AllAlike};
 ghost use Rattle.go_splice.specs.Sites.{Site, patch_of, with_sites, AllWithin, all_clear, AreSites, IsChange, NewText, NewTextFits};
 ghost use Rattle.go_splice.specs.Places.{carry, carries, become, Outside, Ascending, Stays, agreed, Change, changed, moved_by, ranges, Stand, with_declaration, IsDeclaration};
+ghost use Rattle.go_splice.specs.Examples.{Examples};
+
+/// Trees of two texts in which parts were replaced, worked out by hand.
+pub fn examples()
+    ensures { Examples }
+{}
 
 /// Where places of a tree are replaced at once, each found by a path, and each new text is one of what is asked for there, the new
 /// tokens have the tree with these texts in their places and all else moved.

@@ -1,19 +1,16 @@
 -- The names of a type, loosely or at once, are those by what its parts are told.
-use Rattle.std.proofs.Common.{◌≡◌, Bool, true, false, List, ◌∷◌, Option, Some, None, refl, ap, sym, subst, ◌∙◌}
+use Rattle.std.proofs.Common.{◌≡◌, Bool, true, false, refl, ap, sym, subst, ◌∙◌}
 use Rattle.std.specs.Prelude.{◌&&◌, ◌||◌, not, if◌then◌else◌}
-use Rattle.std.specs.Option.{option_map}
 use Rattle.go_grammar.specs.declared.kind.Kind.{Kind}
 use Rattle.go_grammar.specs.declared.kind.Kind.TheVariants as kind
 use Rattle.go_grammar.specs.Grammar.{ends_named, is_name}
 use Rattle.go_grammar.specs.Trees.{Tree, node, Trees, none, more, skip, kind_of}
-use Rattle.go_tree.specs.declared.node.Node.{Node}
-use Rattle.go_tree.specs.Views.{view, views}
 use Rattle.go_rules.specs.Names.{need_of}
 use Rattle.go_rules.specs.Scopes.{Hint, at_once, loose, loose_inside, declares}
 use Rattle.go_rules.specs.Tables.{skips_first, in_parentheses, as_type_place}
 use Rattle.go_rights.specs.Names.{NameHas, Ways, EachNeed, NeedsIn, is_of_types, is_sequence, told_in}
 use Rattle.go_stages.specs.Marks.{type_need}
-use Rattle.go_stages.specs.Ways.{is_loose, told_loose, EachWay, WaysIn, FirstWay}
+use Rattle.go_stages.specs.Ways.{is_loose, told_loose, EachWay, WaysIn}
 
 -- ---- what parts are told
 
@@ -87,9 +84,3 @@ module _ (w : Ways) where
 
   pub each_need : (h : Hint) (t : Tree) → EachWay w (is_loose h) t → EachNeed w h t
   each_need h t m = need_ways h (is_loose h) t refl m
-
--- the first part and those behind it
-pub first_more : (w : Ways) (k : Kind) (l : Bool) (all : Trees) (c : Bool) (x : Option Node) (xs : List (Option Node)) → FirstWay w k l all c (option_map view x) → WaysIn w k l all false (views xs) true false → WaysIn w k l all true (views (x ∷ xs)) true c
-first_more w k l all c None xs h m = m
-first_more w k l all true (Some t) xs h m = (h, m)
-first_more w k l all false (Some t) xs h m = (h, m)

@@ -1,5 +1,5 @@
 -- Marks that say from when on objects are known, and what they show of declarations.
-use Rattle.std.specs.Prelude.{◌≡◌, ℕ, suc, ◌<◌, ◌≤◌, Bool, true, false, nat_le, max, List, [], ◌∷◌, Option, Some, None}
+use Rattle.std.specs.Prelude.{ℕ, suc, ◌<◌, ◌≤◌, Bool, true, false, nat_le, max, List, [], ◌∷◌, Option, Some, None}
 use Rattle.go_grammar.specs.Trees.{Tree}
 use Rattle.go_needs.specs.declared.bounds.Bound.{Bound}
 use Rattle.go_package.specs.Declarations.{Specification}

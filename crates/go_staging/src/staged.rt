@@ -1,6 +1,6 @@
 //! Whether the declarations of a package stand behind what they name, by numbers that say from when on objects are known.
 
-ghost use Rattle.std.specs.Prelude.{◌≡◌, true, List, IfOk, length};
+ghost use Rattle.std.specs.Prelude.{◌≡◌, true, List, IfOk};
 ghost use Rattle.go_declarations.specs.Views.{seen_all};
 ghost use Rattle.go_needs.specs.Tells.{TellsNeeds};
 ghost use Rattle.go_package.specs.Knowledge.{State, outlines, rights_of};

@@ -3,11 +3,12 @@ ghost use Rattle.std.specs.Prelude.{◌≡◌, ◌∷◌, [], ℕ, IfOk, length,
 ghost use Rattle.std.specs.Option.{option_map};
 ghost use Rattle.go_types.specs.Tables.{type_of};
 ghost use Rattle.go_typed.specs.Views.{seen, AllKnown};
+ghost use Rattle.go_typed.specs.Scopes.{KnownLocals};
 ghost use Rattle.go_rules.specs.Tables.{all_held, behind_first};
 ghost use Rattle.go_type_rules.specs.Naming.{locals_seen};
 ghost use Rattle.go_stmts.specs.Frames.{Frame, declared_type};
 ghost use Rattle.go_stmts.specs.Laying.{new_form, new_name, without_absent};
-ghost use Rattle.go_stmt_layout.specs.Layouts.{KnownLocals, laid};
+ghost use Rattle.go_stmt_layout.specs.Layouts.{laid};
 
 use crate::headers::{for_parts, if_parts, switch_parts};
 use crate::specifications::{all_names, specification_parts, specifications};

@@ -60,18 +60,6 @@ parts_left_known k (Some x ∷ ns) (suc m) h = parts_left_known k ns m h.1
 pub parts_rest_known : (k : ℕ) (ns : List (Option TypedNode)) (m : ℕ) → AllKnown k ns → AllKnown k (take (length ns - m) (drop m ns))
 parts_rest_known k ns m h = subst (AllKnown k) (sym (all_left ns m)) (parts_left_known k ns m h)
 
-least_drop : {A : Type 0} (ns : List A) (n m : ℕ) → m ≡ min (length ns) n → drop m ns ≡ drop n ns
-least_drop [] zero zero e = refl
-least_drop [] (suc n) zero e = refl
-least_drop [] n (suc m) e = absurd (omega (arith, e))
-least_drop (x ∷ ns) zero zero e = refl
-least_drop (x ∷ ns) zero (suc m) e = absurd (omega (arith, e))
-least_drop (x ∷ ns) (suc n) zero e = absurd (omega (arith, e))
-least_drop (x ∷ ns) (suc n) (suc m) e = least_drop ns n m (omega (arith, e))
-
-pub parts_rest_are : {A : Type 0} (ns : List A) (n m : ℕ) → m ≡ min (length ns) n → take (length ns - m) (drop m ns) ≡ drop n ns
-parts_rest_are ns n m e = all_left ns m ∙ least_drop ns n m e
-
 -- ---- what stands behind the names of a specification
 
 module _ {A : Type 0} (f : A → Option Part) where

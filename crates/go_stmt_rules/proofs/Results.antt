@@ -1,5 +1,5 @@
 -- Results of calls, and faults of what was made.
-use Rattle.std.proofs.Common.{◌≡◌, List, [], ◌∷◌, Option, Some, None, Ok, Err, refl, ap, sym}
+use Rattle.std.proofs.Common.{◌≡◌, List, [], ◌∷◌, Option, Some, None, Ok, refl, ap}
 use Rattle.go_types.specs.Trees.{TypeTree, row}
 use Rattle.go_rules.specs.declared.fault.TypeFault.{TypeFault}
 use Rattle.go_rules.specs.Faults.{judged}
@@ -13,8 +13,3 @@ types_in_row (t ∷ ts) = ap (λ us. t ∷ us) (types_in_row ts)
 pub none_fails : {A : Type 0} (o : Option TypeFault) (x y : A) → judged o x ≡ Ok y → None ≡ o
 none_fails None x y e = refl
 none_fails (Some f) x y e = cc
-
--- where a fault was answered, it is that
-pub this_fails : {A : Type 0} (o : Option TypeFault) (x : A) (f : TypeFault) → judged o x ≡ Err f → Some f ≡ o
-this_fails None x f e = cc
-this_fails (Some g) x f e = let s : g ≡ f = cc in ap Some (sym s)

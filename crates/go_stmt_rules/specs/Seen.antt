@@ -1,10 +1,10 @@
 -- What the values of the program stand for in a table of types.
-use Rattle.std.specs.Prelude.{◌≡◌, ℕ, ◌<◌, List, Option, Some, None, map, slice_get}
+use Rattle.std.specs.Prelude.{ℕ, ◌<◌, List, Option, Some, None, map}
 use Rattle.std.specs.Option.{option_map}
 use Rattle.go_types.specs.Trees.{TypeTree}
 use Rattle.go_types.specs.Tables.{Table, type_of}
 use Rattle.go_typed.specs.Scopes.{LocalsView}
-use Rattle.go_typed.specs.Trees.{Sort, SortHas, sort_mapped}
+use Rattle.go_typed.specs.Trees.{sort_mapped}
 use Rattle.go_typed.specs.Views.{sort_seen, KnownSort}
 use Rattle.go_rules.specs.Takes.{take_seen, KnownTake}
 use Rattle.go_stmts.specs.Assigning.{Wanted, Taking, takes, stands}
@@ -34,6 +34,3 @@ types_seen t is = map (type_of t.shapes) is
 -- what the locals stand for that are declared so far
 abbrev pub locals_in : Table → LocalsView → Locals
 locals_in t ls = map (option_map (sort_mapped (type_of t.shapes))) ls.sorts
-
-abbrev pub KnownLocals : ℕ → LocalsView → Type 0
-KnownLocals n ls = (k : ℕ) (x : Sort ℕ) → slice_get ls.sorts k ≡ Some (Some x) → SortHas (λ t. t < n) x

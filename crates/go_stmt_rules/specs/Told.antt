@@ -7,12 +7,13 @@ use Rattle.go_grammar.specs.declared.kind.Sort.TheVariants as declaring
 use Rattle.go_types.specs.Tables.{Table, rights_of}
 use Rattle.go_typed.specs.declared.form.Form.{Form}
 use Rattle.go_typed.specs.Views.{sort_seen, KnownSort}
+use Rattle.go_typed.specs.Scopes.{KnownLocals}
 use Rattle.go_rules.specs.declared.fault.TypeFault.{TypeFault}
 use Rattle.go_rules.specs.Tables.{Parts}
 use Rattle.go_stmts.specs.Frames.{Frame}
 use Rattle.go_stmts.specs.Rules.{failing}
 use Rattle.go_stmt_rules.specs.declared.around.Around as program
-use Rattle.go_stmt_rules.specs.Seen.{locals_in, types_seen, KnownLocals}
+use Rattle.go_stmt_rules.specs.Seen.{locals_in, types_seen}
 
 -- the frame says the same as the program
 pub record Agrees (t : Table) (a : program.Around) (s : Frame) : Type 0 where

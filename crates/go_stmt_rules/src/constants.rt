@@ -13,9 +13,10 @@ ghost use Rattle.go_call_rules.specs.Shown.{shown, AllShownKnown};
 ghost use Rattle.go_stmt_rules.specs.Seen.{KnownWanted};
 
 use crate::assign::assignment;
-use crate::nodes::{parts_behind, present};
+use crate::nodes::parts_behind;
 use crate::wanted::same_types;
 use go_base::{FaultCode, Memory};
+use go_call_rules::arguments::present;
 use go_rules::assign::unassignable;
 use go_rules::fault::earlier;
 use go_rules::nodes::{fault_at, sort_of};

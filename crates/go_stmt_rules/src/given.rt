@@ -20,7 +20,7 @@ use crate::around::Around;
 use crate::constants::{type_there, values_there};
 use crate::failing::names_in;
 use crate::names::{push_constants, push_elements, push_names};
-use crate::nodes::{behind, front, present};
+use crate::nodes::{behind, front};
 use crate::operations::operands_take;
 use crate::taking::Taking;
 use crate::values::{
@@ -28,6 +28,7 @@ use crate::values::{
 };
 use crate::wanted::{known_types, same_types, target_types};
 use go_base::Memory;
+use go_call_rules::arguments::present;
 use go_grammar::kind::{Arithmetic, Kind, Sort as Declared};
 use go_rules::nodes::sort_of;
 use go_rules::sorts::own_type;

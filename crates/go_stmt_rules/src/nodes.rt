@@ -1,36 +1,10 @@
 //! The parts of a statement that are there.
-ghost use Rattle.std.specs.Prelude.{◌≡◌, IfOk, length, map, take, drop};
-ghost use Rattle.std.specs.Option.{option_map};
-ghost use Rattle.go_typed.specs.Views.{seen, AllKnown};
-ghost use Rattle.go_rules.specs.Tables as tables;
+ghost use Rattle.std.specs.Prelude.{◌≡◌, length, take, drop};
+ghost use Rattle.go_typed.specs.Views.{AllKnown};
 ghost use Rattle.go_call_rules.specs.Shown.{shown, AllShownKnown};
 
-use go_base::Memory;
 use go_typed::TypedNode;
 use go_types::Types;
-use std::alloc::Global;
-
-/// The parts that are there, in order.
-///
-/// # Errors
-///
-/// Want of memory.
-pub fn present<'a>(
-    alloc: Global,
-    types: &Types,
-    parts: &'a [Option<TypedNode>],
-) -> Result<Vec<&'a TypedNode>, Memory>
-    requires { AllKnown (length types.now.shapes) parts.now }
-    ensures nodes { IfOk result (λ ns. shown types.now ns.items ≡ tables.present (map (option_map (seen types.now)) parts.now)) }
-    ensures known { IfOk result (λ ns. AllShownKnown (length types.now.shapes) ns.items) }
-{
-    let mut nodes = Vec::new(alloc);
-    for part in parts {
-        let Some(part) = part else { continue };
-        nodes.push(part)?;
-    }
-    Ok(nodes)
-}
 
 /// The first nodes, of this number if there are so many.
 pub fn front<'a>(types: &Types, nodes: &'a [&'a TypedNode], count: u32) -> &'a [&'a TypedNode]

@@ -14,9 +14,10 @@ ghost use Rattle.go_stmt_rules.specs.Ranges.{pair_seen, KnownPair};
 
 use crate::assign::result_unassigned;
 use crate::branches::second_condition;
-use crate::nodes::{behind, front, present};
+use crate::nodes::{behind, front};
 use crate::targets::targets_fault;
 use go_base::{FaultCode, Memory};
+use go_call_rules::arguments::present;
 use go_rules::fault::earlier;
 use go_rules::index::element;
 use go_rules::nodes::{fault_at, sort_of};

@@ -3,12 +3,13 @@ ghost use Rattle.std.specs.Prelude.{◌≡◌, ◌++◌, IfOk, length, map};
 ghost use Rattle.std.specs.List.{AllByRecursion};
 ghost use Rattle.go_types.specs.Tables.{rights_of};
 ghost use Rattle.go_typed.specs.Views.{seen, Known};
+ghost use Rattle.go_typed.specs.Scopes.{KnownLocals};
 ghost use Rattle.go_rules.specs.Faults.{least};
 ghost use Rattle.go_rules.specs.Seen.{AreBasics};
 ghost use Rattle.go_stmts.specs.Assigning.{at_nil, assignment_failing};
 ghost use Rattle.go_stmts.specs.Rules.{each, not_a_target, not_a_variable, target_type, known_type, assign_failing, step_failing};
 ghost use Rattle.go_call_rules.specs.Shown.{shown, AllShownKnown};
-ghost use Rattle.go_stmt_rules.specs.Seen.{locals_in, KnownLocals};
+ghost use Rattle.go_stmt_rules.specs.Seen.{locals_in};
 
 use crate::assign::{assignment, at_nil};
 use crate::wanted::{known_types, target_types};

@@ -6,8 +6,9 @@ ghost use Rattle.go_types.specs.Tables.{type_of};
 ghost use Rattle.go_stmts.specs.Frames.{declared_type};
 ghost use Rattle.go_stmts.specs.Rules.{target_type, known_type};
 ghost use Rattle.go_typed.specs.Views.{seen, Known};
+ghost use Rattle.go_typed.specs.Scopes.{KnownLocals};
 ghost use Rattle.go_call_rules.specs.Shown.{shown, AllShownKnown};
-ghost use Rattle.go_stmt_rules.specs.Seen.{wanted_seen, KnownWanted, types_seen, locals_in, KnownLocals};
+ghost use Rattle.go_stmt_rules.specs.Seen.{wanted_seen, KnownWanted, types_seen, locals_in};
 
 use go_base::Memory;
 use go_rules::nodes::sort_of;

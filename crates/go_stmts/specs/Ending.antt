@@ -4,6 +4,7 @@ use Rattle.std.specs.List.{list_any, list_all}
 use Rattle.go_types.specs.Trees.{TypeTree}
 use Rattle.go_typed.specs.declared.form.Form.{Form}
 use Rattle.go_typed.specs.declared.form.Form.TheVariants as form
+use Rattle.go_typed.specs.Forms.{is_default}
 use Rattle.go_typed.specs.Trees.{typed, Typeds, none, more, skip, form_of, list_of}
 use Rattle.go_rules.specs.Settling.{Part}
 use Rattle.go_rules.specs.Tables.{Parts, on_one}
@@ -52,10 +53,6 @@ abbrev pub last_falls : Parts → Bool
 last_falls [] = false
 last_falls (x ∷ []) = is_fallthrough_part x
 last_falls (x ∷ xs) = last_falls xs
-
-abbrev pub is_default : Form → Bool
-is_default form.Default = true
-is_default f = false
 
 abbrev pub is_default_clause : Option Part → Bool
 is_default_clause (Some x) = is_default (form_of x)

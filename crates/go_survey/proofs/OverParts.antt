@@ -11,7 +11,7 @@ use Rattle.go_rules.specs.Names.{place_failing}
 use Rattle.go_rules.specs.Sorts.{Stands}
 use Rattle.go_rules.specs.Scopes.{Scope, Hint}
 use Rattle.go_rules.specs.Tables.{Parts, failing, placing, sort_by, is_placed, is_judged, is_sound, own_faults, built_by, built_on}
-use Rattle.go_survey.specs.OverParts.{is_passed_over, unknown, ended, IsFault}
+use Rattle.go_survey.specs.OverParts.{unknown, ended, IsFault}
 use Rattle.go_exprs.proofs.Answers.{judged_ok, judged_err, none_least}
 use Rattle.go_exprs.proofs.Building.{counts, no_rules, own_are, sound_by, first_fails, at_end}
 
@@ -39,14 +39,6 @@ module _ (s : Scope) (k : Kind) (h : Hint) (i j : ℕ) (ys : Parts) where
   unsound_by true true e = refl
   unsound_by true false e = refl
   unsound_by false q e = absurd cc
-
-  -- it isn't judged
-  pub passed_over : is_passed_over k ys ≡ true → (own_faults s k h i j ys ≡ []) × (built_on s k h i j ys ≡ unknown s k h i j ys)
-  passed_over e =
-      let b = both_true (is_placed k) (is_judged ys) e in
-      let clear : own_faults s k h i j ys ≡ [] = ap (λ q. cond q (or_else (failing s k h i j ys) (placing s k h i j (sort_by s k h i j ys))) []) b.1 in
-      let unsound : is_sound k ys [] ≡ false = ap (λ p. not p || (is_judged ys && true)) b.0 ∙ ap (λ q. q && true) b.1 in
-      (clear, ap (λ fs. built_by s k h i j ys (is_sound k ys fs)) clear ∙ ap (built_by s k h i j ys) unsound)
 
   -- nodes that only hold parts have no rules
   placed_by : counts s k h i j ys → (b : Bool) → is_placed k ≡ b → (g : TypeFault) (gs : List TypeFault) → own_faults s k h i j ys ≡ g ∷ gs → is_placed k ≡ true

@@ -6,13 +6,12 @@ use Rattle.go_grammar.specs.Trees.{Tree, node, Trees, kind_of, first, last, part
 use Rattle.go_tree.specs.declared.node.Node.{Node}
 use Rattle.go_tree.specs.Views.{view, views}
 use Rattle.go_rules.specs.declared.fault.TypeFault.{TypeFault}
-use Rattle.go_rules.specs.Faults.{least, earlier}
+use Rattle.go_rules.specs.Faults.{least, earlier, joined}
 use Rattle.go_rules.specs.Settling.{Part}
 use Rattle.go_rules.specs.Scopes.{Scope, Hint}
 use Rattle.go_rules.specs.Tables.{Parts, hint, part_scope, built, found}
 use Rattle.go_rules.specs.Typing.{typing, typings, faults, faults_of_parts}
 use Rattle.go_rules.proofs.Firsts.{least_append, earlier_assoc}
-use Rattle.go_survey.specs.Joined.{joined}
 use Rattle.go_exprs.proofs.Nodes.{drop_step}
 
 -- ---- all faults of a row

@@ -4,13 +4,12 @@ ghost use Rattle.std.specs.Option.{option_map};
 ghost use Rattle.go_tree.specs.Views.{view, views};
 ghost use Rattle.type_tests.specs.Extends.{Grows};
 ghost use Rattle.go_typed.specs.Views.{seen, Known, AllKnown};
-ghost use Rattle.go_rules.specs.Faults.{least};
+ghost use Rattle.go_rules.specs.Faults.{least, joined};
 ghost use Rattle.go_rules.specs.Seen.{AreBasics};
 ghost use Rattle.go_rules.specs.Hints.{hint_seen, KnownHint};
 ghost use Rattle.go_rules.specs.Typing.{typing, typings, faults, faults_of_parts};
 ghost use Rattle.go_type_rules.specs.Naming.{names, text_in, KnownScope};
 ghost use Rattle.go_exprs.specs.Literals.{AllRead, PartsRead};
-ghost use Rattle.go_survey.specs.Joined.{joined};
 
 use crate::nodes::{Survey, build};
 use go_base::Memory;

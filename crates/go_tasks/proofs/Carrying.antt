@@ -1,17 +1,16 @@
 -- What the loop over tasks keeps.
-use Rattle.std.proofs.Common.{◌≡◌, ◌<◌, ◌≤◌, ℕ, suc, List, [], ◌∷◌, ◌++◌, length, refl, sym, ap, ◌∙◌, subst, arith, Result, Ok, Err}
-use Rattle.std.specs.Prelude.{Bool, true, false, Vec}
-use Rattle.std.specs.declared.alloc.Global.{Global}
+use Rattle.std.proofs.Common.{◌≡◌, ◌<◌, ◌≤◌, ℕ, List, [], ◌∷◌, ◌++◌, length, refl, sym, ap, ◌∙◌, subst, arith, Result, Ok, Err}
+use Rattle.std.specs.Prelude.{false}
 use Rattle.go_typed.specs.Packages.{PackageView}
 use Rattle.go_meaning.specs.Values as meant
 use Rattle.go_meaning.specs.Computations as meaning
-use Rattle.go_meaning.specs.Computations.{Comp, Outcome, Ends, Undecided, Ending, World, undecided, end_by, give}
+use Rattle.go_meaning.specs.Computations.{Comp, Outcome, Ends, Undecided, World, undecided, end_by}
 use Rattle.go_values.specs.Views.{views, panic_view}
 use Rattle.go_values.specs.Worlds.{world_view}
 use Rattle.go_runs.specs.declared.exit.Exit.{Exit}
 use Rattle.go_runs.specs.declared.exit.Exit.TheVariants as exit
 use Rattle.go_runs.specs.declared.machine.Machine.{Machine}
-use Rattle.go_runs.specs.Machines.{values_view, ends}
+use Rattle.go_runs.specs.Machines.{values_view}
 use Rattle.go_machine.specs.declared.task.Task.{Task}
 use Rattle.go_machine.specs.declared.engine.Engine.{Engine}
 use Rattle.go_machine.specs.Rests.{Rest, finish, go_by, before, behind, then_rest}
@@ -131,14 +130,3 @@ all_done p old answer r m m1 e em h = done_of p old answer r m1 (record {
   turns = (let turns : m1.machine.turns ≡ m.machine.turns = ap (λ (k : Machine). k.turns) em in omega (arith, turns, h.turns));
   is = λ n o le q. subst (λ (k : Machine). IsRun r k o) (sym em) (next_is_run p n r m o e (h.next n o le q));
 })
-
--- memory was wanting
-pub done_wanting : (p : PackageView) (old : Engine) (answer r : Result (Unit {0}) Exit) (new : Engine) → wants_memory r ≡ true → IsDone p old answer r new
-done_wanting p old answer (Err exit.Memory) new e = tt
-done_wanting p old answer (Ok x) new e = absurd cc
-done_wanting p old answer (Err (exit.Return vs)) new e = absurd cc
-done_wanting p old answer (Err exit.Break) new e = absurd cc
-done_wanting p old answer (Err exit.Continue) new e = absurd cc
-done_wanting p old answer (Err exit.Fallthrough) new e = absurd cc
-done_wanting p old answer (Err (exit.Panic k)) new e = absurd cc
-done_wanting p old answer (Err exit.Undecided) new e = absurd cc

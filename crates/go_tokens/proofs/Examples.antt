@@ -11,6 +11,7 @@ use Rattle.go_tokens.specs.Spellings.{same_text, keywords, punctuation, outside_
 use Rattle.go_tokens.specs.Literals.{letter_base, is_digit_of, is_code_point, letter_escape, is_integer, integer_value, rune_value, string_value}
 use Rattle.go_tokens.specs.Pieces.{begun_by, goes, is_piece, is_good}
 use Rattle.go_tokens.specs.Lexing.{join, width, span, token, inserted, Cut, tokens, comments, Lexes}
+use Rattle.go_tokens.specs.Examples.{Examples}
 use Rattle.go_tokens.proofs.Lists.{both}
 use Rattle.go_tokens.proofs.Seams.{not_false}
 use Rattle.go_tokens.proofs.Shapes.{Stops, stops_longest}
@@ -99,3 +100,19 @@ comment_lexes = lexes_by_test 0 (codes "x" ∷ codes " " ∷ codes "/* a\nb */" 
 pub comma_lexes : Lexes 0 (codes "1,\n2") (token 0 Integer 0 1 ∷ token 0 Comma 1 1 ∷ token 0 Integer 3 1 ∷ inserted 0 4 ∷ []) []
 unfolding width begun_by is_white is_letter is_digit is_in_word is_in_run is_exponent is_power is_sign is_x goes operators punctuation outside_operators keywords letter_base is_digit_of is_b is_o general_category value_in general_category_rows encode_utf8
 comma_lexes = lexes_by_test 0 (codes "1" ∷ codes "," ∷ codes "\n" ∷ codes "2" ∷ []) refl
+
+pub all : Examples
+all = record {
+  decimal = decimal;
+  hexadecimal = hexadecimal;
+  octal = octal;
+  binary = binary;
+  none_of_these = none_of_these;
+  rune = rune;
+  rune_escape = rune_escape;
+  rune_quote = rune_quote;
+  text = text;
+  raw = raw;
+  comment_lexes = comment_lexes;
+  comma_lexes = comma_lexes;
+}

@@ -11,3 +11,4 @@ pub mod Progress
 pub mod Replacing
 pub mod Editing
 pub mod Tokens
+pub mod Examples

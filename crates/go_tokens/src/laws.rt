@@ -11,9 +11,15 @@ ghost use Rattle.go_tokens.specs.Pieces.{is_piece, is_good};
 ghost use Rattle.go_tokens.specs.Lexing.{join, Cut, tokens, comments, Lexes};
 ghost use Rattle.go_tokens.specs.Files.{IsLexing, IsFault, HasToken};
 ghost use Rattle.go_tokens.specs.Replacing.{Part, Fits, NewLexing, old_pieces};
+ghost use Rattle.go_tokens.specs.Examples.{Examples};
 ghost use Rattle.go_tokens.specs.Editing.{Edits, old_text, Allows, EditedLexing, AreFileEdits, all_apart, has_no_line};
 
 use crate::token::TokenKind;
+
+/// What lexing says of some texts, worked out by hand.
+pub fn examples()
+    ensures { Examples }
+{}
 
 /// A file has at most one lexing.
 pub fn one_lexing()

@@ -1,7 +1,6 @@
 -- The types of parameters and results, from the last one to the first.
 use Rattle.std.proofs.Common.{◌≡◌, ℕ, zero, suc, ◌+◌, ◌<◌, List, [], ◌∷◌, ◌++◌, length, map, drop, Option, Some, None, refl, ap, sym, ◌∙◌, subst, arith, get_or, drop-cons}
 use Rattle.std.specs.Prelude.{reverse}
-use Rattle.std.specs.List.{AllByRecursion}
 use Rattle.std.specs.Option.{option_map}
 use Rattle.std.proofs.lemmas.List.{reverse-append}
 use Rattle.go_types.specs.Trees.{TypeTree}
@@ -47,9 +46,6 @@ pub with_entry : (t : Table) (ps : List (Option TypedNode)) (i j : ℕ) (p : Typ
     → entries_from t j ps ≡ entry_of (seen t p) (first_entry (entries_from t i ps)) ∷ entries_from t i ps
 with_entry t ps i j p d e lt is = ap (λ xs. entry_types (parts_seen t xs)) (from_here t ps i j (Some p) d e lt is)
 
-pub without_entry : (t : Table) (ps : List (Option TypedNode)) (i j : ℕ) (d : Option TypedNode) → j + 1 ≡ i → j < length ps → None ≡ get_or ps j d → entries_from t j ps ≡ entries_from t i ps
-without_entry t ps i j d e lt is = ap (λ xs. entry_types (parts_seen t xs)) (from_here t ps i j None d e lt is)
-
 pub none_behind : (ts : List (Option TypeTree)) (t : Option TypeTree) → all_types ts ≡ None → all_types (t ∷ ts) ≡ None
 none_behind ts None e = refl
 none_behind ts (Some t) e = ap (with_front (Some t)) e
@@ -72,14 +68,5 @@ pub one_more : (f : ℕ → TypeTree) (ids now : List ℕ) (n : ℕ) (ts es : Li
 one_more f ids now n ts es o e is all grown =
     ap all_types e ∙ ap (λ x. with_front x (all_types ts)) (sym is) ∙ ap (with_front (Some (f n))) all ∙ ap (λ xs. Some (map f xs)) (sym (ap reverse grown ∙ pushed ids n))
 
-pub one_more_known : (k : ℕ) (ids now : List ℕ) (n : ℕ) → now ≡ ids ++ n ∷ [] → n < k → AllByRecursion (λ p. p < k) (reverse ids) → AllByRecursion (λ p. p < k) (reverse now)
-one_more_known k ids now n grown lt h = subst (AllByRecursion (λ p. p < k)) (sym (ap reverse grown ∙ pushed ids n)) (lt, h)
-
 pub first_is : (ts es : List (Option TypeTree)) (o : Option TypeTree) → es ≡ o ∷ ts → first_entry es ≡ o
 first_is ts es o e = ap first_entry e
-
--- ---- both rows of a function type
-
-pub both_below : (k : ℕ) (ps rs : List ℕ) → AllByRecursion (λ p. p < k) ps → AllByRecursion (λ p. p < k) rs → AllByRecursion (λ p. p < k) (ps ++ rs)
-both_below k [] rs h g = g
-both_below k (p ∷ ps) rs h g = (h.0, both_below k ps rs h.1 g)

@@ -8,9 +8,9 @@ use Rattle.go_typed.specs.declared.sort.Sort as program
 use Rattle.go_typed.specs.Trees.{Sort}
 use Rattle.go_typed.specs.Views.{KnownSort}
 use Rattle.go_rules.specs.Scopes.{Needed, in_full, at_once, loosely}
-use Rattle.go_rules.specs.Sorts.{Stands}
+use Rattle.go_rules.specs.Sorts.{Stands, known}
 use Rattle.go_type_rules.specs.declared.standing.Standing.{Standing}
-use Rattle.go_type_rules.specs.Naming.{KnownStanding, by_need, told_seen, told_or, known}
+use Rattle.go_type_rules.specs.Naming.{KnownStanding, by_need, told_seen, told_or}
 
 pub known_by_need : (n : ℕ) (x : Standing) (m : Needed) → KnownStanding n x → KnownSort n (by_need x.in_full x.at_once x.loosely m)
 known_by_need n x in_full h = h.in_full

@@ -11,7 +11,7 @@ use Rattle.go_typed.specs.declared.form.Referent.{Referent}
 use Rattle.go_typed.specs.declared.form.Referent.TheVariants as referent
 use Rattle.go_typed.specs.Trees as sort
 use Rattle.go_typed.specs.Trees.{Sort, SortHas, sort_mapped}
-use Rattle.go_rules.specs.Sorts.{Stands}
+use Rattle.go_rules.specs.Sorts.{Stands, known}
 use Rattle.go_typed.specs.Views.{sort_seen, KnownSort}
 use Rattle.go_rules.specs.Scopes.{Scope, in_full, at_once, loosely}
 use Rattle.go_rules.specs.Scopes as scopes
@@ -19,10 +19,6 @@ use Rattle.go_type_rules.specs.declared.scope.Scope as program
 use Rattle.go_type_rules.specs.declared.standing.Needed as needs
 use Rattle.go_type_rules.specs.declared.standing.Needed.TheVariants as need
 use Rattle.go_type_rules.specs.declared.standing.Standing.{Standing}
-
-abbrev pub known : Option Stands → Stands
-known (Some x) = x
-known None = sort.Unknown
 
 abbrev pub known_local : Option (Option Stands) → Stands
 known_local (Some (Some x)) = x

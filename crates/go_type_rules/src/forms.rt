@@ -7,7 +7,8 @@ ghost use Rattle.go_typed.specs.Views.{sort_seen};
 ghost use Rattle.go_rules.specs.Hints.{hint_seen};
 ghost use Rattle.go_rules.specs.Names.{predeclared_sort, object_form, declared_form, form_or_type, object_sort, name_form};
 ghost use Rattle.go_rules.specs.Tables.{is_type};
-ghost use Rattle.go_type_rules.specs.Naming.{names, known, need_seen, object_in, KnownScope};
+ghost use Rattle.go_rules.specs.Sorts.{known};
+ghost use Rattle.go_type_rules.specs.Naming.{names, need_seen, object_in, KnownScope};
 
 use crate::names::need_of;
 use crate::scope::{Scope, local_sort, package_sort};

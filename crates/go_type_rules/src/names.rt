@@ -8,7 +8,8 @@ ghost use Rattle.go_typed.specs.Trees.{IsType, OpenConstant};
 ghost use Rattle.go_typed.specs.Views.{sort_seen, KnownSort};
 ghost use Rattle.go_rules.specs.Hints.{hint_seen};
 ghost use Rattle.go_rules.specs.Names.{predeclared_sort, object_sort, need_of, name_sort};
-ghost use Rattle.go_type_rules.specs.Naming.{names, known, need_seen, stands_for, KnownScope};
+ghost use Rattle.go_rules.specs.Sorts.{known};
+ghost use Rattle.go_type_rules.specs.Naming.{names, need_seen, stands_for, KnownScope};
 
 use crate::scope::{Scope, local_sort, package_sort};
 use crate::standing::Needed;

@@ -4,7 +4,8 @@ ghost use Rattle.std.specs.Option.{option_map, unwrap_or};
 ghost use Rattle.go_tree.specs.declared.object.Object.TheVariants as object;
 ghost use Rattle.go_typed.specs.Scopes.{local_sort};
 ghost use Rattle.go_typed.specs.Views.{sort_view, sort_seen, KnownSort};
-ghost use Rattle.go_type_rules.specs.Naming.{known, known_local, locals_seen, need_seen, stands_for, text_in, object_in, referent_in, KnownScope};
+ghost use Rattle.go_rules.specs.Sorts.{known};
+ghost use Rattle.go_type_rules.specs.Naming.{known_local, locals_seen, need_seen, stands_for, text_in, object_in, referent_in, KnownScope};
 ghost use Rattle.go_type_rules.specs.declared.standing.Needed.TheVariants as need;
 
 use crate::standing::{Needed, Standing};

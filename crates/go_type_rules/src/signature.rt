@@ -72,7 +72,8 @@ fn entry_type(types: &Types, sort: &Sort, next: Option<TypeId>) -> Option<TypeId
     }
 }
 
-fn entry(types: &Types, node: &TypedNode, next: Option<TypeId>) -> Option<TypeId>
+/// The type of a parameter, or of another entry: its own, or that of the next entry where it is a name alone.
+pub fn entry(types: &Types, node: &TypedNode, next: Option<TypeId>) -> Option<TypeId>
     requires node { Known (length types.now.shapes) node.now }
     requires next { IfSome next (λ t. t < length types.now.shapes) }
     ensures known { IfSome result (λ t. t < length types.now.shapes) }

@@ -27,54 +27,6 @@ pub record NodesLeft (number next index : ℕ) (all rest : Typeds ℕ) (first no
   pub places : first ++ part_places number 0 (suc number) all ≡ now ++ part_places number index next rest
   pub lists : firsts ++ numbers_among (suc number) all ≡ nows ++ numbers_among next rest
 
-pub nodes-begin : (number next : ℕ) (all : Typeds ℕ) (first : List PartPlace) (firsts : List ℕ) → next ≡ number + 1 →
-    NodesLeft number next 0 all all first first firsts firsts
-nodes-begin number next all first firsts e =
-    let s : suc number ≡ next = omega (arith, e) in
-    record {
-      next_is = omega (arith, e);
-      places = ap (λ k. first ++ part_places number 0 k all) s;
-      lists = ap (λ k. firsts ++ numbers_among k all) s;
-    }
-
-pub nodes-more : (number next next' index index' : ℕ) (all : Typeds ℕ) (p : Typed ℕ) (rest : Typeds ℕ) (first now mid out : List PartPlace) (firsts nows outs : List ℕ) →
-    NodesLeft number next index all (more p rest) first now firsts nows →
-    mid ≡ now ++ record { above = number; part = index } ∷ [] → next' ≡ next + size p → out ≡ mid ++ inner_places next p → outs ≡ nows ++ list_numbers next p → index' ≡ index + 1 →
-    NodesLeft number next' index' all rest first out firsts outs
-nodes-more number next next' index index' all p rest first now mid out firsts nows outs h m n e f i =
-    let own : List PartPlace = record { above = number; part = index } ∷ [] in
-    let inside : List PartPlace = inner_places next p in
-    let others : List PartPlace = part_places number (suc index) (next + size p) rest in
-    let left : next + (size p + sizes rest) ≡ suc number + sizes all = h.next_is in
-    let s : suc index ≡ index' = omega (arith, i) in
-    record {
-      next_is = omega (arith, left, n);
-      places =
-          h.places
-          ∙ sym (append_assoc now own (inside ++ others))
-          ∙ ap (λ o. o ++ (inside ++ others)) (sym m)
-          ∙ sym (append_assoc mid inside others)
-          ∙ ap (λ o. o ++ others) (sym e)
-          ∙ ap (λ k. out ++ part_places number k (next + size p) rest) s
-          ∙ ap (λ k. out ++ part_places number index' k rest) (sym n);
-      lists =
-          h.lists
-          ∙ sym (append_assoc nows (list_numbers next p) (numbers_among (next + size p) rest))
-          ∙ ap (λ o. o ++ numbers_among (next + size p) rest) (sym f)
-          ∙ ap (λ k. outs ++ numbers_among k rest) (sym n);
-    }
-
-pub nodes-skip : (number next index index' : ℕ) (all rest : Typeds ℕ) (first now : List PartPlace) (firsts nows : List ℕ) →
-    NodesLeft number next index all (skip rest) first now firsts nows → index' ≡ index + 1 →
-    NodesLeft number next index' all rest first now firsts nows
-nodes-skip number next index index' all rest first now firsts nows h i =
-    let s : suc index ≡ index' = omega (arith, i) in
-    record {
-      next_is = h.next_is;
-      places = h.places ∙ ap (λ k. now ++ part_places number k next rest) s;
-      lists = h.lists;
-    }
-
 -- the numbers of a part are numbers of the node
 pub nodes-room : (number next index : ℕ) (all : Typeds ℕ) (p : Typed ℕ) (rest : Typeds ℕ) (first now : List PartPlace) (firsts nows : List ℕ) →
     NodesLeft number next index all (more p rest) first now firsts nows → next + size p ≤ suc number + sizes all
@@ -202,9 +154,6 @@ no-place x t k h g =
     let b : length t.places.items ≡ length (inner_places 0 x) = ap length h.places in
     let d : length (nodes x) ≡ size x = count_nodes x in
     slice_get_past (nodes x) (suc k) (omega (arith, a, b, d, g))
-
-pub first-node : (x : Typed ℕ) → slice_get (nodes x) 0 ≡ Some x
-first-node x = head_node x
 
 -- ---- statement lists
 

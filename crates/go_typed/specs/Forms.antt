@@ -15,6 +15,10 @@ abbrev pub values_count : Form → ℕ
 values_count (form.Case n) = n
 values_count f = 0
 
+abbrev pub is_default : Form → Bool
+is_default form.Default = true
+is_default f = false
+
 abbrev pub is_holder : Form → Bool
 is_holder (form.Held k) = true
 is_holder f = false

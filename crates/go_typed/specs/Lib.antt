@@ -2,6 +2,7 @@ pub mod Trees
 pub mod Views
 pub mod Scopes
 pub mod Forms
+pub mod Operators
 pub mod Lists
 pub mod Funcs
 pub mod NamedLocals

@@ -1,18 +1,10 @@
 -- The statements and the tokens of a window, and the locals that are named in it.
-use Rattle.std.specs.Prelude.{◌≡◌, ℕ, zero, suc, ◌+◌, ◌-◌, ◌<◌, ◌≤◌, List, [], ◌∷◌, ◌++◌, length, Option, Some, None, slice_get}
+use Rattle.std.specs.Prelude.{ℕ, zero, suc, ◌+◌, ◌-◌, List, [], ◌∷◌, ◌++◌, Option, Some, None, slice_get}
 use Rattle.go_typed.specs.declared.walk.LocalUse.{LocalUse}
 use Rattle.go_typed.specs.declared.window.Window.{Window}
 use Rattle.go_typed.specs.Funcs.{FuncView, named_at, tree_of}
 use Rattle.go_typed.specs.Lists.{statement_lists, statements_of}
 use Rattle.go_typed.specs.Trees.{Typed, first_of, last_of}
-
--- It is a run of one statement or more of a statement list of this function.
-pub record IsWindowOf (f : FuncView) (w : Window) : Type 0 where
-  pub func : w.func ≡ f.number
-  pub some : 0 < w.count
-  pub list : Typed ℕ
-  pub list_is : slice_get (statement_lists (tree_of f)) w.list ≡ Some list
-  pub within : w.first + w.count ≤ length (statements_of list)
 
 -- from one token up to another
 pub record Range : Type 0 where

@@ -20,6 +20,7 @@ pub mod locals;
 pub mod named_local;
 pub mod node;
 pub mod node_table;
+pub mod operators;
 pub mod origin;
 pub mod sort;
 pub mod walk;

@@ -1,13 +1,11 @@
 -- Lists of values that are put into others, and `append`.
-use Rattle.std.proofs.Common.{◌≡◌, ℕ, zero, suc, ◌+◌, ◌*◌, ◌<◌, ◌≤◌, max, true, false, nat_le, Result, Ok, Err, IfOk, OnOk, ◌⊎◌, inl, inr, List, [], ◌∷◌, ◌++◌, take, drop, length, refl, sym, ap, ◌∙◌, arith, ◌-◌, append_assoc, length-append, length-drop, length-take-le}
+use Rattle.std.proofs.Common.{◌≡◌, ℕ, zero, suc, ◌+◌, ◌<◌, ◌≤◌, Result, Ok, Err, IfOk, List, [], ◌∷◌, ◌++◌, take, drop, length, refl, sym, ap, ◌∙◌, arith, ◌-◌, append_assoc, length-append, length-drop, length-take-le}
 use Rattle.std.proofs.lemmas.Bool.{le-leb}
-use Rattle.std.proofs.lemmas.Bool.Decides.{leb_tells}
 use Rattle.go_base.specs.declared.memory.Memory.{Memory}
 use Rattle.type_tests.specs.Zeros.{Zero}
 use Rattle.go_meaning.specs.Values as meant
-use Rattle.go_meaning.specs.Values.{zero_value}
 use Rattle.go_meaning.specs.Computations.{World}
-use Rattle.go_meaning.specs.Operations.{Gives, appended, capacity_of, contents, length_of, longer, new_slice, put_at, with_cells}
+use Rattle.go_meaning.specs.Operations.{Gives, appended, capacity_of, length_of, longer, put_at, with_cells}
 use Rattle.go_values.specs.Views.{view, views}
 use Rattle.go_values.specs.declared.value.Value.{Value}
 use Rattle.go_values.proofs.Heap.{length_views, append_nil, drop_past}
@@ -79,23 +77,7 @@ pub if_weaker : (r : Result Value Memory) (P Q : Value → Type 0) → ((v : Val
 if_weaker (Ok v) P Q f h = f v h
 if_weaker (Err x) P Q f h = h
 
-pub if_both : (r : Result Value Memory) (a : meant.Value) (b w : World) → IfOk r (λ v. view v ≡ a) → OnOk r (w ≡ b) → IfOk r (λ v. Gives (a ∷ []) b ≡ Gives (view v ∷ []) w)
-if_both (Ok v) a b w e h = ap (λ u. Gives (u ∷ []) b) (sym e) ∙ ap (λ x. Gives (view v ∷ []) x) (sym h)
-if_both (Err x) a b w e h = e
-
-not_le : (a b : ℕ) → b < a → nat_le a b ≡ false
-not_le a b h = by (leb_tells a b)
-  where
-    by : ((nat_le a b ≡ true) × (a ≤ b)) ⊎ ((nat_le a b ≡ false) × (b < a)) → nat_le a b ≡ false
-    by (inl t) = absurd (omega (arith, t.1, h))
-    by (inr t) = t.0
-
 pub appended_within : (z : Zero) (s : meant.Value) (vs : List meant.Value) (w : World) → 0 < length vs → length_of s + length vs ≤ capacity_of s
     → appended z s vs w ≡ Gives (longer s (length vs) ∷ []) (with_cells s (length_of s) vs w)
 appended_within z s [] w h k = absurd (omega arith)
 appended_within z s (v ∷ vs) w h k = rw (le-leb (length_of s + length (v ∷ vs)) (capacity_of s) k) refl
-
-pub appended_anew : (z : Zero) (s : meant.Value) (vs : List meant.Value) (w : World) → 0 < length vs → capacity_of s < length_of s + length vs
-    → appended z s vs w ≡ new_slice (contents s w ++ vs) (max (length_of s + length vs) (2 * capacity_of s)) (zero_value z) w
-appended_anew z s [] w h k = absurd (omega arith)
-appended_anew z s (v ∷ vs) w h k = rw (not_le (length_of s + length (v ∷ vs)) (capacity_of s) k) refl

@@ -1,5 +1,5 @@
 -- Quotients, remainders and shifts of 128-bit words.
-use Rattle.std.proofs.Common.{◌≡◌, refl, sym, ap, ◌∙◌, ℕ, zero, suc, ◌*◌, ◌/◌, ◌^◌, ◌≤◌, ℤ, pos, negsuc, neg_ℤ, ◌+ℤ◌, ◌-ℤ◌, true, int_div, int_rem, arith, subst, to_z, of_z, FitsSigned}
+use Rattle.std.proofs.Common.{◌≡◌, refl, sym, ap, ◌∙◌, ℕ, zero, suc, ◌*◌, ◌/◌, ◌^◌, ◌≤◌, ℤ, pos, negsuc, neg_ℤ, ◌+ℤ◌, ◌-ℤ◌, true, int_div, arith, subst, to_z, of_z, FitsSigned}
 use Rattle.std.specs.Int.{w128, int_shr}
 use Rattle.std.proofs.lemmas.Int.{ints, to_z-of_z}
 use Rattle.go_ints.specs.declared.kinds.Kind.TheVariants.{Int64}
@@ -7,16 +7,12 @@ use Rattle.go_ints.specs.Kinds.{IsWord, wrapped_into}
 use Rattle.go_ints.specs.Wrapping.{IsCongruent}
 use Rattle.go_ints.proofs.Wrapped.{congruent-add, congruent-sub, congruent_same, wrapped_congruent}
 use Rattle.std.proofs.Math.Pow.{pow_mono}
-use Rattle.std.proofs.Math.Nat.{div-le_self, div-eq_of_lt, div-one, mod-one, div-mul-le_self, mul-le-mul_left}
+use Rattle.std.proofs.Math.Nat.{div-le_self, div-eq_of_lt, div-one, div-mul-le_self, mul-le-mul_left}
 use Rattle.go_values.proofs.Wrapping.{zero_less}
 
 pub quotient_by_minus_one : (a : ℤ) → int_div a (negsuc 0) ≡ pos 0 -ℤ a
 quotient_by_minus_one (pos n) = ap (λ k. neg_ℤ (pos k)) (div-one n) ∙ sym (zero_less (pos n))
 quotient_by_minus_one (negsuc n) = ap pos (div-one (suc n)) ∙ sym (zero_less (negsuc n))
-
-pub remainder_by_minus_one : (a : ℤ) → int_rem a (negsuc 0) ≡ pos 0
-remainder_by_minus_one (pos n) = ap pos (mod-one n)
-remainder_by_minus_one (negsuc n) = ap (λ k. neg_ℤ (pos k)) (mod-one (suc n))
 
 -- at most half of it
 half : (n b : ℕ) → n / suc (suc b) * 2 ≤ n

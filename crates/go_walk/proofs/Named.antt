@@ -1,6 +1,5 @@
 -- The declared type that a name is.
-use Rattle.std.proofs.Common.{◌≡◌, ℕ, ◌<◌, ◌≤◌, List, [], ◌∷◌, length, map, Option, Some, None, Result, refl, ap, sym, subst, ◌∙◌, arith}
-use Rattle.std.specs.Prelude.{OnOk}
+use Rattle.std.proofs.Common.{◌≡◌, ℕ, ◌<◌, ◌≤◌, List, [], ◌∷◌, length, map, Option, Some, None, refl, ap, sym, subst, ◌∙◌, arith}
 use Rattle.std.specs.Option.{option_map}
 use Rattle.go_types.specs.Trees.{TypeTree, declared}
 use Rattle.go_types.specs.Tables.{Table, type_of, rights_of}
@@ -9,7 +8,7 @@ use Rattle.go_typed.specs.declared.sort.Sort as program
 use Rattle.go_rules.specs.Scopes.{Scope}
 use Rattle.go_rules.specs.Settling.{Part}
 use Rattle.go_rules.specs.Sorts.{Stands}
-use Rattle.go_stmts.specs.Frames.{Frame, placed}
+use Rattle.go_stmts.specs.Frames.{Frame}
 use Rattle.go_stmts.specs.Laying.{local_named, type_number, type_sort}
 use Rattle.go_stmts.specs.Reading.{right_side}
 use Rattle.go_body_frames.specs.declared.state.Surroundings.{Surroundings}
@@ -35,11 +34,6 @@ module _ (t : Table) where
   pub sort_of_blank : (m : Option ℕ) → AreNamed t None m → Nothing ≡ type_sort m
   sort_of_blank (Some m) h = absurd h
   sort_of_blank None h = refl
-
-  pub rights_by : {E : Type 0} (new : Table) (i : ℕ) (r : Option TypeTree) (res : Result Unit E) → ((n : ℕ) → type_of t.shapes i ≡ declared n → OnOk res (rights_of new ≡ placed n r (rights_of t)))
-      → (m : Option ℕ) → AreNamed t (Some i) m → OnOk res (rights_of new ≡ placed_or m r (rights_of t))
-  rights_by new i r res h (Some m) a = h m a
-  rights_by new i r res h None a = absurd a
 
   pub rights_same : (r : Option TypeTree) (m : Option ℕ) → AreNamed t None m → rights_of t ≡ placed_or m r (rights_of t)
   rights_same r (Some m) a = absurd a

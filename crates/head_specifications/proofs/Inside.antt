@@ -15,9 +15,6 @@ use Rattle.head_specifications.specs.Specifications.{Inside, MaybeInside, AllIns
 
 -- ---- trees counted from an earlier token
 
-first_less : (a : ℕ) (t : Tree) → first (carry (λ n. n - a) t) ≡ first t - a
-first_less a (node k i j ps) = refl
-
 last_less : (a : ℕ) (t : Tree) → last (carry (λ n. n - a) t) ≡ last t - a
 last_less a (node k i j ps) = refl
 

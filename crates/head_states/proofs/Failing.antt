@@ -11,13 +11,12 @@ use Rattle.go_typed.specs.Trees.{typed, Typeds, sort_of}
 use Rattle.go_typed.specs.Trees as sort
 use Rattle.go_rules.specs.declared.fault.TypeFault.{TypeFault}
 use Rattle.go_rules.specs.declared.family.OpenKind.{OpenKind}
-use Rattle.go_rules.specs.Faults.{fault_at}
+use Rattle.go_rules.specs.Faults.{fault_at, joined}
 use Rattle.go_rules.specs.Settling.{Part, at_part, unrepresented_constant, unrepresented, all_unrepresented, undefaulted_by, undefaulted, untyped_unassignable, unassignable_by, unassignable}
 use Rattle.go_rules.specs.Sorts.{Stands, is_nil, is_open, open_kind, is_constant, constant_of, represents, default_type, suits, has_nil}
 use Rattle.go_rules.specs.Tables.{no_faults}
 use Rattle.go_stmts.specs.Assigning.{Wanted, called_results, whole_results, unassigned, all_unassigned, result_unassigned, results_unassigned, call_assigned, assignment_by, assignment_failing, constant_failing, constants_failing}
 use Rattle.go_stmts.specs.Rules.{variables_failing}
-use Rattle.go_package.specs.Verdicts.{joined}
 use Rattle.go_elsewhere.specs.Elsewhere.{placed, all_placed, fault_placed}
 
 -- rules fail in both, or in neither

@@ -17,11 +17,12 @@ use Rattle.go_rules.specs.Sorts.{is_unknown}
 use Rattle.go_rules.specs.Tables.{no_faults}
 use Rattle.go_rules.specs.TypeNodes.{part_type}
 use Rattle.go_rules.specs.Typing.{typing, faults}
+use Rattle.go_rules.specs.Faults.{joined}
 use Rattle.go_stmts.specs.Assigning.{constants_failing}
 use Rattle.go_stmts.specs.Rules.{variables_failing}
 use Rattle.go_package.specs.Declarations.{Specification, is_alone}
 use Rattle.go_package.specs.Knowledge.{State}
-use Rattle.go_package.specs.Verdicts.{joined, type_hint, value_hint, part_in, faults_in, typed_type, type_faults, own_value, typed_values, values_faults, expression_faults, assigned_of, right_found, type_state, state_with, own_faults, value_state, known_parts, counted, specification_failing, specification_rule}
+use Rattle.go_package.specs.Verdicts.{type_hint, value_hint, part_in, faults_in, typed_type, type_faults, own_value, typed_values, values_faults, expression_faults, assigned_of, right_found, type_state, state_with, own_faults, value_state, known_parts, counted, specification_failing, specification_rule}
 use Rattle.go_alike.specs.Scopes.{AllTokens, SaySame, IsTypedSame}
 use Rattle.go_elsewhere.specs.Elsewhere.{placed, along, KeepsLast, IsTypedElsewhere}
 use Rattle.head_states.specs.Same.{IsFurther, MaybeReadBy, AllReadBy}

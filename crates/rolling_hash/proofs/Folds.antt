@@ -1,5 +1,5 @@
 -- The number of words, one word after the other.
-use Rattle.std.proofs.Common.{◌≡◌, ◌∙◌, ℕ, zero, suc, ◌+◌, ◌%◌, ◌^◌, ◌≤◌, List, [], ◌∷◌, ◌++◌, length, map, take, Option, Some, None, slice_get, inl, inr, refl, sym, ap, subst, arith}
+use Rattle.std.proofs.Common.{◌≡◌, ◌∙◌, ℕ, zero, suc, ◌+◌, ◌%◌, ◌^◌, ◌≤◌, List, [], ◌∷◌, ◌++◌, length, map, take, Option, Some, slice_get, inl, inr, refl, sym, ap, subst, arith}
 use Rattle.std.specs.Prelude.{◌⊎◌}
 use Rattle.std.proofs.lemmas.List.{map-append}
 use Rattle.std.proofs.lemmas.Option.{same_Some}
@@ -12,11 +12,6 @@ use Rattle.rolling_hash.specs.Rolling.{HasPlaces, seen_after, seen_at, term_at}
 fold-more : (h : ℕ) (xs : List ℕ) (w : ℕ) → fold_from h (xs ++ w ∷ []) ≡ mix (fold_from h xs) w
 fold-more h [] w = refl
 fold-more h (x ∷ xs) w = fold-more (mix h x) xs w
-
-reduced : (seen : List (ℕ × ℕ)) (p : ℕ) (ws : List Word) → terms_from seen p ws % 2 ^ 64 ≡ terms_from seen p ws
-reduced seen p [] = refl
-reduced seen p (number n ∷ ws) = reduced seen (suc p) ws
-reduced seen p (named l ∷ ws) = mod-mod (term p (place_before seen l) + terms_from ((l, p) ∷ seen) (suc p) ws) (2 ^ 64)
 
 one-term : (seen : List (ℕ × ℕ)) (p : ℕ) (w : Word) → terms_from seen p (w ∷ []) ≡ term_at seen p w % 2 ^ 64
 one-term seen p (number n) = refl
@@ -80,24 +75,6 @@ pub record RolledSoFar (ws : List Word) (i fold_is terms : ℕ) (places : ℕ �
   pub places_so_far : HasPlaces places (seen_after [] 1 (take i ws))
   pub count : length numbers ≡ i + 1
   pub each : (n : ℕ) → n ≤ i → slice_get numbers n ≡ Some (words_hash (take n ws))
-
-pub rolled-begin : (ws : List Word) (places : ℕ → Option ℕ) → ((l : ℕ) → places l ≡ None) → RolledSoFar ws 0 basis 0 places (mix basis 0 ∷ [])
-rolled-begin ws places h =
-    let none : take 0 ws ≡ [] = nothing ws in
-    record {
-      fold_so_far = ap (λ l. fold (map word_value l)) (sym none);
-      terms_so_far = ap (λ l. terms_from [] 1 l) (sym none);
-      places_so_far = λ l. h l ∙ ap (λ s. place_before (seen_after [] 1 s) l) (sym none);
-      count = refl;
-      each = λ n k. first n k;
-    } where
-      nothing : (ws : List Word) → take 0 ws ≡ []
-      nothing [] = refl
-      nothing (w ∷ ws) = refl
-
-      first : (n : ℕ) → n ≤ 0 → slice_get (mix basis 0 ∷ []) n ≡ Some (words_hash (take n ws))
-      first zero k = ap (λ l. Some (words_hash l)) (sym (nothing ws))
-      first (suc n) k = absurd (omega (arith, k))
 
 pushed-before : {A : Type 0} (xs : List A) (x : A) (n : ℕ) (y : A) → slice_get xs n ≡ Some y → slice_get (xs ++ x ∷ []) n ≡ Some y
 pushed-before [] x n y e = cc

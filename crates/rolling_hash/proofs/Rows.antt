@@ -71,19 +71,6 @@ row-more n inside o owner parts i k k' count old out mid out' part l e h ce ke m
           (sym (append_assoc out (lengths_at o k count) (part_words n inside (is_defined o k) owner part)) ∙ ap (λ ws. ws ++ part_words n inside (is_defined o k) owner part) (sym me) ∙ sym oe);
     }
 
--- behind the last part
-pub row-ends : (n : Names) (inside : Bool) (o : Outline) (owner : Sort ℕ) (parts : List (Option TypedNode)) (i k : ℕ) (old out out' : List Word) →
-    length parts ≤ i → RowLeft n inside o owner parts i k old out → out' ≡ out ++ lengths_at o k 0 → out' ≡ old ++ row_words (naming n) inside o owner 0 (views parts)
-row-ends n inside o owner parts i k old out out' l h e =
-    e
-    ∙ ap (λ ps. out ++ row_words (naming n) inside o owner k (views ps)) (sym (nothing-left parts i l))
-    ∙ sym h.words_left where
-      nothing-left : (ps : List (Option TypedNode)) (i : ℕ) → length ps ≤ i → drop i ps ≡ []
-      nothing-left [] zero l = refl
-      nothing-left [] (suc i) l = refl
-      nothing-left (p ∷ ps) zero l = absurd (omega (arith, l))
-      nothing-left (p ∷ ps) (suc i) l = nothing-left ps i (omega (arith, l))
-
 -- ---- other rows
 
 declared-begins : (n : Names) (inside : Bool) (part : Option TypedNode) (ps : List (Option TypedNode)) →

@@ -25,12 +25,13 @@ use Rattle.go_typed.specs.declared.form.Referent.TheVariants as referent
 use Rattle.go_typed.specs.Trees.{Sort, Nothing, Unknown, Blank, Nil, Builtin, Println, Package, IsType, Constant, Open, OpenConstant, Results}
 use Rattle.go_typed.specs.Trees.{Label, Typed, typed, Typeds, none, more, skip, parts_of, sort_mapped, label_mapped, mapped, all_mapped}
 use Rattle.go_typed.specs.Trees as trees
+use Rattle.go_typed.specs.Forms.{is_default}
 use Rattle.go_meaning.specs.Values.{zero_value}
 use Rattle.go_meaning.specs.Operations as does
 use Rattle.go_meaning.specs.Plans.{Plan, Once, Loop}
 use Rattle.go_meaning.specs.Plans as plans
 use Rattle.go_meaning.specs.Planning.{part_at, is_there, sort_type, type_there, sort_there, calls_there, shape_of, shape_at, zero_in, kind_of, element_of, operation, step_operation, binary_plan, unary_operation, conversion, index_plan}
-use Rattle.go_meaning.specs.Planning.{place_of, places_from, places_of, composite_plan, element_zero, builtin_plan, call_plan, object_plan, specified_plan, is_default, default_at, at_most_one, items_of, form_plan, sort_plan, plan}
+use Rattle.go_meaning.specs.Planning.{place_of, places_from, places_of, composite_plan, element_zero, builtin_plan, call_plan, object_plan, specified_plan, default_at, at_most_one, items_of, form_plan, sort_plan, plan}
 
 -- what is told of renamed types
 pub record AreTold (name : ℕ → ℕ) (old new : Rights) : Type 0 where

@@ -1,5 +1,5 @@
 -- Windows come in one after the other, and what is counted.
-use Rattle.std.proofs.Common.{◌≡◌, ◌∙◌, ℕ, zero, suc, ◌+◌, ◌<◌, ◌≤◌, Bool, List, [], ◌∷◌, ◌++◌, length, take, drop, Option, None, Some, slice_get, refl, sym, ap, subst, arith}
+use Rattle.std.proofs.Common.{◌≡◌, ◌∙◌, ℕ, zero, suc, ◌+◌, ◌≤◌, Bool, List, [], ◌∷◌, ◌++◌, length, take, drop, Some, slice_get, refl, sym, ap, subst, arith}
 use Rattle.std.specs.List.{sum_by}
 use Rattle.std.proofs.lemmas.List.Sums.{sum_by-append, sum_by-take-le}
 use Rattle.std.proofs.lemmas.Option.{same_Some}
@@ -30,25 +30,12 @@ nothing : {A : Type 0} (xs : List A) → take 0 xs ≡ []
 nothing [] = refl
 nothing (x ∷ xs) = refl
 
-some-few : {A : Type 0} (xs : List A) (i : ℕ) (x : A) → slice_get xs i ≡ Some x → i < length xs
-some-few [] i x e = cc
-some-few (y ∷ xs) zero x e = omega arith
-some-few (y ∷ xs) (suc i) x e = let h = some-few xs i x e in omega (arith, h)
-
 -- What stands behind the first so many windows: the buckets with them, and the counts.
 pub record PutSoFar (same : Window → Window → Bool) (xs : List (Window × ℕ)) (i : ℕ) (old new : List Bucket) (before now : Counts) : Type 0 where
   pub buckets : new ≡ all_entered same (take i xs) old
   pub entered_so_far : now.entered ≡ before.entered + i
   pub compared_so_far : now.compared ≤ before.compared + sum_by (λ x. group_count x.1 (all_entered same xs old)) (take i xs)
   pub checked_so_far : now.checked ≡ before.checked
-
-pub put-begin : (same : Window → Window → Bool) (xs : List (Window × ℕ)) (old : List Bucket) (before : Counts) → PutSoFar same xs 0 old old before before
-put-begin same xs old before = record {
-  buckets = ap (λ l. all_entered same l old) (sym (nothing xs));
-  entered_so_far = omega arith;
-  compared_so_far = omega arith;
-  checked_so_far = refl;
-}
 
 -- no more groups stand under a hash than once all are in
 pub count-so-far : (same : Window → Window → Bool) (xs : List (Window × ℕ)) (i h : ℕ) (old new : List Bucket) → new ≡ all_entered same (take i xs) old → group_count h new ≤ group_count h (all_entered same xs old)
@@ -79,11 +66,3 @@ put-in-part same xs i h x old new before now now' at p e c =
     let counted : sum_by f (take (i + 1) xs) ≡ sum_by f (take i xs) + (0 + f x) = ap (sum_by f) (front-more xs i x at) ∙ sum_by-append f (take i xs) (x ∷ []) in
     let few : group_count h new ≤ f x = subst (λ k. group_count k new ≤ f x) (sym e) (count-so-far same xs i x.1 old new p.buckets) in
     omega (arith, c, p.compared_so_far, counted, few, sum_by-take-le f xs (i + 1))
-
--- behind the last one
-pub put-end : (same : Window → Window → Bool) (xs : List (Window × ℕ)) (i : ℕ) (old new : List Bucket) (before now : Counts) → length xs ≤ i → PutSoFar same xs i old new before now →
-    (new ≡ all_entered same xs old) × (now.compared ≤ before.compared + rivals same xs old)
-put-end same xs i old new before now l p = (
-  p.buckets ∙ ap (λ l. all_entered same l old) (whole i xs l),
-  omega (arith, p.compared_so_far, sum_by-take-le (λ y. group_count y.1 (all_entered same xs old)) xs i),
-)

@@ -33,9 +33,6 @@ use Rattle.window_places.proofs.Readings.{Fine, reading-fine}
 
 -- ---- trees whose tokens are counted from the first one of their declaration
 
-based-first : (b : ℕ) (t : Tree) → first (based b t) ≡ first t - b
-based-first b (node k i j ps) = refl
-
 pub based-last : (b : ℕ) (t : Tree) → last (based b t) ≡ last t - b
 based-last b (node k i j ps) = refl
 

@@ -128,8 +128,6 @@ abbrev mutual
   shapes (skip ps) = skip (shapes ps)
 
 module _ {T U : Type 0} where
-  pub same-first : (x : Typed T) (y : Typed U) → shape x ≡ shape y → first_of x ≡ first_of y
-  same-first (typed f i j l ps) (typed g a b m qs) e = cc
 
   pub same-last : (x : Typed T) (y : Typed U) → shape x ≡ shape y → last_of x ≡ last_of y
   same-last (typed f i j l ps) (typed g a b m qs) e = cc

@@ -13,9 +13,10 @@ use Rattle.go_typed.specs.Trees.{Typed, typed, Typeds, none, more, skip, first_o
 use Rattle.clone_window.specs.declared.bounds.Bounds.{Bounds}
 use Rattle.clone_window.specs.Masses.{each_mass}
 use Rattle.clone_window.specs.Windows.{is_heavy, list_count, row_of, run_at, statements_in, window_statements, windows_along, windows_among, windows_at, windows_from, windows_in}
+use Rattle.clone_window.specs.Spans.{last_from}
 use Rattle.clone_window.proofs.RunParts.{drop-both}
 use Rattle.clone_classes.specs.declared.place.Place.{Place}
-use Rattle.clone_classes.specs.Choices.{last_from, place_over}
+use Rattle.clone_classes.specs.Choices.{place_over}
 use Rattle.clone_classes.specs.Orders.{place_cmp}
 use Rattle.index_classes.specs.Orderly.{Ascends, IsBefore}
 use Rattle.index_classes.proofs.Ascents.{kept-ascends, kept-members}

@@ -1,7 +1,8 @@
 use Rattle.std.proofs.Common.{◌≡◌, length, drop}
 use Rattle.go_stmts.specs.Frames.{Frame}
 use Rattle.go_stmts.specs.Reading.{with_parameters}
-use Rattle.go_stmt_rules.specs.Seen.{locals_in, KnownLocals}
+use Rattle.go_typed.specs.Scopes.{KnownLocals}
+use Rattle.go_stmt_rules.specs.Seen.{locals_in}
 use Rattle.go_body_frames.specs.Signatures.{entries_seen}
 use Rattle.go_body_frames.proofs.signature.declare_parameters.Given as goal
 

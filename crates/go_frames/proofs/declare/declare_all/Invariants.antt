@@ -1,9 +1,10 @@
 use Rattle.std.proofs.Common.{◌≡◌, length, drop, map}
 use Rattle.std.specs.Option.{option_map}
 use Rattle.go_typed.specs.Views.{seen, AllKnown}
+use Rattle.go_typed.specs.Scopes.{KnownLocals}
 use Rattle.go_stmts.specs.Frames.{Frame}
 use Rattle.go_stmts.specs.Reading.{declares_all}
-use Rattle.go_stmt_rules.specs.Seen.{locals_in, KnownLocals}
+use Rattle.go_stmt_rules.specs.Seen.{locals_in}
 use Rattle.go_frames.proofs.declare.declare_all.Given as goal
 
 abbrev pub invariant-loop-part : goal.invariant-loop-part

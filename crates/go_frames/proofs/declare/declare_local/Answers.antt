@@ -1,10 +1,10 @@
 use Rattle.std.proofs.Common.{ℕ, ◌<◌, Some, length, ap, sym, subst, ◌∙◌}
 use Rattle.std.specs.Option.{option_map}
 use Rattle.go_types.specs.Tables.{type_of}
-use Rattle.go_typed.specs.Scopes.{LocalsView}
+use Rattle.go_typed.specs.Scopes.{LocalsView, KnownLocals}
 use Rattle.go_typed.specs.Trees.{Sort, SortHas, sort_mapped}
 use Rattle.go_typed.specs.Views.{sort_view}
-use Rattle.go_stmt_rules.specs.Seen.{locals_in, KnownLocals}
+use Rattle.go_stmt_rules.specs.Seen.{locals_in}
 use Rattle.go_frames.proofs.Declaring.{placed_is, all_set}
 use Rattle.go_frames.proofs.declare.declare_local.Goals as goal
 

@@ -1,4 +1,4 @@
-use Rattle.std.proofs.Common.{◌≡◌, List, length, map, refl, ap, sym, subst, ◌∙◌}
+use Rattle.std.proofs.Common.{◌≡◌, length, map, refl, ap, sym, subst, ◌∙◌}
 use Rattle.go_types.specs.Tables.{rights_of}
 use Rattle.go_package.specs.Verdicts.{next_states}
 use Rattle.go_judging.specs.Held.{all_seen, summary, AllReadAlike}

@@ -1,4 +1,4 @@
-use Rattle.std.proofs.Common.{◌≡◌, sym, subst, ◌∙◌}
+use Rattle.std.proofs.Common.{sym, ◌∙◌}
 use Rattle.type_tests.proofs.Extending.{extends_both}
 use Rattle.go_judging.proofs.RightSides.{held_are}
 use Rattle.go_judging.proofs.Stays.{fits_more}

@@ -1,5 +1,4 @@
 use Rattle.std.proofs.Common.{◌≡◌, length, ap, sym, subst, ◌∙◌}
-use Rattle.go_types.specs.Tables.{rights_of}
 use Rattle.go_judging.specs.Held.{AllHeld}
 use Rattle.go_judging.specs.Rights.{rights_held}
 use Rattle.go_in_order.specs.Progress.{sides}

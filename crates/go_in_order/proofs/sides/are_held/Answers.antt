@@ -1,4 +1,4 @@
-use Rattle.std.proofs.Common.{◌≡◌, ℕ, Bool, true, false, Option, Some, None, Decides, refl, ap, sym, subst, ◌∙◌, eqb}
+use Rattle.std.proofs.Common.{◌≡◌, ℕ, Option, Some, None, Decides, refl, ap, sym, ◌∙◌, eqb}
 use Rattle.std.proofs.lemmas.Bool.Decides.{Decides-eqb}
 use Rattle.std.proofs.lemmas.Option.{same_Some}
 use Rattle.std.proofs.lemmas.Slice.Eq.{slice_eq-Decides}

@@ -1,4 +1,4 @@
-use Rattle.std.proofs.Common.{◌≡◌, ℕ, ◌<◌, Some, length, sym, subst, ◌∙◌}
+use Rattle.std.proofs.Common.{Some, length, sym, subst, ◌∙◌}
 use Rattle.go_judging.specs.Held.{KnownRight}
 use Rattle.go_in_order.proofs.RightSides.{has_placed}
 use Rattle.go_in_order.proofs.sides.give.Goals as goal

@@ -1,8 +1,8 @@
-use Rattle.std.proofs.Common.{◌≡◌, ℕ, ◌+◌, [], ◌∷◌, ◌++◌, length, drop, ap, sym, subst, ◌∙◌, append-nil, arith}
+use Rattle.std.proofs.Common.{◌+◌, ◌++◌, drop, ap, sym, subst, ◌∙◌, append-nil, arith}
 use Rattle.go_package.specs.Knowledge.{is_type}
 use Rattle.go_judging.specs.Rights.{rights_held}
 use Rattle.go_judging.proofs.RightSides.{held_at, known_at}
-use Rattle.go_in_order.specs.Progress.{KnownRights, own_right, sides}
+use Rattle.go_in_order.specs.Progress.{KnownRights, sides}
 use Rattle.go_in_order.proofs.RightSides.{known_more, sides_on, none_left}
 use Rattle.go_in_order.proofs.sides.sides_held.Goals as goal
 

@@ -1,4 +1,4 @@
-use Rattle.std.proofs.Common.{◌≡◌, List, [], ◌∷◌, sym, ap, ◌∙◌, subst, Ok, Err}
+use Rattle.std.proofs.Common.{◌≡◌, List, [], ◌∷◌, sym, ap, ◌∙◌, subst, Err}
 use Rattle.std.proofs.lemmas.Result.{err_from_is_err_and}
 use Rattle.go_meaning.specs.Values as meant
 use Rattle.go_meaning.specs.Values.{nth}
@@ -9,7 +9,6 @@ use Rattle.go_values.specs.Views.{view, views}
 use Rattle.go_values.specs.Worlds.{world_view}
 use Rattle.go_operations.specs.Performing.{IsPerformed}
 use Rattle.go_machine.specs.declared.task.Deed as code
-use Rattle.go_machine.specs.declared.task.Deed.TheVariants as deed
 use Rattle.go_machine.specs.Tasks.{deed_view}
 use Rattle.go_machine.proofs.Performing.{stopped}
 use Rattle.go_machine.proofs.parts.perform_deed.Goals as goal

@@ -1,4 +1,4 @@
-use Rattle.std.proofs.Common.{◌≡◌, ◌<◌, ℕ, List, [], ◌∷◌, Option, drop, length, refl, sym, ap, ◌∙◌, subst, Ok, Err, arith}
+use Rattle.std.proofs.Common.{◌≡◌, ◌<◌, List, [], ◌∷◌, Option, drop, length, refl, sym, ap, ◌∙◌, subst, Err, arith}
 use Rattle.std.proofs.lemmas.Result.{err_from_is_err_and}
 use Rattle.go_typed.specs.declared.node.TypedNode.{TypedNode}
 use Rattle.go_typed.specs.declared.node.TypedNode.TheViews.{out-TypedNode}
@@ -6,16 +6,13 @@ use Rattle.go_typed.specs.Funcs.{sizes}
 use Rattle.go_typed.specs.Views.{views}
 use Rattle.go_meaning.specs.Values as meant
 use Rattle.go_meaning.specs.Values.{nth}
-use Rattle.go_meaning.specs.Computations as meaning
-use Rattle.go_meaning.specs.Computations.{Comp, Outcome, Undecided, then_do, one, write}
+use Rattle.go_meaning.specs.Computations.{Comp, Outcome, one, write}
 use Rattle.go_meaning.specs.Doings.{Doing, at, element_place, field_place}
 use Rattle.go_meaning.specs.Operations.{Gives, InArray, SetCell, WithElement, WithField, WriteVariable, operate, perform}
 use Rattle.go_values.specs.Deeds.{IsStored}
 use Rattle.go_values.specs.Views as values
 use Rattle.go_values.specs.Worlds.{world_view}
-use Rattle.go_runs.specs.declared.exit.Exit.{Exit}
-use Rattle.go_runs.specs.declared.machine.Machine.{Machine}
-use Rattle.go_runs.specs.Machines.{outcome, ends, IsLeft}
+use Rattle.go_runs.specs.Machines.{outcome, IsLeft}
 use Rattle.go_runs.specs.Places.{place_doing}
 use Rattle.go_runs.specs.Programs.{doings}
 use Rattle.go_runs.specs.Targets.{Reached}

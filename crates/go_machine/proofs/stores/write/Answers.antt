@@ -1,9 +1,9 @@
-use Rattle.std.proofs.Common.{◌≡◌, [], ◌∷◌, refl, sym, ap, ◌∙◌, Err}
+use Rattle.std.proofs.Common.{[], ◌∷◌, refl, sym, ap, ◌∙◌}
 use Rattle.std.specs.Prelude.{slice_set}
 use Rattle.std.proofs.lemmas.Result.{err_from_is_err_and}
 use Rattle.go_meaning.specs.Values as meant
 use Rattle.go_meaning.specs.Operations.{Cell, ReadVariable, SetCell, WriteVariable}
-use Rattle.go_values.specs.Views.{view, views}
+use Rattle.go_values.specs.Views.{view}
 use Rattle.go_values.specs.Worlds.{world_view}
 use Rattle.go_runs.specs.declared.targets.Root.TheVariants as root
 use Rattle.go_runs.proofs.Placing.{reads_by}

@@ -1,16 +1,14 @@
-use Rattle.std.proofs.Common.{◌≡◌, ◌<◌, ℕ, List, [], ◌∷◌, Option, drop, length, sym, subst, Ok, Err, arith}
+use Rattle.std.proofs.Common.{◌≡◌, ◌<◌, List, Option, drop, length, sym, subst, Ok, Err, arith}
 use Rattle.std.proofs.lemmas.Result.{err_from_is_err_and}
 use Rattle.go_typed.specs.declared.node.TypedNode.{TypedNode}
 use Rattle.go_typed.specs.declared.node.TypedNode.TheViews.{out-TypedNode}
 use Rattle.go_typed.specs.Funcs.{sizes}
 use Rattle.go_typed.specs.Views.{views}
 use Rattle.go_meaning.specs.Values as meant
-use Rattle.go_meaning.specs.Values.{nth}
 use Rattle.go_meaning.specs.Computations.{Comp, Undecided}
 use Rattle.go_meaning.specs.Doings.{at}
 use Rattle.go_values.specs.Views as values
 use Rattle.go_values.specs.Worlds.{world_view}
-use Rattle.go_runs.specs.declared.targets.Target.{Target}
 use Rattle.go_runs.specs.Machines.{outcome}
 use Rattle.go_runs.specs.Places.{place_doing}
 use Rattle.go_runs.specs.Programs.{doings}

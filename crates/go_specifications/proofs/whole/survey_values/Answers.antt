@@ -5,13 +5,13 @@ use Rattle.std.specs.Option.{option_map}
 use Rattle.go_tree.specs.Views.{view}
 use Rattle.type_tests.proofs.Extending.{grows_both}
 use Rattle.go_typed.specs.Views.{seen, AllKnown}
-use Rattle.go_rules.specs.Faults.{least}
+use Rattle.go_rules.specs.Faults.{least, joined}
 use Rattle.go_rules.specs.Hints.{hint_seen}
 use Rattle.go_rules.specs.Typing.{typing, faults}
 use Rattle.go_type_rules.specs.Naming.{names}
 use Rattle.go_exprs.proofs.Stays.{names_stay, parts_stay, parts_known, scope_known, basics_stay}
 use Rattle.go_exprs.proofs.Nodes.{known_append}
-use Rattle.go_package.specs.Verdicts.{joined, value_hint}
+use Rattle.go_package.specs.Verdicts.{value_hint}
 use Rattle.go_declarations.specs.Views.{specification_view}
 use Rattle.go_specifications.proofs.Rows.{tree_at, next_parts, next_faults}
 use Rattle.go_specifications.proofs.whole.survey_values.Goals as goal

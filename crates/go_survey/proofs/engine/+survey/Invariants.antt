@@ -4,11 +4,10 @@ use Rattle.type_tests.specs.Extends.{Grows}
 use Rattle.go_tree.specs.Views.{view, views}
 use Rattle.go_tree.proofs.Heights.{height, heights}
 use Rattle.go_typed.specs.Views.{seen, AllKnown}
-use Rattle.go_rules.specs.Faults.{least, earlier}
+use Rattle.go_rules.specs.Faults.{least, earlier, joined}
 use Rattle.go_rules.specs.Hints.{hint_seen}
 use Rattle.go_rules.specs.Typing.{typings, faults_of_parts}
 use Rattle.go_type_rules.specs.Naming.{names}
-use Rattle.go_survey.specs.Joined.{joined}
 use Rattle.go_survey.proofs.engine.+survey.Given as goal
 
 -- a node's measure is twice its height and one, and that of parts twice the height of a node that has them

@@ -4,7 +4,8 @@ use Rattle.go_types.specs.Tables.{type_of}
 use Rattle.go_typed.specs.declared.sort.Sort.{Sort}
 use Rattle.go_typed.specs.Trees.{sort_mapped}
 use Rattle.go_typed.specs.Views.{sort_view, KnownSort}
-use Rattle.go_type_rules.specs.Naming.{known, need_seen, objects_seen}
+use Rattle.go_rules.specs.Sorts.{known}
+use Rattle.go_type_rules.specs.Naming.{need_seen, objects_seen}
 use Rattle.go_type_rules.proofs.Standings.{known_by_need, behind_told, mapped_there}
 use Rattle.std.specs.Prelude.{slice_get}
 use Rattle.go_type_rules.proofs.scope.package_sort.Goals as goal

@@ -1,5 +1,5 @@
-use Rattle.std.proofs.Common.{◌≡◌, ℕ, suc, List, [], ◌∷◌, ◌++◌, take, length, refl, sym, ap, ◌∙◌, arith, Ok, Err}
-use Rattle.go_values.specs.Views.{view, views}
+use Rattle.std.proofs.Common.{[], ◌∷◌, ◌++◌, take, refl, sym, ap, ◌∙◌, Ok}
+use Rattle.go_values.specs.Views.{views}
 use Rattle.go_machine.specs.declared.task.What.TheVariants as what
 use Rattle.go_machine.specs.Engines.{Work, works, asks_part}
 use Rattle.go_machine.proofs.Going.{goes_kept, goes_given}

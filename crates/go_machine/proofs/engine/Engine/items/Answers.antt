@@ -1,4 +1,4 @@
-use Rattle.std.proofs.Common.{length, sym, subst}
+use Rattle.std.proofs.Common.{sym, subst}
 use Rattle.go_eval.specs.declared.plan.Items.{Items}
 use Rattle.go_eval.specs.declared.plan.Items.TheVariants as items
 use Rattle.go_eval.specs.declared.plan.Plan.TheVariants as plan

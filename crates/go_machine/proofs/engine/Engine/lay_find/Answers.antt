@@ -1,4 +1,4 @@
-use Rattle.std.proofs.Common.{ℕ, length, sym, ap}
+use Rattle.std.proofs.Common.{ℕ, sym, ap}
 use Rattle.go_values.specs.Views.{views}
 use Rattle.go_meaning.specs.Doings.{at}
 use Rattle.go_machine.specs.Rests.{then_rest}

@@ -1,4 +1,4 @@
-use Rattle.std.proofs.Common.{ℕ, length, refl, sym, ap, ◌++◌, ◌∷◌, [], Ok}
+use Rattle.std.proofs.Common.{ℕ, refl, sym, ap, ◌++◌, ◌∷◌, [], Ok}
 use Rattle.go_values.specs.Views.{view, views}
 use Rattle.go_machine.specs.Tasks.{task_rest}
 use Rattle.go_machine.specs.Engines.{Work, lays_given}

@@ -1,4 +1,4 @@
-use Rattle.std.proofs.Common.{length, sym, ap, ◌∙◌, arith}
+use Rattle.std.proofs.Common.{sym, ◌∙◌, arith}
 use Rattle.go_values.specs.Views.{views}
 use Rattle.go_machine.proofs.Gathering.{taken_within, taken_beyond}
 use Rattle.go_machine.proofs.engine.Engine.lower.Goals as goal

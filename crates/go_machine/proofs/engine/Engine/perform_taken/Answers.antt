@@ -1,17 +1,13 @@
-use Rattle.std.proofs.Common.{◌≡◌, List, [], ◌∷◌, ◌++◌, take, drop, refl, sym, ap, ◌∙◌, subst, Option, Some, None, Ok, Err}
+use Rattle.std.proofs.Common.{[], ◌∷◌, ◌++◌, take, refl, subst, Option, Some, None, Ok}
 use Rattle.std.proofs.lemmas.Result.{err_from_is_err_and}
-use Rattle.go_meaning.specs.Operations.{Deed, perform}
+use Rattle.go_meaning.specs.Operations.{perform}
 use Rattle.go_values.specs.declared.value.Value.{Value}
-use Rattle.go_values.specs.declared.panic.Stop.{Stop}
-use Rattle.go_values.specs.declared.panic.Stop.TheVariants as stop
 use Rattle.go_values.specs.Views.{view, views}
 use Rattle.go_values.specs.Worlds.{world_view}
-use Rattle.go_runs.specs.declared.exit.Exit.{Exit}
 use Rattle.go_operations.specs.Performing.{IsPerformed}
-use Rattle.go_machine.specs.declared.engine.Engine.{Engine}
 use Rattle.go_machine.specs.declared.task.What.TheVariants as what
 use Rattle.go_machine.specs.Tasks.{deed_view}
-use Rattle.go_machine.specs.Engines.{Goes, Work, skips, works}
+use Rattle.go_machine.specs.Engines.{Work, skips, works}
 use Rattle.go_machine.proofs.Going.{goes_worlded, goes_given}
 use Rattle.go_machine.proofs.Performed.{deed_gives, deed_does, deed_stops}
 use Rattle.go_machine.proofs.engine.Engine.perform_taken.Goals as goal

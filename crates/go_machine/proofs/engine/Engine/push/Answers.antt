@@ -1,4 +1,4 @@
-use Rattle.std.proofs.Common.{List, refl, sym, subst}
+use Rattle.std.proofs.Common.{refl, sym, subst}
 use Rattle.go_machine.specs.declared.task.Task.{Task}
 use Rattle.go_machine.specs.Tasks.{AreFit}
 use Rattle.go_machine.proofs.Tasks.{one_on_top, fit_on_top}

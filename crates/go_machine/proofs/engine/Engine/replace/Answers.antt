@@ -1,5 +1,4 @@
-use Rattle.std.proofs.Common.{◌≡◌, List, [], ◌∷◌, ◌++◌, take, drop, subst, sym, refl, Result, Ok, Err}
-use Rattle.go_meaning.specs.Values as meant
+use Rattle.std.proofs.Common.{◌≡◌, [], ◌∷◌, ◌++◌, take, drop, subst, refl, Result, Ok, Err}
 use Rattle.go_meaning.specs.Computations.{World, Panics}
 use Rattle.go_meaning.specs.Operations.{perform}
 use Rattle.go_values.specs.declared.value.Value.{Value}

@@ -1,12 +1,9 @@
-use Rattle.std.proofs.Common.{◌≡◌, ℕ, suc, List, [], ◌∷◌, ◌++◌, take, length, refl, sym, ap, subst, ◌∙◌, arith, Ok, Err}
-use Rattle.std.specs.Prelude.{◌+◌, Bool, true, false}
-use Rattle.go_typed.specs.declared.node.TypedNode.TheViews.{out-TypedNode}
+use Rattle.std.proofs.Common.{take, sym, subst}
+use Rattle.std.specs.Prelude.{Bool, true, false}
 use Rattle.go_meaning.specs.Values as meant
-use Rattle.go_values.specs.Views.{view, views}
+use Rattle.go_values.specs.Views.{views}
 use Rattle.go_machine.specs.declared.task.What.TheVariants as what
-use Rattle.go_machine.specs.Tasks.{parts_of, task_rest}
 use Rattle.go_machine.specs.Engines.{Goes, works, lays_value, lays_given}
-use Rattle.go_machine.proofs.Begins.{as_many}
 use Rattle.go_machine.proofs.Values.{view_truth}
 use Rattle.go_machine.proofs.Going.{goes_kept}
 use Rattle.go_machine.proofs.Gathering.{tag_true, tag_false}
