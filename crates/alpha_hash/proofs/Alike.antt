@@ -10,7 +10,7 @@ use Rattle.clone_window.specs.declared.outline.Outline.{Outline}
 use Rattle.clone_window.specs.Kinds.{outline}
 use Rattle.clone_window.specs.Masses.{is_hole, is_inside}
 use Rattle.clone_window.specs.Sameness.{final, same_final, value_of, are_alike, same_outline, Compared, by_form, by_sort, by_literal, compared, agree_besides, agree_at, agree, all_agree, locals, all_locals}
-use Rattle.clone_window.proofs.Equivalence.{as-many-here, all-as-many}
+use Rattle.clone_window.proofs.Public.{as-many-here, all-as-many}
 use Rattle.clone_window.specs.Fields.{names_field, field_name, same_field, fields_agree, all_fields_agree}
 use Rattle.alpha_hash.specs.Alike.{AreAlike, NamesAgree}
 use Rattle.alpha_hash.specs.Hash.{text_fold}

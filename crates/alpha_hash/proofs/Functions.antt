@@ -7,7 +7,7 @@ use Rattle.go_typed.specs.Funcs.{FuncView, tree_of}
 use Rattle.go_typed.specs.Packages.{are_numbered}
 use Rattle.clone_window.specs.declared.bounds.Bounds.{Bounds}
 use Rattle.clone_window.specs.Windows.{windows}
-use Rattle.clone_same.specs.Bodies.{body_of, bodies_of}
+use Rattle.clone_window.specs.Bodies.{body_of, bodies_of}
 use Rattle.alpha_hash.specs.Sharing.{windows_there, windows_of_func}
 
 -- the number of a function is its place

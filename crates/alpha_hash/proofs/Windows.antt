@@ -7,10 +7,10 @@ use Rattle.go_print.specs.Printed.{printed}
 use Rattle.go_typed.specs.declared.window.Window.{Window}
 use Rattle.go_typed.specs.Packages.{PackageView}
 use Rattle.go_typed.specs.Trees.{Sort, Typeds}
-use Rattle.clone_same.specs.Bodies.{bodies_of, locals_in, same_in}
+use Rattle.clone_window.specs.Bodies.{bodies_of, locals_in, same_in}
 use Rattle.clone_window.specs.Fields.{field_text, window_fields_agree}
 use Rattle.clone_window.specs.Sameness.{are_alike, all_agree, all_locals, local_pairs, is_iff, fits_pair, is_one_to_one, sort_at, is_matched, is_same}
-use Rattle.clone_window.proofs.Equivalence.{all-as-many}
+use Rattle.clone_window.proofs.Public.{all-as-many}
 use Rattle.alpha_hash.specs.Alike.{IsOneToOne, NamesAgree}
 use Rattle.alpha_hash.specs.Naming.{Naming}
 use Rattle.alpha_hash.specs.Packages.{statements_in, window_hash, window_naming}

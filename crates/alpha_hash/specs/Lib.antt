@@ -6,3 +6,6 @@ pub mod Alike
 pub mod Packages
 pub mod Sharing
 pub mod Examples
+pub mod Shown
+pub mod Rolling
+pub mod Starts

@@ -12,7 +12,7 @@ use Rattle.go_print.specs.Printed.{printed}
 use Rattle.clone_window.specs.declared.outline.Outline.{Outline}
 use Rattle.clone_window.specs.Kinds.{predeclared_number, referent_outline}
 use Rattle.clone_window.specs.Sameness.{same_outline, sort_at}
-use Rattle.clone_same.specs.Bodies.{bodies_of, locals_in, statements_at}
+use Rattle.clone_window.specs.Bodies.{bodies_of, locals_in, statements_at}
 use Rattle.clone_window.specs.Fields.{field_text}
 use Rattle.alpha_hash.specs.Naming.{Naming}
 use Rattle.alpha_hash.specs.Numbers.{hash}

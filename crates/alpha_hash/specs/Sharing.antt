@@ -6,7 +6,7 @@ use Rattle.go_print.specs.Printed.{printed}
 use Rattle.clone_window.specs.declared.bounds.Bounds.{Bounds}
 use Rattle.clone_window.specs.declared.outline.Outline.{Outline}
 use Rattle.clone_window.specs.Windows.{windows}
-use Rattle.clone_same.specs.Bodies.{Body, are_same, bodies_of}
+use Rattle.clone_window.specs.Bodies.{Body, are_same, bodies_of}
 use Rattle.clone_window.specs.Fields.{field_text}
 use Rattle.alpha_hash.specs.Packages.{object_text}
 

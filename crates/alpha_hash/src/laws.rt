@@ -4,7 +4,7 @@ ghost use Rattle.std.specs.Prelude.{◌≡◌, ℕ, Bool, List, true};
 ghost use Rattle.go_typed.specs.declared.window.Window.{Window as Run};
 ghost use Rattle.go_typed.specs.Packages.{PackageView as Package};
 ghost use Rattle.go_typed.specs.Trees.{Sort as Standing};
-ghost use Rattle.clone_same.specs.Bodies.{same_in};
+ghost use Rattle.clone_window.specs.Bodies.{same_in};
 ghost use Rattle.alpha_hash.specs.Alike.{AreAlike, HashesAgree, IsOneToOne};
 ghost use Rattle.alpha_hash.specs.Examples.{Examples};
 ghost use Rattle.alpha_hash.specs.Naming.{Naming};

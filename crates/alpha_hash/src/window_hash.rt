@@ -3,7 +3,7 @@
 ghost use Rattle.std.specs.Prelude.{◌≡◌, ◌≤◌, ℕ, map, nat_eq, slice_get, IfOk};
 ghost use Rattle.go_typed.specs.declared.window.Window.{Window as Run};
 ghost use Rattle.go_typed.specs.Packages.{PackageView as Package};
-ghost use Rattle.clone_same.specs.Bodies.{bodies_of};
+ghost use Rattle.clone_window.specs.Bodies.{bodies_of};
 ghost use Rattle.alpha_hash.specs.Sharing.{IsLawful, numbered, windows_of_func};
 
 use clone_window::windows::windows_of;

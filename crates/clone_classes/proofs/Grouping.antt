@@ -10,7 +10,7 @@ use Rattle.go_typed.specs.Funcs.{FuncView}
 use Rattle.go_typed.specs.Packages.{are_numbered}
 use Rattle.clone_window.specs.declared.bounds.Bounds.{Bounds}
 use Rattle.clone_window.specs.Windows.{windows}
-use Rattle.clone_same.specs.Bodies.{body_of, bodies_of}
+use Rattle.clone_window.specs.Bodies.{body_of, bodies_of}
 use Rattle.clone_classes.specs.Classes.{class_led_by}
 use Rattle.clone_classes.specs.Listing.{windows_of_all}
 

@@ -5,11 +5,11 @@ use Rattle.std.proofs.lemmas.Bool.{eq-eqb, and_parts, and_from}
 use Rattle.go_types.specs.Keys.{kind_number}
 use Rattle.go_types.specs.Tables.{type_of}
 use Rattle.go_types.specs.Trees.{TypeTree, boolean, text, integer, array, slice, structure, function, declared, TypeRow, none, more}
-use Rattle.type_tests.specs.Identity.{same_name, same_names}
+use Rattle.go_types_relations.specs.Identity.{same_name, same_names}
 use Rattle.go_typed.specs.declared.window.Window.{Window}
 use Rattle.go_typed.specs.Packages.{PackageView}
-use Rattle.clone_window.proofs.Equivalence.{name-refl, name-sym, name-trans, number-sym, number-trans}
-use Rattle.clone_same.specs.Bodies.{bodies_of}
+use Rattle.clone_window.proofs.Public.{name-refl, name-sym, name-trans, number-sym, number-trans}
+use Rattle.clone_window.specs.Bodies.{bodies_of}
 use Rattle.clone_window.specs.Fields.{field_text}
 use Rattle.clone_classes.specs.Heads.{Home, in_package, in_function, home_of, same_home, homes_match, corresponds, matches, all_match, identical_between, same_between}
 use Rattle.clone_classes.proofs.Sameness.{between-sym, between-trans, itself}

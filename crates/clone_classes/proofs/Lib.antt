@@ -6,3 +6,4 @@ pub mod Heads
 pub mod Pairs
 pub mod Sameness
 pub mod Orders
+pub mod Public

@@ -6,10 +6,9 @@ use Rattle.std.proofs.lemmas.Bool.{and_parts, and_from, eqb-true, eq-eqb}
 use Rattle.go_typed.specs.declared.window.Window.{Window}
 use Rattle.go_typed.specs.Trees.{Sort, Nothing, Typeds}
 use Rattle.clone_window.specs.Sameness.{all_agree, is_matched, is_one_to_one, is_same, local_pairs}
-use Rattle.clone_window.proofs.Equivalence.{same-refl, same-sym, same-trans}
-use Rattle.clone_same.specs.Bodies.{Body, locals_in, statements_at, are_same}
+use Rattle.clone_window.proofs.Public.{same-refl, same-sym, same-trans, fields-refl, fields-sym, fields-trans}
+use Rattle.clone_window.specs.Bodies.{Body, locals_in, statements_at, are_same}
 use Rattle.clone_window.specs.Fields.{FieldNames, window_fields_agree}
-use Rattle.clone_window.proofs.Named.{fields-refl, fields-sym, fields-trans}
 use Rattle.clone_classes.specs.Classes.{IsEquivalent}
 
 -- the nodes of runs that are the same agree

@@ -4,7 +4,7 @@ use Rattle.std.specs.List.{list_any}
 use Rattle.go_typed.specs.declared.window.Window.{Window}
 use Rattle.go_typed.specs.Trees.{Typeds, none, more, skip, first_of, last_of}
 use Rattle.clone_window.specs.Spans.{last_from}
-use Rattle.clone_same.specs.Bodies.{Body, statements_at}
+use Rattle.clone_window.specs.Bodies.{Body, statements_at}
 use Rattle.clone_classes.specs.declared.choose.Choice.{Choice}
 use Rattle.clone_classes.specs.declared.choose.Choice.TheVariants as choice
 use Rattle.clone_classes.specs.declared.choose.ChooseError.{ChooseError}

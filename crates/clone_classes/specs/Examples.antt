@@ -7,7 +7,7 @@ use Rattle.go_typed.specs.Trees.{Sort, Nothing, Value, Results, Typed, typed, Ty
 use Rattle.clone_window.specs.Windows.{run_at}
 use Rattle.clone_classes.specs.Classes.{classes}
 use Rattle.clone_classes.specs.Listing.{listing}
-use Rattle.clone_same.specs.Bodies.{Body}
+use Rattle.clone_window.specs.Bodies.{Body}
 
 -- Numbers are the same where they leave the same remainder.
 abbrev pub same : ℕ → ℕ → Bool

@@ -16,12 +16,12 @@ use Rattle.go_tree.specs.declared.object.Declared.{Declared}
 use Rattle.go_types.specs.Keys.{kind_number}
 use Rattle.go_types.specs.Tables.{type_of}
 use Rattle.go_types.specs.Trees.{TypeTree, boolean, text, integer, array, slice, structure, function, declared, TypeRow, none, more}
-use Rattle.type_tests.specs.Identity.{same_name, same_names}
+use Rattle.go_types_relations.specs.Identity.{same_name, same_names}
 use Rattle.go_typed.specs.declared.origin.Origin.{Origin}
 use Rattle.go_typed.specs.declared.origin.Origin.TheVariants as origin
 use Rattle.go_typed.specs.declared.window.Window.{Window}
 use Rattle.go_typed.specs.Packages.{PackageView}
-use Rattle.clone_same.specs.Bodies.{are_same, bodies_of}
+use Rattle.clone_window.specs.Bodies.{are_same, bodies_of}
 use Rattle.clone_window.specs.Fields.{field_text}
 
 -- ---- where a declared type stands

@@ -5,7 +5,7 @@ use Rattle.go_typed.specs.declared.window.Window.{Window}
 use Rattle.go_typed.specs.Packages.{PackageView}
 use Rattle.clone_window.specs.declared.bounds.Bounds.{Bounds}
 use Rattle.clone_window.specs.Windows.{windows}
-use Rattle.clone_same.specs.Bodies.{Body, are_same, bodies_of}
+use Rattle.clone_window.specs.Bodies.{Body, are_same, bodies_of}
 use Rattle.clone_window.specs.Fields.{FieldNames, field_text}
 use Rattle.clone_classes.specs.Classes.{classes}
 

@@ -1,7 +1,7 @@
 //! The members of a class that are chosen.
 
 ghost use Rattle.std.specs.Prelude.{◌≡◌, ◌≤◌, ◌<◌, ◌^◌, [], length, map, Ok, IfOk, IfErr};
-ghost use Rattle.clone_same.specs.Bodies.{bodies_of};
+ghost use Rattle.clone_window.specs.Bodies.{bodies_of};
 ghost use Rattle.clone_classes.specs.Choices.{apart, chosen, first_other, numbers_unless, place_of, IsRefused};
 
 use crate::place::{Place, places_of};

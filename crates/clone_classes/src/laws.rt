@@ -8,7 +8,7 @@ ghost use Rattle.clone_window.specs.Sameness.{is_one_to_one};
 ghost use Rattle.clone_classes.specs.Classes.{classes, Among, Agree, AllApart, IsEquivalent, Together};
 ghost use Rattle.clone_classes.specs.Heads.{same_between};
 ghost use Rattle.clone_classes.specs.Listing.{windows_of_all, listing};
-ghost use Rattle.clone_same.specs.Bodies.{Body, are_same};
+ghost use Rattle.clone_window.specs.Bodies.{Body, are_same};
 ghost use Rattle.clone_window.specs.Fields.{FieldNames};
 ghost use Rattle.clone_classes.specs.Examples.{Examples};
 

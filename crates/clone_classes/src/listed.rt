@@ -2,7 +2,7 @@
 
 ghost use Rattle.std.specs.Prelude.{◌≡◌, IfOk, OnOk};
 ghost use Rattle.std.specs.List.Sorted.{IsPermutation, IsSortedByKey};
-ghost use Rattle.clone_same.specs.Bodies.{bodies_of};
+ghost use Rattle.clone_window.specs.Bodies.{bodies_of};
 ghost use Rattle.clone_classes.specs.Choices.{place_of};
 ghost use Rattle.clone_classes.specs.Orders.{place_cmp, class_place, AreOrdered, IsListed, IsOrdered};
 

@@ -2,11 +2,11 @@
 
 ghost use Rattle.std.specs.Prelude.{◌≡◌, ◌≤◌, ◌∷◌, ◌++◌, length, filter, nat_lt, if◌then◌else◌, [], IfOk, OnOk};
 ghost use Rattle.std.specs.List.{list_any};
-ghost use Rattle.clone_same.specs.Bodies.{bodies_of, same_in};
+ghost use Rattle.clone_window.specs.Bodies.{bodies_of, same_in};
 ghost use Rattle.clone_classes.specs.Classes.{class_led_by};
 ghost use Rattle.clone_classes.specs.Listing.{listing_in, members_of, windows_of_all};
 
-use clone_same::same::same;
+use clone_window::same::same;
 use clone_window::windows::windows_of;
 use go_base::{Memory, Steps};
 use go_typed::checked::Checked;

@@ -3,7 +3,7 @@
 ghost use Rattle.std.specs.Prelude.{◌≡◌, map, IfOk};
 ghost use Rattle.std.specs.List.{list_any};
 ghost use Rattle.go_typed.specs.Views.{views};
-ghost use Rattle.clone_same.specs.Bodies.{bodies_of};
+ghost use Rattle.clone_window.specs.Bodies.{bodies_of};
 ghost use Rattle.clone_classes.specs.Choices.{meets, place_of, place_over};
 ghost use Rattle.clone_classes.specs.Ends.{is_behind, reaches};
 

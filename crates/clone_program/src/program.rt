@@ -4,14 +4,13 @@ ghost use Rattle.std.specs.Prelude.{◌≡◌};
 ghost use Rattle.go_base.specs.Gives.{Meets};
 ghost use Rattle.go_base.specs.Package.{IsPackage};
 ghost use Rattle.go_scopes.specs.Views.{failure_of};
-ghost use Rattle.go_package.specs.Checked.{IsReported, texts_of};
-ghost use Rattle.go_reading.specs.Reading.{check_refusal};
+ghost use Rattle.go_package_defs.specs.Checked.{IsReported, texts_of};
+ghost use Rattle.go_package.specs.Reading.{check_refusal};
 
-use clone_workspace::{Check, PackageWorkspace};
+use alpha_hash::alpha::AlphaHash;
+use clone_session::{Check, PackageWorkspace};
 use go_base::FileText;
-use go_checked::CheckedPackage;
-use go_reading::CheckError;
-use rolling_hash::alpha::AlphaHash;
+use go_package_defs::{CheckError, CheckedPackage};
 use std::alloc::Global;
 use std::process::ExitCode;
 use std::rt::{Env, Files};
@@ -22,7 +21,7 @@ pub struct PackageCheck;
 
 impl Check for PackageCheck {
     fn check(alloc: Global, texts: &[FileText]) -> Result<CheckedPackage, CheckError> {
-        go_check::check(alloc, texts)
+        go_package::check(alloc, texts)
     }
 }
 
@@ -31,5 +30,5 @@ pub type Goclone = PackageWorkspace<PackageCheck, AlphaHash>;
 
 /// Runs the program over the folders of the file system, standard input and standard output.
 pub fn run<R: Env + Files + Input + Print + AllocGlobal + Copy>(rt: R) -> ExitCode {
-    clone_arguments::run::<Goclone, R>(rt)
+    clone_server::run::<Goclone, R>(rt)
 }

@@ -4,8 +4,8 @@ use Rattle.std.specs.Prelude.{◌&&◌, ◌||◌, nat_eq, if◌then◌else◌}
 use Rattle.std.specs.Option.{option_map}
 use Rattle.go_types.specs.Relations.{Rights}
 use Rattle.go_types.specs.Trees.{TypeTree, boolean, text, integer, array, slice, structure, function, declared}
-use Rattle.type_tests.specs.Renaming.{renamed, AreRenamed}
-use Rattle.type_tests.specs.Tests.{underlying_of}
+use Rattle.go_types_relations.specs.Renaming.{renamed, AreRenamed}
+use Rattle.go_types_relations.specs.Tests.{underlying_of}
 use Rattle.go_typed.specs.Trees.{Sort, Nothing, Unknown, Blank, Nil, Builtin, Println, Package, IsType, Value, Constant, Open, OpenConstant, Results}
 use Rattle.go_typed.specs.Trees.{Typed, typed, Typeds, none, more, skip, sort_of, sort_mapped, label_mapped, mapped, all_mapped}
 use Rattle.clone_window.specs.declared.outline.Outline.{Outline}

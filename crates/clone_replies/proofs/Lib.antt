@@ -4,3 +4,19 @@ pub mod Fields
 pub mod Tested
 mod Places
 mod Packages
+mod Words
+mod Mapping
+mod Names
+mod Holes
+mod Renamings
+pub mod Read
+mod Follows
+mod NumberPlaces
+mod Functions
+mod Steps
+mod Told
+mod Plans
+mod Meanings
+mod RunContents
+mod ReplyContents
+pub mod Public

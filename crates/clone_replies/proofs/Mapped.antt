@@ -15,7 +15,7 @@ use Rattle.clone_window.specs.Masses.{is_constant, is_expression, is_hole, is_in
 use Rattle.clone_window.specs.Sameness.{locals, all_locals}
 use Rattle.clone_window.specs.Spans.{last_from, range_over}
 use Rattle.clone_window.specs.Windows.{row_of, statements_in, window_statements, windows_from, list_count, windows_in, windows_among, windows_along, windows}
-use Rattle.clone_same.specs.Bodies.{Body, statements_at}
+use Rattle.clone_window.specs.Bodies.{Body, statements_at}
 use Rattle.clone_classes.specs.Listing.{windows_of_all}
 
 module _ {T U : Type 0} (g : T → U) where

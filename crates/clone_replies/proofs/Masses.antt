@@ -12,8 +12,8 @@ use Rattle.go_typed.specs.Trees.{Typed, typed, Typeds, none, more, skip}
 use Rattle.clone_window.specs.Caps.{capped}
 use Rattle.clone_window.specs.Masses.{masses}
 use Rattle.clone_window.specs.Windows.{row_of, statements_in, window_mass, window_statements}
-use Rattle.clone_window.proofs.Sizes.{masses-few}
-use Rattle.clone_same.specs.Bodies.{Body, body_of, statements_at}
+use Rattle.clone_window.proofs.Public.{masses-few}
+use Rattle.clone_window.specs.Bodies.{Body, body_of, statements_at}
 use Rattle.clone_replies.specs.Classes.{listed_package}
 use Rattle.clone_replies.specs.Classes as listed
 

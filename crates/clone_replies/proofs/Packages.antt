@@ -7,14 +7,14 @@ use Rattle.std.specs.List.{list_all}
 use Rattle.go_tree.specs.File.{FileTree}
 use Rattle.go_types.specs.Tables.{Table, IsTable, rights_of, type_of}
 use Rattle.go_types.specs.Trees.{TypeTree, Identical}
-use Rattle.type_tests.specs.Identity.{is_identical}
-use Rattle.type_tests.specs.Renaming.{renamed, IsOneToOne}
+use Rattle.go_types_relations.specs.Identity.{is_identical}
+use Rattle.go_types_relations.specs.Renaming.{renamed, IsOneToOne}
 use Rattle.go_typed.specs.Contents.{Content, content, FuncContent, func_content, func_renamed, IsRenamed, IsPackageOf}
 use Rattle.go_typed.specs.Funcs.{FuncView, tree_of}
 use Rattle.go_typed.specs.Packages.{PackageView, IsPackage, Counts, counts, is_below, is_known_func, is_known_tree, refers_to}
 use Rattle.go_typed.specs.Trees.{sort_has, every, every_form}
 use Rattle.clone_window.specs.declared.bounds.Bounds.{Bounds}
-use Rattle.clone_same.specs.Bodies.{Body, body_of, bodies_of}
+use Rattle.clone_window.specs.Bodies.{Body, body_of, bodies_of}
 use Rattle.clone_window.specs.Fields.{FieldNames, field_by, field_text}
 use Rattle.clone_classes.specs.Listing.{listing, listing_in}
 use Rattle.clone_replies.specs.Classes.{Listed, classes_in, body_in, listed_content, listed_package, shown_class}

@@ -47,7 +47,6 @@ module _ {T U : Type 0} (g : T → U) (fields : FieldNames U) where
   all-shown-mapped l [] = refl
   all-shown-mapped l (ws ∷ wss) = ap (λ x. x ∷ map (shown_class (listed-mapped l)) wss) (shown-mapped l ws) ∙ ap (λ xs. shown_class l ws ∷ xs) (all-shown-mapped l wss)
 
-
 -- ---- the text of what is shown
 
 members-text : (names : List (List ℕ)) (ss : List Span) → flat_map (member_line names) ss ≡ flat_map (member_text names) (map bytes_of ss)

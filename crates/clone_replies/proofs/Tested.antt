@@ -16,7 +16,7 @@ use Rattle.clone_window.specs.Masses.{is_hole, is_inside}
 use Rattle.clone_window.specs.Sameness.{Final, of_type, of_kind, of_none, final, same_final, standing, value_of, same_values, are_alike, same_literal, same_outline, Compared, by_form}
 use Rattle.clone_window.specs.Sameness.{by_sort, by_literal, compared, agree_besides, agree_at, agree, all_agree, all_locals, local_pairs, is_one_to_one, sort_at, is_matched, is_same}
 use Rattle.clone_window.specs.Windows.{row_of, statements_in, window_statements}
-use Rattle.clone_same.specs.Bodies.{Body, locals_in, statements_at, are_same}
+use Rattle.clone_window.specs.Bodies.{Body, locals_in, statements_at, are_same}
 use Rattle.clone_window.specs.Fields.{FieldNames, window_fields_agree}
 use Rattle.clone_classes.specs.Classes.{classes}
 use Rattle.clone_classes.specs.Listing.{windows_of_all, listing}

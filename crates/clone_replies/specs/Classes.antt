@@ -3,7 +3,7 @@ use Rattle.std.specs.Prelude.{ℕ, Bool, false, List, [], ◌∷◌, map, Option
 use Rattle.go_base.specs.Optional.{◌>>=◌}
 use Rattle.go_tree.specs.File.{FileTree}
 use Rattle.go_types.specs.Trees.{TypeTree}
-use Rattle.type_tests.specs.Identity.{is_identical}
+use Rattle.go_types_relations.specs.Identity.{is_identical}
 use Rattle.go_typed.specs.declared.window.Window.{Window}
 use Rattle.go_typed.specs.Contents.{Content, FuncContent}
 use Rattle.go_typed.specs.Packages.{PackageView}
@@ -11,7 +11,7 @@ use Rattle.go_typed.specs.Trees.{Typeds}
 use Rattle.clone_window.specs.declared.bounds.Bounds.{Bounds}
 use Rattle.clone_window.specs.Masses.{masses}
 use Rattle.clone_window.specs.Spans.{ByteRange, nowhere, places_from, range_over, span_there}
-use Rattle.clone_same.specs.Bodies.{Body, bodies_of, statements_at}
+use Rattle.clone_window.specs.Bodies.{Body, bodies_of, statements_at}
 use Rattle.clone_window.specs.Fields.{FieldNames, field_by, field_text}
 use Rattle.clone_classes.specs.Listing.{listing}
 

@@ -1,2 +1,7 @@
 pub mod Classes
 pub mod Listing
+pub mod Names
+pub mod Numbers
+pub mod RunContents
+pub mod Replies
+pub mod ReplyContents

@@ -2,7 +2,7 @@
 use Rattle.std.specs.Prelude.{ℕ, suc, Bool, List, [], ◌∷◌, ◌++◌, length, map, codes}
 use Rattle.std.specs.Fmt.{decimal}
 use Rattle.std.specs.List.{flat_map}
-use Rattle.type_tests.specs.Identity.{is_identical}
+use Rattle.go_types_relations.specs.Identity.{is_identical}
 use Rattle.go_typed.specs.Contents.{Content}
 use Rattle.clone_window.specs.declared.bounds.Bounds.{Bounds}
 use Rattle.clone_window.specs.Spans.{ByteRange, bytes_of}

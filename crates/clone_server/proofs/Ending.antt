@@ -2,12 +2,12 @@
 use Rattle.std.proofs.Common.{◌≡◌, ℕ, List, [], ◌++◌, Option, Some, Result, Ok, Err, inl, inr, refl, ap, ◌∙◌, append_assoc}
 use Rattle.go_base.specs.declared.bytes.FileText.{FileText}
 use Rattle.port_io.specs.Held.{Held}
-use Rattle.clone_intake.specs.declared.step.End.{End}
-use Rattle.clone_intake.specs.Taking.{outcome_of}
-use Rattle.clone_words.specs.declared.words.WordsError.{WordsError}
-use Rattle.clone_words.specs.Words.{Said, usage}
-use Rattle.clone_folder.specs.declared.folder.OpenError.{OpenError}
-use Rattle.clone_folder.specs.Opening.{opened}
+use Rattle.clone_server.specs.declared.step.End.{End}
+use Rattle.clone_server.specs.Taking.{outcome_of}
+use Rattle.clone_server.specs.declared.words.WordsError.{WordsError}
+use Rattle.clone_server.specs.Words.{Said, usage}
+use Rattle.clone_server.specs.declared.folder.OpenError.{OpenError}
+use Rattle.clone_server.specs.Opening.{opened}
 use Rattle.clone_server.specs.declared.stop.Stop.{Stop}
 use Rattle.clone_server.specs.declared.stop.Stop.TheVariants as stop
 use Rattle.clone_server.specs.Session.{Settings, Answering, outcome_status, outcome_text}

@@ -3,3 +3,7 @@ mod Saved
 mod Steps
 mod Standing
 mod Ending
+mod Matched
+mod Ordered
+mod Comings
+mod Before

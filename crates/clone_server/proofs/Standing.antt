@@ -7,11 +7,11 @@ use Rattle.clone_script.specs.declared.command.Command.{Command}
 use Rattle.clone_script.specs.declared.command.Command.TheVariants as command
 use Rattle.clone_script.specs.Grammar.{spelling, BeginsWith}
 use Rattle.clone_script.specs.Script.{most_script, Follow, Ends}
-use Rattle.clone_intake.specs.declared.step.End.{End}
-use Rattle.clone_intake.specs.declared.step.Step.TheVariants as steps
-use Rattle.clone_intake.specs.declared.step.IntakeError.{IntakeError}
-use Rattle.clone_intake.specs.declared.step.IntakeError.TheVariants as intake
-use Rattle.clone_intake.specs.Taking.{Taken, Comes, outcome_of}
+use Rattle.clone_server.specs.declared.step.End.{End}
+use Rattle.clone_server.specs.declared.step.Step.TheVariants as steps
+use Rattle.clone_server.specs.declared.step.IntakeError.{IntakeError}
+use Rattle.clone_server.specs.declared.step.IntakeError.TheVariants as intake
+use Rattle.clone_server.specs.Taking.{Taken, Comes, outcome_of}
 use Rattle.clone_server.specs.declared.stop.Stop.{Stop}
 use Rattle.clone_server.specs.declared.stop.Stop.TheVariants as stop
 use Rattle.clone_server.specs.Session as session

@@ -1,3 +1,9 @@
 pub mod Session
 pub mod Serving
 pub mod Run
+pub mod Numbers
+pub mod Words
+pub mod Examples
+pub mod Opening
+pub mod Taking
+pub mod Arguments

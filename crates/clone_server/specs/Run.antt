@@ -5,10 +5,10 @@ use Rattle.port_io.specs.Faults.{Rose}
 use Rattle.port_io.specs.Held.{Held}
 use Rattle.clone_script.specs.Grammar.{IsBeginning}
 use Rattle.clone_script.specs.Script.{Outcome}
-use Rattle.clone_words.specs.declared.words.WordsError.{WordsError}
-use Rattle.clone_words.specs.Words.{Said, usage}
-use Rattle.clone_folder.specs.declared.folder.OpenError.{OpenError}
-use Rattle.clone_folder.specs.Opening.{opened}
+use Rattle.clone_server.specs.declared.words.WordsError.{WordsError}
+use Rattle.clone_server.specs.Words.{Said, usage}
+use Rattle.clone_server.specs.declared.folder.OpenError.{OpenError}
+use Rattle.clone_server.specs.Opening.{opened}
 use Rattle.clone_server.specs.declared.stop.Stop.{Stop}
 use Rattle.clone_server.specs.declared.stop.Stop.TheVariants as stop
 use Rattle.clone_server.specs.Session.{Settings, Answering, State, outcome_status, outcome_text, IsSession}

@@ -11,10 +11,10 @@ use Rattle.clone_script.specs.declared.command.Command.{Command}
 use Rattle.clone_script.specs.declared.command.Command.TheVariants as command
 use Rattle.clone_script.specs.Grammar.{BeginsWith, IsBeginning}
 use Rattle.clone_script.specs.Script.{most_script, Outcome, Follow, Ends}
-use Rattle.clone_intake.specs.declared.step.End.{End}
-use Rattle.clone_intake.specs.Taking.{outcome_of}
-use Rattle.clone_intake.specs.declared.step.IntakeError.{IntakeError}
-use Rattle.clone_intake.specs.declared.step.IntakeError.TheVariants as intake
+use Rattle.clone_server.specs.declared.step.End.{End}
+use Rattle.clone_server.specs.Taking.{outcome_of}
+use Rattle.clone_server.specs.declared.step.IntakeError.{IntakeError}
+use Rattle.clone_server.specs.declared.step.IntakeError.TheVariants as intake
 use Rattle.go_base.specs.declared.bytes.Bytes.{Bytes}
 use Rattle.clone_server.specs.declared.stop.Stop.{Stop}
 use Rattle.clone_server.specs.declared.stop.Stop.TheVariants as stop

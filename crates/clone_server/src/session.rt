@@ -7,7 +7,7 @@ ghost use Rattle.clone_server.specs.Serving.{CountsRun, Runs};
 use crate::served::serve_command;
 use crate::stop::Stop;
 use crate::workspace::Workspace;
-use clone_intake::{End, Intake, Step};
+use crate::{End, Intake, Step};
 use port_io::{Folder, Sink, Source};
 use std::alloc::Global;
 

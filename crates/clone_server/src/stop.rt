@@ -1,7 +1,7 @@
 ghost use Rattle.std.specs.Prelude.{◌≡◌};
 ghost use Rattle.clone_server.specs.Serving.{status_of, save_stop, sink_stop, intake_stop};
 
-use clone_intake::IntakeError;
+use crate::IntakeError;
 use go_base::Memory;
 use port_io::{FolderError, SinkError};
 

@@ -3,17 +3,17 @@ use Rattle.std.proofs.Common.{◌≡◌, ◌∙◌, List, map, ap, sym}
 use Rattle.std.specs.Prelude.{nat_eq}
 use Rattle.go_base.specs.declared.bytes.FileText.{FileText}
 use Rattle.go_types.specs.Tables.{IsTable}
-use Rattle.type_tests.specs.Identity.{is_identical}
+use Rattle.go_types_relations.specs.Identity.{is_identical}
 use Rattle.go_typed.specs.Contents.{Content, content, IsPackageOf}
 use Rattle.go_typed.specs.Packages.{PackageView, IsPackage}
-use Rattle.go_package.specs.Checked.{IsChecked, IsCheckedPackage, texts_of}
-use Rattle.go_package.specs.Single.{HasOneAnswer}
+use Rattle.go_package_defs.specs.Checked.{IsChecked, IsCheckedPackage, texts_of}
+use Rattle.go_package_defs.specs.Single.{HasOneAnswer}
 use Rattle.clone_window.specs.declared.bounds.Bounds.{Bounds}
 use Rattle.clone_classes.specs.Listing.{listing_in}
 use Rattle.clone_window.specs.Fields.{field_by}
 use Rattle.clone_replies.specs.Classes.{body_in, classes_in, listed_package}
 use Rattle.clone_replies.specs.Listing.{listing_by, listing_reply}
-use Rattle.package_numbers.proofs.Read.{OfFiles, same-sources}
+use Rattle.clone_replies.proofs.Public.{OfFiles, same-sources}
 use Rattle.clone_session.proofs.Spans.{same-listing}
 
 -- what is known of packages and their files

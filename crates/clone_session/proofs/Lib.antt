@@ -1,3 +1,6 @@
 mod Follows
 mod Spans
 mod Runs
+mod Placed
+mod Answering
+mod Replies

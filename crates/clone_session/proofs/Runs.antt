@@ -5,12 +5,12 @@ use Rattle.go_tokens.specs.Tokens.{TokenList}
 use Rattle.go_tree.specs.File.{FileTree}
 use Rattle.go_typed.specs.Contents.{Content, content, IsPackageOf}
 use Rattle.go_typed.specs.Packages.{PackageView}
-use Rattle.go_package.specs.Checked.{IsChecked, IsCheckedPackage, texts_of}
-use Rattle.go_package.specs.Single.{HasOneAnswer}
-use Rattle.go_package.specs.Sources.{Source, source_of}
-use Rattle.go_run.specs.Runs.{run_package}
-use Rattle.run_replies.specs.Contents.{run_in, tokens_of}
-use Rattle.package_numbers.proofs.Read.{OfFiles, same-sources}
+use Rattle.go_package_defs.specs.Checked.{IsChecked, IsCheckedPackage, texts_of}
+use Rattle.go_package_defs.specs.Single.{HasOneAnswer}
+use Rattle.go_package_defs.specs.Sources.{Source, source_of}
+use Rattle.go_eval.specs.Runs.{run_package}
+use Rattle.clone_replies.specs.ReplyContents.{run_in, tokens_of}
+use Rattle.clone_replies.proofs.Public.{OfFiles, same-sources}
 
 -- what is known of runs of packages and of their files
 pub record OfRuns : Type 0 where

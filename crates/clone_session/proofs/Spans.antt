@@ -11,12 +11,12 @@ use Rattle.go_tree.specs.Lists.{functions}
 use Rattle.go_tree.specs.Views.{view, behind_first}
 use Rattle.go_typed.specs.declared.window.Window.{Window}
 use Rattle.go_typed.specs.Windows.{Range}
-use Rattle.go_package.specs.Sources.{Source, source_of}
+use Rattle.go_package_defs.specs.Sources.{Source, source_of}
 use Rattle.clone_window.specs.declared.bounds.Bounds.{Bounds}
 use Rattle.clone_window.specs.declared.span.FunctionPlace.{FunctionPlace}
 use Rattle.clone_window.specs.Masses.{masses}
 use Rattle.clone_window.specs.Spans.{ByteRange, nowhere, place_at, places_from, range_over, span_in, span_over, span_there}
-use Rattle.clone_same.specs.Bodies.{Body}
+use Rattle.clone_window.specs.Bodies.{Body}
 use Rattle.clone_window.specs.Fields.{FieldNames}
 use Rattle.clone_classes.specs.Listing.{listing}
 use Rattle.clone_replies.specs.Classes.{Listed, ShownClass, shown_class, statements_in, window_bytes}

@@ -5,12 +5,12 @@ use Rattle.go_base.specs.declared.fault.Fault.{Fault}
 use Rattle.go_scopes.specs.Views.{failure_of}
 use Rattle.go_typed.specs.declared.window.Window.{Window}
 use Rattle.go_typed.specs.Packages.{PackageView}
-use Rattle.go_package.specs.Checked.{IsReported, IsCheckedPackage, texts_of}
+use Rattle.go_package_defs.specs.Checked.{IsReported, IsCheckedPackage, texts_of}
 use Rattle.clone_window.specs.declared.bounds.Bounds.{Bounds}
-use Rattle.clone_same.specs.Bodies.{bodies_of}
+use Rattle.clone_window.specs.Bodies.{bodies_of}
 use Rattle.clone_classes.specs.Listing.{windows_of_all}
 use Rattle.window_index.specs.Fitting.{IndexView}
-use Rattle.package_index.specs.Holding.{HoldsPackage}
+use Rattle.window_index.specs.Holding.{HoldsPackage}
 use Rattle.clone_session.specs.declared.verdict.Verdict.{Verdict}
 use Rattle.clone_session.specs.declared.verdict.Verdict.TheVariants as verdict
 

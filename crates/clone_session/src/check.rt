@@ -4,12 +4,11 @@ ghost use Rattle.std.specs.Prelude.{◌≡◌};
 ghost use Rattle.go_base.specs.Gives.{Meets};
 ghost use Rattle.go_base.specs.Package.{IsPackage};
 ghost use Rattle.go_scopes.specs.Views.{failure_of};
-ghost use Rattle.go_package.specs.Checked.{IsReported, texts_of};
-ghost use Rattle.go_reading.specs.Reading.{check_refusal};
+ghost use Rattle.go_package_defs.specs.Checked.{IsReported, texts_of};
+ghost use Rattle.go_package.specs.Reading.{check_refusal};
 
 use go_base::FileText;
-use go_checked::CheckedPackage;
-use go_reading::CheckError;
+use go_package_defs::{CheckError, CheckedPackage};
 use std::alloc::Global;
 
 /// A check of packages.

@@ -2,10 +2,10 @@
 
 ghost use Rattle.std.specs.Prelude.{◌≡◌, ◌≤◌, ◌+◌, Some, IfOk, OnOk};
 ghost use Rattle.go_typed.specs.Contents.{Content as Whole};
-ghost use Rattle.go_package.specs.Checked.{IsChecked, IsCheckedPackage, texts_of};
+ghost use Rattle.go_package_defs.specs.Checked.{IsChecked, IsCheckedPackage, texts_of};
 ghost use Rattle.clone_classes.specs.Listing.{members_of};
 ghost use Rattle.clone_replies.specs.Classes.{classes_in};
-ghost use Rattle.package_index.specs.Holding.{HoldsPackage};
+ghost use Rattle.window_index.specs.Holding.{HoldsPackage};
 ghost use Rattle.clone_session.specs.Session.{IsIndexed, window_count};
 
 use crate::laws::listings_follow_from_the_texts;
@@ -14,11 +14,11 @@ use alpha_hash::window_hash::WindowHash;
 use go_base::{Memory, Steps};
 use go_typed::checked::Checked;
 use go_typed::window::Class;
-use package_index::classes::classes;
-use package_index::index::index_of;
 use std::alloc::Global;
 use std::sync::ledger::Ledger;
+use window_index::classes::classes;
 use window_index::index::Index;
+use window_index::package::index_of;
 
 /// The index of the windows of a package that type-checks; none where a fault is reported.
 ///

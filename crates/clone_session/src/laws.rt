@@ -1,23 +1,27 @@
-//! Laws of the present package of a session.
+//! Laws, for the crates above. The functions do nothing: their contracts are the laws.
 
 ghost use Rattle.std.specs.Prelude.{◌≡◌, ℕ, List, nat_eq};
 ghost use Rattle.go_base.specs.declared.bytes.FileText.{FileText as Text};
 ghost use Rattle.go_types.specs.Tables.{IsTable};
 ghost use Rattle.go_typed.specs.Contents.{Content};
 ghost use Rattle.go_typed.specs.Packages.{PackageView as Package};
-ghost use Rattle.go_package.specs.Checked.{IsChecked, IsCheckedPackage, texts_of};
+ghost use Rattle.go_package_defs.specs.Checked.{IsChecked, IsCheckedPackage, texts_of};
 ghost use Rattle.clone_window.specs.declared.bounds.Bounds.{Bounds as Limits};
 ghost use Rattle.clone_classes.specs.Listing.{listing_in};
 ghost use Rattle.clone_replies.specs.Classes.{classes_in, listed_package};
 ghost use Rattle.clone_replies.specs.Listing.{listing_by, listing_reply};
-ghost use Rattle.go_run.specs.Runs.{run_package};
-ghost use Rattle.run_replies.specs.Contents.{run_in};
+ghost use Rattle.go_eval.specs.Runs.{run_package};
+ghost use Rattle.clone_replies.specs.ReplyContents.{run_in};
+ghost use Rattle.clone_script.specs.declared.command.Command.{Command as Line};
+ghost use Rattle.clone_server.specs.Session.{Settings};
+ghost use Rattle.clone_session.specs.Answers.{Answers};
 
-use clone_replies::laws::listings_are_of_the_types;
+use clone_replies::laws::{
+    listings_are_of_the_types, numbers_follow_from_the_texts, runs_are_of_the_content,
+};
 use go_grammar::laws::one_tree_of_a_file;
-use go_package::laws::packages_have_one_answer;
+use go_package_defs::laws::packages_have_one_answer;
 use go_tokens::laws::one_lexing;
-use run_replies::laws::runs_are_of_the_content;
 
 /// The clone classes and the listing of a package that the program holds are those that follow from its bytes alone.
 pub fn listings_follow_from_the_texts()
@@ -40,4 +44,15 @@ pub fn runs_follow_from_the_texts()
     packages_have_one_answer();
     one_lexing();
     one_tree_of_a_file();
+}
+
+/// At given files a command has one reply, and leaves one package.
+pub fn one_reply()
+    ensures { (settings : Settings) (texts : List Text) (command : Line) (reply other : List ℕ) (after later : List Text)
+        → Answers settings texts command reply after → Answers settings texts command other later → (reply ≡ other) × (after ≡ later) }
+{
+    listings_follow_from_the_texts();
+    numbers_follow_from_the_texts();
+    runs_follow_from_the_texts();
+    packages_have_one_answer();
 }

@@ -5,15 +5,29 @@
 //! its run, and `stat` gives its numbers. Texts that were edited are checked again, and all windows are put into an index anew, each
 //! once, which the counts of `refresh` say; so nothing is told of earlier texts. After a refusal and after want of memory the texts
 //! are as they were.
+//!
+//! `PackageWorkspace` answers the commands on a package: each reply is that of the definition at the present texts (`Answers`): of
+//! `classes` the listing of the clone classes of a package that type-checks, of `stat` its numbers, of `run` what came of its run, and
+//! else the line of the fault that is reported of it. A command has one reply, and leaves one package (`laws`). `answer` gives the
+//! replies to the commands that read or change the texts alone (`edit`, `add`, `drop` and `show`).
 #![tactic(auto)]
 
+mod answers;
 mod check;
+mod copy;
 mod indexed;
 pub mod laws;
+mod numbers;
+mod replies;
 mod run;
+mod run_answers;
 mod session;
 mod verdict;
+mod workspace;
 
 pub use check::Check;
+pub use copy::{copy_under, file_at};
+pub use replies::answer;
 pub use session::Session;
 pub use verdict::Verdict;
+pub use workspace::PackageWorkspace;

@@ -2,13 +2,13 @@
 
 ghost use Rattle.go_base.specs.Gives.{Gives};
 ghost use Rattle.go_typed.specs.Contents.{Content as Whole};
-ghost use Rattle.go_package.specs.Checked.{IsChecked, IsCheckedPackage, texts_of};
-ghost use Rattle.go_run.specs.Runs.{outcome_view, refusal};
-ghost use Rattle.run_replies.specs.Contents.{run_in};
+ghost use Rattle.go_package_defs.specs.Checked.{IsChecked, IsCheckedPackage, texts_of};
+ghost use Rattle.go_eval.specs.Runs.{outcome_view, refusal};
+ghost use Rattle.clone_replies.specs.ReplyContents.{run_in};
 
 use crate::laws::runs_follow_from_the_texts;
-use go_run::outcome::{Outcome, RunError};
-use go_run::program::run;
+use go_eval::outcome::{Outcome, RunError};
+use go_eval::program::run;
 use go_typed::checked::Checked;
 use std::alloc::Global;
 

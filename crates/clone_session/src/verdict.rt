@@ -6,8 +6,7 @@ ghost use Rattle.clone_session.specs.Session.{IsOf};
 use crate::check::Check;
 use edit_apply::Texts;
 use go_base::{Fault, Memory};
-use go_checked::CheckedPackage;
-use go_reading::CheckError;
+use go_package_defs::{CheckError, CheckedPackage};
 use std::alloc::Global;
 
 /// What the check says of a package.

@@ -5,7 +5,7 @@ use Rattle.std.specs.List.{list_all}
 use Rattle.std.specs.Option.{option_to_list}
 use Rattle.std.proofs.lemmas.Bool.{eqb-true, eq-eqb, and_parts, and_from}
 use Rattle.std.proofs.lemmas.Bool.Decides.{Decides-int_eq}
-use Rattle.type_tests.specs.Identity.{same_name}
+use Rattle.go_types_relations.specs.Identity.{same_name}
 use Rattle.go_constants.specs.declared.values.Const.{Const}
 use Rattle.go_constants.specs.declared.values.Const.TheVariants as const
 use Rattle.go_typed.specs.declared.form.Form.{Form}

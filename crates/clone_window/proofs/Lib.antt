@@ -9,3 +9,8 @@ pub mod Walks
 pub mod Weights
 pub mod Places
 pub mod Named
+pub mod Agreement
+pub mod Settled
+pub mod FieldNames
+pub mod SameNames
+pub mod Public

@@ -4,8 +4,8 @@ use Rattle.std.specs.List.{list_any}
 use Rattle.go_types.specs.Relations.{Rights}
 use Rattle.go_types.specs.Tables.{Table, type_of, rights_of}
 use Rattle.go_types.specs.Trees.{TypeTree, structure}
-use Rattle.type_tests.specs.Identity.{same_name}
-use Rattle.type_tests.specs.Tests.{underlying_of}
+use Rattle.go_types_relations.specs.Identity.{same_name}
+use Rattle.go_types_relations.specs.Tests.{underlying_of}
 use Rattle.go_typed.specs.Trees.{Sort, Nothing, Typed, typed, Typeds, none, more, skip, sort_of}
 use Rattle.clone_window.specs.declared.outline.Outline.{Outline}
 use Rattle.clone_window.specs.Kinds.{outline}

@@ -8,3 +8,7 @@ pub mod Spans
 pub mod Sameness
 pub mod Fields
 pub mod Examples
+pub mod Bodies
+pub mod Named
+pub mod Pairing
+pub mod ShownSameness

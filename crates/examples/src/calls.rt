@@ -1,4 +1,5 @@
-//! Each call of the lowest crates once, with ample memory, and what is generic at a concrete type.
+//! Calls of the lowest crates with ample memory, and what is generic at a concrete type. What the table programs call stands in their
+//! rows.
 
 ghost use Rattle.std.specs.Prelude.{◌≡◌, ◌≤◌};
 ghost use Rattle.go_base.specs.Steps.{no_counts};
@@ -6,10 +7,8 @@ ghost use Rattle.go_base.specs.Steps.{no_counts};
 use go_base::{Bytes, FaultCode, Phase, Steps};
 use go_constants::{Basic, Const, ConstOp, SharedBytes, fold, represent};
 use go_ints::{Kind, Op, arith, fits, wrap};
-use go_print::literal_text;
-use go_types::{Field, Fields, Shape, TypeId, TypeIds, Types};
+use go_types::Types;
 use std::marker::Brand;
-use std::process::Abort;
 use std::sync::ledger::{Blank, Ledger};
 use std::test::Fail;
 
@@ -72,22 +71,6 @@ fn joins_texts(rt: HostRuntime) -> Result<(), Fail> {
     Ok(())
 }
 
-#[test]
-fn writes_literals(rt: HostRuntime) -> Result<(), Fail> {
-    let alloc = rt.alloc();
-    let text = Const::Text(SharedBytes::from_slice(alloc, b"a\"\n\xff")?);
-    assert_eq!(rt;
-        literal_text(alloc, &text)?.as_slice(),
-        b"\"a\\\"\\x0a\\xff\"".as_slice()
-    );
-    let number = Const::Int {
-        value: -3,
-        rune: false,
-    };
-    assert_eq!(rt; literal_text(alloc, &number)?.as_slice(), b"-3".as_slice());
-    Ok(())
-}
-
 /// Copies would take 30 GB.
 #[test]
 fn owners_share_a_text(rt: HostRuntime) -> Result<(), Fail> {
@@ -106,49 +89,6 @@ fn wraps_integers(rt: HostRuntime) {
     assert_eq!(rt; wrap::<16, false>(-1), 65_535);
     assert!(rt; fits(Kind::Uint8, 255));
     assert_eq!(rt; arith(Kind::Int8, Op::Add, 100, 100), Ok(-56));
-}
-
-/// The number of a shape whose parts are there.
-fn number(rt: &impl Abort, types: &mut Types, shape: Shape) -> Result<TypeId, Fail> {
-    assert!(rt; types.can_intern(&shape));
-    Ok(types.intern(&shape)?)
-}
-
-#[test]
-fn slices_and_a_declared_type(rt: HostRuntime) -> Result<(), Fail> {
-    let mut types = Types::new(rt.alloc());
-    let int = number(&rt, &mut types, Shape::Int(Kind::Int))?;
-    let ints = number(&rt, &mut types, Shape::Slice { elem: int })?;
-    let named = types.declare()?;
-    assert!(rt; ints < types.count());
-    assert!(rt; named < types.count());
-    assert!(rt; types.is_open(named));
-    assert!(rt; types.can_define(named, ints));
-    types.define(named, ints);
-    assert!(rt; types.is_settled(named));
-    assert!(rt; types.is_settled(ints));
-    assert_eq!(rt; types.underlying(named), ints);
-    assert!(rt; types.assignable(ints, named));
-    assert!(rt; !types.identical(ints, named));
-    Ok(())
-}
-
-#[test]
-fn a_struct_of_a_function(rt: HostRuntime) -> Result<(), Fail> {
-    let alloc = rt.alloc();
-    let mut types = Types::new(alloc);
-    let bool = number(&rt, &mut types, Shape::Bool)?;
-    let params = TypeIds::of(vec![in alloc; bool]?);
-    let results = TypeIds::of(vec![in alloc]?);
-    assert_eq!(rt; params.as_slice().len(), 1);
-    let func = number(&rt, &mut types, Shape::Func { params, results })?;
-    let name = Bytes::from_slice(alloc, b"f")?;
-    let fields = Fields::of(vec![in alloc; Field { name, ty: func }]?);
-    assert_eq!(rt; fields.as_slice().len(), 1);
-    let record = number(&rt, &mut types, Shape::Struct { fields })?;
-    assert!(rt; record < types.count());
-    assert!(rt; !types.shape(record).is_named());
-    Ok(())
 }
 
 #[test]

@@ -1,6 +1,6 @@
-//! The texts of a package, edited at their edges and up to their limit.
+//! Several edits of the texts of a package at once. Single ones, and their refusals, are rows of `session_vectors`.
 
-use edit_apply::{Edit, EditError, Edits, Texts};
+use edit_apply::{Edit, Edits, Texts};
 use go_base::{Bytes, Name};
 use std::alloc::Global;
 use std::test::Fail;
@@ -27,28 +27,6 @@ fn text(alloc: Global, texts: &Texts, name: &Name) -> Result<Vec<u8>, Fail> {
         all.extend_from_slice(&buf[..n])?;
     }
     Ok(all)
-}
-
-#[test]
-fn edits_at_the_edges(rt: HostRuntime) -> Result<(), Fail> {
-    let alloc = rt.alloc();
-    let mut texts = plain(alloc)?;
-    let name = named(alloc, "a.go")?;
-    for (start, end, expected) in [
-        (0, 0, Ok(())),
-        (125, 125, Ok(())),
-        (5, 4, Err(EditError::Range)),
-        (0, 126, Err(EditError::Range)),
-    ] {
-        assert_eq!(rt; texts.edit(&name, start, end, b""), expected);
-    }
-    assert_eq!(rt; text(alloc, &texts, &name)?.as_slice(), PLAIN);
-    assert_eq!(rt; texts.edit(&name, 8, 124, b"p"), Ok(()));
-    assert_eq!(rt;
-        text(alloc, &texts, &name)?.as_slice(),
-        b"package p\n".as_slice()
-    );
-    Ok(())
 }
 
 /// Puts `x` behind the last byte of the one file, of 125 bytes, and then `y` for its first eight.
@@ -102,41 +80,5 @@ fn lists_edits(rt: HostRuntime) -> Result<(), Fail> {
     let first = edits.as_slice().first().ok_or("an edit")?;
     assert_eq!(rt; first.end, 2);
     assert_eq!(rt; first.text.as_slice(), b"x".as_slice());
-    Ok(())
-}
-
-#[test]
-fn adds_and_removes(rt: HostRuntime) -> Result<(), Fail> {
-    let alloc = rt.alloc();
-    let mut texts = plain(alloc)?;
-    let name = named(alloc, "b.go")?;
-    assert_eq!(rt; texts.edit(&name, 0, 0, b""), Err(EditError::NoFile));
-    assert_eq!(rt; texts.remove(&name), Err(EditError::NoFile));
-    assert_eq!(rt; texts.add(&name, b"package main\n"), Ok(()));
-    assert_eq!(rt; texts.add(&name, b"package main\n"), Err(EditError::Held));
-    assert_eq!(rt; texts.files(), 2);
-    assert_eq!(rt; texts.name_at(1).bytes(), b"b.go".as_slice());
-    assert_eq!(rt; texts.remove(&name), Ok(()));
-    assert_eq!(rt; texts.length(&name), None);
-    assert_eq!(rt;
-        texts.add(&named(alloc, "x")?, b""),
-        Err(EditError::BadName)
-    );
-    Ok(())
-}
-
-#[test]
-fn keeps_the_limit_on_bytes(rt: HostRuntime) -> Result<(), Fail> {
-    let alloc = rt.alloc();
-    let mut texts = plain(alloc)?;
-    let name = named(alloc, "a.go")?;
-    let room = vec![in alloc; 32u8; 1_048_452]?;
-    assert_eq!(rt; texts.edit(&name, 125, 125, &room), Err(EditError::Limit));
-    assert_eq!(rt;
-        texts.add(&named(alloc, "b.go")?, &room),
-        Err(EditError::Limit)
-    );
-    assert_eq!(rt; texts.edit(&name, 124, 125, &room), Ok(()));
-    assert_eq!(rt; texts.length(&name), Some(1_048_576));
     Ok(())
 }

@@ -81,19 +81,6 @@ fn doubled(
 }
 
 #[test]
-fn doubled_structs_in_order(rt: HostRuntime) -> Result<(), Fail> {
-    let alloc = rt.alloc();
-    let mut types = Types::new(alloc);
-    let int = number(&rt, &mut types, Shape::Int(Kind::Int))?;
-    let last = doubled(&rt, alloc, &mut types, int)?;
-    assert!(rt; comparable(&rt, &types, last));
-    assert_eq!(rt; scalars(&rt, &types, last), 1 << 60);
-    let row = array(&rt, &mut types, 16, last)?;
-    assert_eq!(rt; scalars(&rt, &types, row), u64::MAX);
-    Ok(())
-}
-
-#[test]
 fn doubled_structs_of_a_type_that_is_defined_last(rt: HostRuntime) -> Result<(), Fail> {
     let alloc = rt.alloc();
     let mut types = Types::new(alloc);

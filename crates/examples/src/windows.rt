@@ -3,10 +3,10 @@ use go_grammar::kind::{Arithmetic, Operator};
 use go_typed::{
     Form, Label, LocalUse, NamedLocal, Sort, TypedFunc, TypedNode, Window, walk_locals,
 };
+use go_typed_parts::typed_func;
 use go_types::TypeId;
 use std::alloc::Global;
 use std::test::Fail;
-use typed_parts::typed_func;
 
 /// The number of the type of all values here.
 const INT: TypeId = 0;

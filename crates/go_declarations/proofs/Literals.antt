@@ -8,9 +8,9 @@ use Rattle.go_grammar.specs.declared.kind.Sort.TheVariants as declaring
 use Rattle.go_grammar.specs.Trees.{Tree, node, Trees, none, more, skip}
 use Rattle.go_tree.specs.declared.context.Entity.{Entity}
 use Rattle.go_tree.specs.declared.context.Entity.TheVariants as entity
-use Rattle.go_exprs.specs.Literals.{AllRead, PartsRead}
-use Rattle.go_stmts.specs.Reading.{part_source}
-use Rattle.go_package.specs.Declarations.{Specification, trees_of, listed_values, type_behind, values_behind, first_part, named_specification, specification_of, source_behind, grouped, declared, declaration, declarations, in_file}
+use Rattle.go_exprs_engine.specs.Literals.{AllRead, PartsRead}
+use Rattle.go_stmts_defs.specs.Reading.{part_source}
+use Rattle.go_package_defs.specs.Declarations.{Specification, trees_of, listed_values, type_behind, values_behind, first_part, named_specification, specification_of, source_behind, grouped, declared, declaration, declarations, in_file}
 use Rattle.go_declarations.specs.Judged.{PartRead}
 use Rattle.go_declarations.specs.Reads.{SpecificationRead}
 

@@ -6,8 +6,8 @@ use Rattle.go_grammar.specs.declared.kind.Sort.{Sort}
 use Rattle.go_grammar.specs.Trees.{Tree, node, Trees, none, more, skip, kind_of, parts}
 use Rattle.go_tree.specs.declared.node.Node.{Node}
 use Rattle.go_tree.specs.Views.{views}
-use Rattle.go_stmts.specs.Reading.{part_source}
-use Rattle.go_package.specs.Declarations.{declared, grouped}
+use Rattle.go_stmts_defs.specs.Reading.{part_source}
+use Rattle.go_package_defs.specs.Declarations.{declared, grouped}
 use Rattle.go_declarations.specs.Views.{only_part, group_in}
 
 -- ---- a row of two parts, or of one

@@ -4,9 +4,9 @@ use Rattle.std.specs.Prelude.{◌&&◌}
 use Rattle.go_tree.specs.declared.context.Entity.TheVariants as entity
 use Rattle.go_types.specs.Trees.{TypeTree, TypeRow, none, more, row, function}
 use Rattle.go_typed.specs.Trees as sort
-use Rattle.go_package.specs.Answer.{is_procedure}
+use Rattle.go_package_defs.specs.Answer.{is_procedure}
 use Rattle.go_declarations.specs.Procedures.{is_none}
-use Rattle.go_stmts.specs.Assigning.{types_in}
+use Rattle.go_stmts_defs.specs.Assigning.{types_in}
 
 pub types_in_row : (ts : List TypeTree) → types_in (row ts) ≡ ts
 types_in_row [] = refl

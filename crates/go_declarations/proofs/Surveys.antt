@@ -2,10 +2,10 @@
 use Rattle.std.proofs.Common.{◌≡◌, length, Option, Some, None, refl, ap}
 use Rattle.std.specs.Option.{option_map}
 use Rattle.go_types.specs.Tables.{Table, IsTable}
-use Rattle.type_tests.specs.Extends.{Extends}
+use Rattle.go_types_relations.specs.Extends.{Extends}
 use Rattle.go_typed.specs.Views.{seen}
-use Rattle.go_exprs.proofs.Stays.{node_stays, node_known}
-use Rattle.go_survey.specs.declared.nodes.Survey.{Survey}
+use Rattle.go_exprs_engine.proofs.Public.{node_stays, node_known}
+use Rattle.go_exprs_engine.specs.declared.survey_nodes.Survey.{Survey}
 use Rattle.go_declarations.specs.Judged.{KnownPart}
 
 module _ (old new : Table) (ok : IsTable old) (e : Extends old new) where

@@ -2,8 +2,8 @@
 use Rattle.std.specs.Prelude.{◌≡◌, ℕ}
 use Rattle.go_types.specs.Tables.{Table}
 use Rattle.go_typed.specs.Views.{sort_seen, KnownSort}
-use Rattle.go_rules.specs.Faults.{least}
-use Rattle.go_package.specs.Verdicts.{Assigned}
+use Rattle.go_exprs_rules.specs.Faults.{least}
+use Rattle.go_package_defs.specs.Verdicts.{Assigned}
 use Rattle.go_declarations.specs.declared.assigning.Assigned as program
 
 -- the same in a table, with the least of the faults

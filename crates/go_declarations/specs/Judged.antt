@@ -2,9 +2,9 @@
 use Rattle.std.specs.Prelude.{ℕ, List, Option, Some, None}
 use Rattle.go_grammar.specs.Trees.{Tree}
 use Rattle.go_typed.specs.Views.{Known}
-use Rattle.go_rules.specs.declared.fault.TypeFault.{TypeFault}
-use Rattle.go_survey.specs.declared.nodes.Survey.{Survey}
-use Rattle.go_exprs.specs.Literals.{AllRead}
+use Rattle.go_exprs_rules.specs.declared.fault.TypeFault.{TypeFault}
+use Rattle.go_exprs_engine.specs.declared.survey_nodes.Survey.{Survey}
+use Rattle.go_exprs_engine.specs.Literals.{AllRead}
 
 -- the literals of a part that there may be read
 abbrev pub PartRead : (ℕ → List ℕ) → Option Tree → Type 0

@@ -1,8 +1,8 @@
 -- The literals of specifications may be read.
 use Rattle.std.specs.Prelude.{◌≡◌, ℕ, List, Some, slice_get}
 use Rattle.go_grammar.specs.Trees.{Tree}
-use Rattle.go_exprs.specs.Literals.{AllRead}
-use Rattle.go_package.specs.Declarations.{Specification}
+use Rattle.go_exprs_engine.specs.Literals.{AllRead}
+use Rattle.go_package_defs.specs.Declarations.{Specification}
 use Rattle.go_declarations.specs.Judged.{PartRead}
 
 -- those of its type and of each of its values

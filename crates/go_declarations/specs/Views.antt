@@ -5,7 +5,7 @@ use Rattle.go_grammar.specs.declared.kind.Kind.TheVariants as kind
 use Rattle.go_grammar.specs.Trees.{Tree, node, Trees, none, more}
 use Rattle.go_tree.specs.declared.context.Entity.{Entity}
 use Rattle.go_tree.specs.Views.{view, views}
-use Rattle.go_package.specs.Declarations.{Specification, trees_of, named_specification, type_specification, function}
+use Rattle.go_package_defs.specs.Declarations.{Specification, trees_of, named_specification, type_specification, function}
 use Rattle.go_declarations.specs.declared.specification.Specification as program
 
 -- the specification of the definitions

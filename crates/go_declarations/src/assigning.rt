@@ -5,26 +5,26 @@ ghost use Rattle.std.specs.Option.{option_map};
 ghost use Rattle.go_types.specs.Tables.{type_of, rights_of};
 ghost use Rattle.go_typed.specs.Trees.{sort_of, Unknown};
 ghost use Rattle.go_typed.specs.Views.{seen, sort_seen, Known, KnownSort};
-ghost use Rattle.go_rules.specs.declared.fault.TypeFault as faults;
-ghost use Rattle.go_rules.specs.Faults.{least};
-ghost use Rattle.go_rules.specs.Seen.{AreBasics};
+ghost use Rattle.go_exprs_rules.specs.declared.fault.TypeFault as faults;
+ghost use Rattle.go_exprs_rules.specs.Faults.{least};
+ghost use Rattle.go_exprs_rules.specs.Seen.{AreBasics};
 ghost use Rattle.go_types.specs.Trees.{row};
-ghost use Rattle.type_tests.specs.Tests.{underlying_of};
-ghost use Rattle.go_rules.specs.Calls.{results_of};
-ghost use Rattle.go_rules.specs.Sorts.{value_type};
-ghost use Rattle.go_stmts.specs.Assigning.{called_results, unassigned, result_unassigned, constant_failing, constant_in, variable};
-ghost use Rattle.go_package.specs.Verdicts.{assigned, constant_assigned, result_assigned, value_assigned, shared_value, variable_by, variable_assigned, function_assigned};
+ghost use Rattle.go_types_relations.specs.Tests.{underlying_of};
+ghost use Rattle.go_exprs_rules.specs.Calls.{results_of};
+ghost use Rattle.go_exprs_rules.specs.Sorts.{value_type};
+ghost use Rattle.go_stmts_defs.specs.Assigning.{called_results, unassigned, result_unassigned, constant_failing, constant_in, variable};
+ghost use Rattle.go_package_defs.specs.Verdicts.{assigned, constant_assigned, result_assigned, value_assigned, shared_value, variable_by, variable_assigned, function_assigned};
 ghost use Rattle.go_declarations.specs.Assigned.{ShowsAssigned, KnownAssigned};
 
 use go_base::{FaultCode, Memory};
-use go_rules::assign::{unassignable, undefaulted};
-use go_rules::basics::default_type;
-use go_rules::nodes::{fault_at, sort_of};
-use go_rules::sorts::{is_constant, is_nil, open_kind};
-use go_rules::{Basics, TypeFault};
+use go_exprs_rules::assign::{unassignable, undefaulted};
+use go_exprs_rules::basics::default_type;
+use go_exprs_rules::nodes::{fault_at, sort_of};
+use go_exprs_rules::sorts::{is_constant, is_nil, open_kind};
+use go_exprs_rules::{Basics, TypeFault};
 use go_typed::{ConstantType, Sort, TypedNode};
 use go_types::{Shape, TypeId, Types};
-use type_tests::{assignable, underlying};
+use go_types_relations::{assignable, underlying};
 
 /// What a name stands for, and the least fault at its assignment, if there is one; then it stands for nothing known.
 #[derive(Debug, Drop)]

@@ -2,8 +2,8 @@
 ghost use Rattle.std.specs.Prelude.{ℕ, List};
 ghost use Rattle.std.specs.List.{AllByRecursion};
 ghost use Rattle.go_grammar.specs.Trees.{Tree};
-ghost use Rattle.go_exprs.specs.Literals.{AllRead};
-ghost use Rattle.go_package.specs.Declarations.{in_file};
+ghost use Rattle.go_exprs_engine.specs.Literals.{AllRead};
+ghost use Rattle.go_package_defs.specs.Declarations.{in_file};
 ghost use Rattle.go_declarations.specs.Reads.{SpecificationRead};
 
 /// Where the literals of a file may be read, so may those of the types and values of its specifications.

@@ -5,13 +5,13 @@ ghost use Rattle.go_types.specs.Trees.{row};
 ghost use Rattle.go_types.specs.Tables.{type_of};
 ghost use Rattle.go_typed.specs.Trees.{Value};
 ghost use Rattle.go_typed.specs.Views.{sort_seen, KnownSort};
-ghost use Rattle.go_package.specs.Answer.{is_procedure};
+ghost use Rattle.go_package_defs.specs.Answer.{is_procedure};
 ghost use Rattle.go_declarations.specs.Procedures.{is_none};
 
 use go_tree::context::Entity;
 use go_typed::Sort;
 use go_types::{Shape, TypeId, Types};
-use type_tests::shape;
+use go_types_relations::shape;
 
 fn is_empty(_types: &Types, types: &[TypeId]) -> bool
     ensures { result ≡ is_none (row (map (type_of _types.now.shapes) types.now)) }

@@ -3,10 +3,10 @@ ghost use Rattle.std.specs.Prelude.{◌≡◌, ◌++◌, ◌∷◌, [], None, If
 ghost use Rattle.std.specs.Option.{option_map};
 ghost use Rattle.go_tree.specs.Contexts.{entity_of};
 ghost use Rattle.go_tree.specs.Views.{view, views};
-ghost use Rattle.go_stmts.specs.Reading.{part_source};
-ghost use Rattle.go_package.specs.Declarations.{trees_of, first_tokens, name_tokens, listed_values, type_behind, values_behind, first_part, specification_of, declaration, declarations, declared, grouped};
-ghost use Rattle.go_package.specs.Answer.{specifications};
-ghost use Rattle.go_package.specs.Sources.{source_of};
+ghost use Rattle.go_stmts_defs.specs.Reading.{part_source};
+ghost use Rattle.go_package_defs.specs.Declarations.{trees_of, first_tokens, name_tokens, listed_values, type_behind, values_behind, first_part, specification_of, declaration, declarations, declared, grouped};
+ghost use Rattle.go_package_defs.specs.Answer.{specifications};
+ghost use Rattle.go_package_defs.specs.Sources.{source_of};
 ghost use Rattle.go_declarations.specs.Views.{specification_view, seen_all, named_specified, type_specified, function_specified, only_part, group_in};
 
 use crate::specification::Specification;

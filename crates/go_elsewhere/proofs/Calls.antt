@@ -9,16 +9,16 @@ use Rattle.go_tree.specs.declared.object.Predeclared.TheVariants as predeclared
 use Rattle.go_types.specs.Trees.{TypeTree, TypeRow}
 use Rattle.go_types.specs.Trees as types
 use Rattle.go_types.specs.Relations.{Rights}
-use Rattle.type_tests.specs.Tests.{underlying_of}
+use Rattle.go_types_relations.specs.Tests.{underlying_of}
 use Rattle.go_typed.specs.Trees.{typed, sort_of}
 use Rattle.go_typed.specs.Trees as sort
-use Rattle.go_rules.specs.declared.family.OpenKind.{OpenKind}
-use Rattle.go_rules.specs.Calls.{keeps_value, becomes_text, converts_value, operands_unless, open_conversion, value_conversion, kept_conversion, conversion_failing, conversion_take, parameters_of, row_length, all_unassignable, function_call_failing, printed, all_printed, has_elements, length_failing, sizes_failing}
-use Rattle.go_rules.specs.Calls.{count_unless, make_failing, each_unassignable, append_failing_in, append_failing, copies, copy_failing, panic_failing, builtin_failing, length_sort, made_sort, appended_sort, builtin_sort, appended_takes, builtin_takes, one_conversion, call_failing, converted_sort, call_sort, function_takes, call_takes}
-use Rattle.go_rules.specs.Faults.{fault_at}
-use Rattle.go_rules.specs.Indexes.{bound_failing, disordered}
-use Rattle.go_rules.specs.Settling.{Part, unrepresented, undefaulted, unassignable, Take, stay, default, as_type}
-use Rattle.go_rules.specs.Sorts.{Stands, family_of, is_whole, is_text, named_type, constant_of, open_kind, is_constant, underlying_in, form_of_value, value_type, suits, has_nil, slice_element, represents, int}
+use Rattle.go_exprs_rules.specs.declared.family.OpenKind.{OpenKind}
+use Rattle.go_exprs_rules.specs.Calls.{keeps_value, becomes_text, converts_value, operands_unless, open_conversion, value_conversion, kept_conversion, conversion_failing, conversion_take, parameters_of, row_length, all_unassignable, function_call_failing, printed, all_printed, has_elements, length_failing, sizes_failing}
+use Rattle.go_exprs_rules.specs.Calls.{count_unless, make_failing, each_unassignable, append_failing_in, append_failing, copies, copy_failing, panic_failing, builtin_failing, length_sort, made_sort, appended_sort, builtin_sort, appended_takes, builtin_takes, one_conversion, call_failing, converted_sort, call_sort, function_takes, call_takes}
+use Rattle.go_exprs_rules.specs.Faults.{fault_at}
+use Rattle.go_exprs_rules.specs.Indexes.{bound_failing, disordered}
+use Rattle.go_exprs_rules.specs.Settling.{Part, unrepresented, undefaulted, unassignable, Take, stay, default, as_type}
+use Rattle.go_exprs_rules.specs.Sorts.{Stands, family_of, is_whole, is_text, named_type, constant_of, open_kind, is_constant, underlying_in, form_of_value, value_type, suits, has_nil, slice_element, represents, int}
 use Rattle.go_elsewhere.specs.Elsewhere.{placed}
 use Rattle.go_elsewhere.proofs.Indexes.{bound_kept, disordered_kept}
 use Rattle.go_elsewhere.proofs.Parts.{fails, every, sort_kept, count_kept, either, either_of, both, map_kept, all_kept}

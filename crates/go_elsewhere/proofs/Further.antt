@@ -3,7 +3,7 @@ use Rattle.std.proofs.Common.{ℕ, ◌+◌, ◌<◌, arith}
 use Rattle.go_grammar.specs.declared.kind.Kind.{Kind}
 use Rattle.go_grammar.specs.declared.kind.Kind.TheVariants as kind
 use Rattle.go_grammar.specs.Trees.{Tree, node, Trees, none, more, skip, last}
-use Rattle.go_splice.specs.Lists.{InOrder, Ordered}
+use Rattle.go_rewriting.specs.Lists.{InOrder, Ordered}
 use Rattle.go_elsewhere.specs.Elsewhere.{NameKept, KeepsLast, AllKeepLast}
 
 module _ (n : ℕ) where

@@ -7,10 +7,10 @@ use Rattle.go_types.specs.Trees.{TypeTree}
 use Rattle.go_types.specs.Relations.{Rights}
 use Rattle.go_typed.specs.Trees.{typed}
 use Rattle.go_typed.specs.Trees as sort
-use Rattle.go_rules.specs.Faults.{fault_at}
-use Rattle.go_rules.specs.Indexes.{named_field, selector_failing, outside, bound_failing, optional_bound, is_greater, disordered, text_length, index_failing_in, index_failing, whole_or_absent, bounds_failing, slice_failing}
-use Rattle.go_rules.specs.Settling.{Part, unrepresented}
-use Rattle.go_rules.specs.Sorts.{Stands, constant_of, is_text, is_whole, form_of_value, element_of, slice_element, array_length, int}
+use Rattle.go_exprs_rules.specs.Faults.{fault_at}
+use Rattle.go_exprs_rules.specs.Indexes.{named_field, selector_failing, outside, bound_failing, optional_bound, is_greater, disordered, text_length, index_failing_in, index_failing, whole_or_absent, bounds_failing, slice_failing}
+use Rattle.go_exprs_rules.specs.Settling.{Part, unrepresented}
+use Rattle.go_exprs_rules.specs.Sorts.{Stands, constant_of, is_text, is_whole, form_of_value, element_of, slice_element, array_length, int}
 use Rattle.go_elsewhere.specs.Elsewhere.{placed}
 use Rattle.go_elsewhere.proofs.Parts.{fails, optional, either, either_of, both}
 use Rattle.go_elsewhere.proofs.Settling.{unrepresented_kept}

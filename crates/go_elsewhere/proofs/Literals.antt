@@ -7,11 +7,11 @@ use Rattle.go_types.specs.Trees.{TypeTree, array, slice, structure, TypeRow}
 use Rattle.go_types.specs.Relations.{Rights}
 use Rattle.go_typed.specs.Trees.{typed, Typeds}
 use Rattle.go_typed.specs.Trees as sort
-use Rattle.go_rules.specs.Calls.{row_length, all_unassignable, all_as, each_unassignable}
-use Rattle.go_rules.specs.Faults.{fault_at}
-use Rattle.go_rules.specs.Literals.{key_of, is_keyed, has_keys, is_below, first_part, nth_part, at_optional, too_many, elements_failing, keyed_type, given_to_field, keyed_unassignable, keyed_failing, ordered_failing, fields_failing, literal_failing_in, literal_failing, as_optional, fields_take, literal_takes_in, literal_takes}
-use Rattle.go_rules.specs.Settling.{Part, stay, as_type}
-use Rattle.go_rules.specs.Sorts.{underlying_in}
+use Rattle.go_exprs_rules.specs.Calls.{row_length, all_unassignable, all_as, each_unassignable}
+use Rattle.go_exprs_rules.specs.Faults.{fault_at}
+use Rattle.go_exprs_rules.specs.Literals.{key_of, is_keyed, has_keys, is_below, first_part, nth_part, at_optional, too_many, elements_failing, keyed_type, given_to_field, keyed_unassignable, keyed_failing, ordered_failing, fields_failing, literal_failing_in, literal_failing, as_optional, fields_take, literal_takes_in, literal_takes}
+use Rattle.go_exprs_rules.specs.Settling.{Part, stay, as_type}
+use Rattle.go_exprs_rules.specs.Sorts.{underlying_in}
 use Rattle.go_elsewhere.specs.Elsewhere.{placed, all_placed}
 use Rattle.go_elsewhere.proofs.Calls.{all_unassignable_kept, each_unassignable_kept}
 use Rattle.go_elsewhere.proofs.Parts.{fails, optional, every, count_kept, either_of, both, map_kept, all_kept, any_kept}

@@ -15,19 +15,19 @@ use Rattle.go_typed.specs.declared.form.Form.{Form}
 use Rattle.go_typed.specs.declared.form.Form.TheVariants as form
 use Rattle.go_typed.specs.Trees.{Label, typed, row, list_of, sort_of}
 use Rattle.go_typed.specs.Trees as sort
-use Rattle.go_rules.specs.declared.fault.TypeFault.{TypeFault}
-use Rattle.go_rules.specs.Faults.{fault_at, or_else}
-use Rattle.go_rules.specs.Calls.{call_failing, call_sort, call_takes}
-use Rattle.go_rules.specs.Indexes.{selector_failing, selector_sort, index_failing, index_sort, slice_failing, slice_sort}
-use Rattle.go_rules.specs.Literals.{literal_failing, literal_sort, literal_takes}
-use Rattle.go_rules.specs.Names.{place_failing, not_a_value, one_value, is_no_value, is_no_type, is_no_callee, is_no_target, is_no_statement, are_results, object_sort, need_of, name_sort, object_form, declared_form, form_or_type, name_form}
-use Rattle.go_rules.specs.Operators.{unary_failing, unary_sort, unary_take, operation_failing, operation_sort, operation_takes}
-use Rattle.go_rules.specs.Scopes.{Needed, Scope, Hint, several, type_place, loose, inside, loose_inside, callee, statement, target, declares, free}
-use Rattle.go_rules.specs.Settling.{Part, Take, stay, given}
-use Rattle.go_rules.specs.Sorts.{Stands, is_constant}
-use Rattle.go_rules.specs.Tables.{Parts, is_held, held, all_held, leaf, is_type, cut, first_cut, is_make_call, call_parts, has_no_low, bounds_of, bracketed_parts, is_package, selector_parts, behind_first, layout, present, on_one, on_two, on_first, on_bracketed, on_optional}
-use Rattle.go_rules.specs.Tables.{callee_form, selector_form, bracketed_form, form_by, literal_type, on_literal, selector_rule, failing, sort_by, takes, all_given, is_variable_name, is_call, varies_in, calls_in, label, is_lost, is_judged, is_placed, placing, own_faults, no_faults, is_sound, made, built_by, built_on, built, found}
-use Rattle.go_rules.specs.TypeNodes.{part_type, type_sort, sequence_failing, sequence_type, signature_type, structure_of}
+use Rattle.go_exprs_rules.specs.declared.fault.TypeFault.{TypeFault}
+use Rattle.go_exprs_rules.specs.Faults.{fault_at, or_else}
+use Rattle.go_exprs_rules.specs.Calls.{call_failing, call_sort, call_takes}
+use Rattle.go_exprs_rules.specs.Indexes.{selector_failing, selector_sort, index_failing, index_sort, slice_failing, slice_sort}
+use Rattle.go_exprs_rules.specs.Literals.{literal_failing, literal_sort, literal_takes}
+use Rattle.go_exprs_rules.specs.Names.{place_failing, not_a_value, one_value, is_no_value, is_no_type, is_no_callee, is_no_target, is_no_statement, are_results, object_sort, need_of, name_sort, object_form, declared_form, form_or_type, name_form}
+use Rattle.go_exprs_rules.specs.Operators.{unary_failing, unary_sort, unary_take, operation_failing, operation_sort, operation_takes}
+use Rattle.go_exprs_rules.specs.Scopes.{Needed, Scope, Hint, several, type_place, loose, inside, loose_inside, callee, statement, target, declares, free}
+use Rattle.go_exprs_rules.specs.Settling.{Part, Take, stay, given}
+use Rattle.go_exprs_rules.specs.Sorts.{Stands, is_constant}
+use Rattle.go_exprs_rules.specs.Tables.{Parts, is_held, held, all_held, leaf, is_type, cut, first_cut, is_make_call, call_parts, has_no_low, bounds_of, bracketed_parts, is_package, selector_parts, behind_first, layout, present, on_one, on_two, on_first, on_bracketed, on_optional}
+use Rattle.go_exprs_rules.specs.Tables.{callee_form, selector_form, bracketed_form, form_by, literal_type, on_literal, selector_rule, failing, sort_by, takes, all_given, is_variable_name, is_call, varies_in, calls_in, label, is_lost, is_judged, is_placed, placing, own_faults, no_faults, is_sound, made, built_by, built_on, built, found}
+use Rattle.go_exprs_rules.specs.TypeNodes.{part_type, type_sort, sequence_failing, sequence_type, signature_type, structure_of}
 use Rattle.go_elsewhere.specs.Elsewhere.{placed, along, NameKept}
 use Rattle.go_elsewhere.proofs.Calls.{call_kept, call_sort_kept, call_takes_kept}
 use Rattle.go_elsewhere.proofs.Indexes.{selector_kept, index_kept, slice_kept}

@@ -10,14 +10,14 @@ use Rattle.go_grammar.specs.declared.kind.Operator.{Operator}
 use Rattle.go_grammar.specs.declared.kind.Operator.TheVariants as operator
 use Rattle.go_grammar.specs.declared.kind.Sign.{Sign}
 use Rattle.go_types.specs.Relations.{Rights}
-use Rattle.type_tests.specs.Tests.{is_comparable}
+use Rattle.go_types_relations.specs.Tests.{is_comparable}
 use Rattle.go_typed.specs.Trees.{typed}
-use Rattle.go_rules.specs.declared.family.Family.TheVariants as family
-use Rattle.go_rules.specs.Faults.{fault_at, or_else}
-use Rattle.go_rules.specs.Operators.{Common, in_type, in_kind, common, family_in, refused, both_refuse, in_range, out_of_range, own, unary_value, sign_family, unary_failing_in, unary_failing, admits, divides, zero_divisor, binary_value, binary_failing_in, binary_failing}
-use Rattle.go_rules.specs.Operators.{is_count, shift_failing_in, shift_failing, is_equality, compared_in, unordered, incomparable, unfit, compared_refuse, compared_failing_in, compared_failing, is_shift, operation_failing}
-use Rattle.go_rules.specs.Settling.{Part, unrepresented}
-use Rattle.go_rules.specs.Sorts.{Stands, is_family, constant_of, is_constant, is_nil, is_zero, default_type, uint}
+use Rattle.go_exprs_rules.specs.declared.family.Family.TheVariants as family
+use Rattle.go_exprs_rules.specs.Faults.{fault_at, or_else}
+use Rattle.go_exprs_rules.specs.Operators.{Common, in_type, in_kind, common, family_in, refused, both_refuse, in_range, out_of_range, own, unary_value, sign_family, unary_failing_in, unary_failing, admits, divides, zero_divisor, binary_value, binary_failing_in, binary_failing}
+use Rattle.go_exprs_rules.specs.Operators.{is_count, shift_failing_in, shift_failing, is_equality, compared_in, unordered, incomparable, unfit, compared_refuse, compared_failing_in, compared_failing, is_shift, operation_failing}
+use Rattle.go_exprs_rules.specs.Settling.{Part, unrepresented}
+use Rattle.go_exprs_rules.specs.Sorts.{Stands, is_family, constant_of, is_constant, is_nil, is_zero, default_type, uint}
 use Rattle.go_elsewhere.specs.Elsewhere.{placed}
 use Rattle.go_elsewhere.proofs.Parts.{fails, either, either_of, both, or_else_kept}
 use Rattle.go_elsewhere.proofs.Settling.{unrepresented_kept}

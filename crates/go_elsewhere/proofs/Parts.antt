@@ -6,10 +6,10 @@ use Rattle.std.proofs.lemmas.List.{map-append}
 use Rattle.go_types.specs.Trees.{TypeTree}
 use Rattle.go_typed.specs.Trees.{typed, Typeds, row, list_of, form_of, sort_of, parts_of, label_of}
 use Rattle.go_typed.specs.Trees as sort
-use Rattle.go_rules.specs.declared.fault.TypeFault.{TypeFault}
-use Rattle.go_rules.specs.Faults.{or_else}
-use Rattle.go_rules.specs.Settling.{Part}
-use Rattle.go_rules.specs.Tables.{Parts, present, no_faults}
+use Rattle.go_exprs_rules.specs.declared.fault.TypeFault.{TypeFault}
+use Rattle.go_exprs_rules.specs.Faults.{or_else}
+use Rattle.go_exprs_rules.specs.Settling.{Part}
+use Rattle.go_exprs_rules.specs.Tables.{Parts, present, no_faults}
 use Rattle.go_elsewhere.specs.Elsewhere.{placed, all_placed, fault_placed}
 
 module _ (m : ℕ → ℕ) where

@@ -6,13 +6,13 @@ use Rattle.go_base.specs.declared.fault.FaultCode.TheVariants as code
 use Rattle.go_constants.specs.declared.values.Const.{Const}
 use Rattle.go_types.specs.Trees.{TypeTree}
 use Rattle.go_types.specs.Relations.{Rights}
-use Rattle.type_tests.specs.Tests.{underlying_of, is_assignable}
+use Rattle.go_types_relations.specs.Tests.{underlying_of, is_assignable}
 use Rattle.go_typed.specs.Trees.{typed, Typeds}
 use Rattle.go_typed.specs.Trees as sort
-use Rattle.go_rules.specs.declared.family.OpenKind.{OpenKind}
-use Rattle.go_rules.specs.Faults.{fault_at}
-use Rattle.go_rules.specs.Settling.{Part, at_part, settled, all_settled, unrepresented_constant, unrepresented, all_unrepresented, Take, stay, default, as_type, defaulted, given, undefaulted_by, undefaulted, untyped_unassignable, unassignable_by, unassignable}
-use Rattle.go_rules.specs.Sorts.{Stands, is_open, takes_type, open_kind, is_constant, constant_of, retyped, represents, default_type, suits, has_nil}
+use Rattle.go_exprs_rules.specs.declared.family.OpenKind.{OpenKind}
+use Rattle.go_exprs_rules.specs.Faults.{fault_at}
+use Rattle.go_exprs_rules.specs.Settling.{Part, at_part, settled, all_settled, unrepresented_constant, unrepresented, all_unrepresented, Take, stay, default, as_type, defaulted, given, undefaulted_by, undefaulted, untyped_unassignable, unassignable_by, unassignable}
+use Rattle.go_exprs_rules.specs.Sorts.{Stands, is_open, takes_type, open_kind, is_constant, constant_of, retyped, represents, default_type, suits, has_nil}
 use Rattle.go_elsewhere.specs.Elsewhere.{placed, all_placed}
 use Rattle.go_elsewhere.proofs.Parts.{fails, either, either_of, both}
 

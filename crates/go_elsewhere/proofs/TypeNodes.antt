@@ -4,13 +4,13 @@ use Rattle.std.specs.Prelude.{◌&&◌, if◌then◌else◌}
 use Rattle.go_base.specs.declared.fault.FaultCode.TheVariants as code
 use Rattle.go_types.specs.Trees.{TypeTree, array}
 use Rattle.go_types.specs.Relations.{Rights}
-use Rattle.type_tests.specs.Sizes.{scalars_of}
+use Rattle.go_types_relations.specs.Sizes.{scalars_of}
 use Rattle.go_typed.specs.Trees.{typed, list_of}
-use Rattle.go_rules.specs.Faults.{fault_at}
-use Rattle.go_rules.specs.Settling.{Part, unrepresented}
-use Rattle.go_rules.specs.Sorts.{constant_of, is_constant, is_whole, is_negative, named_type, int}
-use Rattle.go_rules.specs.Tables.{Parts}
-use Rattle.go_rules.specs.TypeNodes.{part_type, length_in, exceeds, over_limit, limit_failing, length_failing, sequence_failing, sequence_type, is_parameter, second, entry_type, entry_of, first_entry, entry_types, all_types, is_result_list, result_types, parts_in, function_of, signature_type, is_field_name, fields_of, fields_from}
+use Rattle.go_exprs_rules.specs.Faults.{fault_at}
+use Rattle.go_exprs_rules.specs.Settling.{Part, unrepresented}
+use Rattle.go_exprs_rules.specs.Sorts.{constant_of, is_constant, is_whole, is_negative, named_type, int}
+use Rattle.go_exprs_rules.specs.Tables.{Parts}
+use Rattle.go_exprs_rules.specs.TypeNodes.{part_type, length_in, exceeds, over_limit, limit_failing, length_failing, sequence_failing, sequence_type, is_parameter, second, entry_type, entry_of, first_entry, entry_types, all_types, is_result_list, result_types, parts_in, function_of, signature_type, is_field_name, fields_of, fields_from}
 use Rattle.go_elsewhere.specs.Elsewhere.{placed}
 use Rattle.go_elsewhere.proofs.Parts.{optional, parts, fails, list_kept, either, either_of, both}
 use Rattle.go_elsewhere.proofs.Settling.{unrepresented_kept}

@@ -6,14 +6,14 @@ use Rattle.go_grammar.specs.declared.kind.Kind.{Kind}
 use Rattle.go_grammar.specs.declared.kind.Kind.TheVariants as kind
 use Rattle.go_grammar.specs.Trees.{Tree, node, Trees, none, more, skip, kind_of}
 use Rattle.go_grammar.specs.Grammar.{is_name, is_parameter, ends_from}
-use Rattle.go_splice.specs.Places.{carry, carries}
+use Rattle.go_rewriting.specs.Places.{carry, carries}
 use Rattle.go_types.specs.Relations.{Rights}
 use Rattle.go_typed.specs.Trees.{typed}
-use Rattle.go_rules.specs.declared.fault.TypeFault.{TypeFault}
-use Rattle.go_rules.specs.Scopes.{Scope, Hint, loose, declares}
-use Rattle.go_rules.specs.Settling.{Part}
-use Rattle.go_rules.specs.Tables.{Parts, argument_told, call_told, element_told, composite_told, keyed_told, skips_first, as_type_place, sequence_told, names_told, hint, part_scope, built, found}
-use Rattle.go_rules.specs.Typing.{typing, typings, faults, faults_of_parts}
+use Rattle.go_exprs_rules.specs.declared.fault.TypeFault.{TypeFault}
+use Rattle.go_exprs_rules.specs.Scopes.{Scope, Hint, loose, declares}
+use Rattle.go_exprs_rules.specs.Settling.{Part}
+use Rattle.go_exprs_rules.specs.Tables.{Parts, argument_told, call_told, element_told, composite_told, keyed_told, skips_first, as_type_place, sequence_told, names_told, hint, part_scope, built, found}
+use Rattle.go_exprs_rules.specs.Typing.{typing, typings, faults, faults_of_parts}
 use Rattle.go_elsewhere.specs.Elsewhere.{placed, along, KeepsLast, AllKeepLast, IsTypedElsewhere}
 use Rattle.go_elsewhere.proofs.Nodes.{built_kept, found_kept}
 use Rattle.go_elsewhere.proofs.Parts.{optional, parts, fails}

@@ -3,14 +3,14 @@ use Rattle.std.specs.Prelude.{◌≡◌, ℕ, ◌-◌, List, map}
 use Rattle.go_grammar.specs.declared.kind.Kind.{Kind}
 use Rattle.go_grammar.specs.declared.kind.Kind.TheVariants as kind
 use Rattle.go_grammar.specs.Trees.{Tree, node, Trees, none, more, skip}
-use Rattle.go_splice.specs.Places.{carry}
+use Rattle.go_rewriting.specs.Places.{carry}
 use Rattle.go_types.specs.Trees.{TypeTree}
 use Rattle.go_typed.specs.Trees.{typed, Typeds}
 use Rattle.go_typed.specs.Trees as sort
-use Rattle.go_rules.specs.declared.fault.TypeFault.{TypeFault}
-use Rattle.go_rules.specs.Scopes.{Scope, Hint}
-use Rattle.go_rules.specs.Settling.{Part}
-use Rattle.go_rules.specs.Typing.{typing, faults}
+use Rattle.go_exprs_rules.specs.declared.fault.TypeFault.{TypeFault}
+use Rattle.go_exprs_rules.specs.Scopes.{Scope, Hint}
+use Rattle.go_exprs_rules.specs.Settling.{Part}
+use Rattle.go_exprs_rules.specs.Typing.{typing, faults}
 
 abbrev mutual
   -- the typed tree with each token n at m n

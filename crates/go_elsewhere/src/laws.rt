@@ -1,8 +1,8 @@
 //! Laws of trees whose tokens stand elsewhere. These functions do nothing: their contracts are what holds.
 ghost use Rattle.std.specs.Prelude.{ℕ, ◌+◌};
 ghost use Rattle.go_grammar.specs.Trees.{Tree};
-ghost use Rattle.go_splice.specs.Lists.{InOrder};
-ghost use Rattle.go_rules.specs.Scopes.{Scope, Hint};
+ghost use Rattle.go_rewriting.specs.Lists.{InOrder};
+ghost use Rattle.go_exprs_rules.specs.Scopes.{Scope, Hint};
 ghost use Rattle.go_elsewhere.specs.Elsewhere.{KeepsLast, IsTypedElsewhere};
 
 /// An expression or a type whose tokens stand elsewhere is typed as in a scope where its tokens say and mean what they do there, and the

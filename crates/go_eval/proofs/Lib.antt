@@ -1,3 +1,12 @@
-pub mod Seen
-pub mod Grouped
-pub mod Known
+pub mod Switching
+pub mod Ranging
+pub mod Calling
+pub mod Entering
+pub mod LeavingCalls
+pub mod Carrying
+pub mod Leaving
+mod Counting
+mod Running
+mod Sequences
+mod Programs
+mod Endings

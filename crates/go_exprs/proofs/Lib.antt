@@ -1,9 +1,8 @@
-pub mod Nodes
-pub mod Giving
+pub mod Takes
 pub mod Layouts
+pub mod Final
 pub mod Answers
-pub mod Rows
-pub mod Building
-pub mod Stays
-pub mod Steps
-pub mod Fields
+pub mod Names
+pub mod Literals
+pub mod Examples
+pub mod Public

@@ -1,2 +1,4 @@
-pub mod Layouts
-pub mod Literals
+pub mod Contexts
+pub mod Expressions
+pub mod Final
+pub mod Examples

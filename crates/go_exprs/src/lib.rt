@@ -1,17 +1,15 @@
-//! The typing of expressions and types: one engine over the tables of go_rules.
+//! Expressions in their contexts: the typed tree with final types, or the fault that is reported.
 //!
-//! The parts of a node are typed from left to right, each by what it is told (`told`), and laid out as they stand in the typed node
-//! (`layout`); the node is judged from them, labelled (`label`), and gives its parts their types (`settle`). The contract of
-//! `engine::type_node`: the typed tree, or the reported fault, is that of the definition `answer` (specs/Typing.antt of go_rules),
-//! and the table of types only grows, whatever is answered. Each node is settled once at most as a whole.
+//! `expression::type_expr` types an expression by itself (go_exprs_engine) and gives it the type that its context wants. Its contract: it
+//! answers what specs/Contexts.antt says, with faults by the bytes of the file (specs/Expressions.antt). `laws` say that a final type
+//! follows from what is wanted from above (specs/Final.antt), and that literals of a lexed file can be read.
 #![tactic(auto)]
 
-pub mod build;
-pub mod engine;
-mod form;
-pub mod judge;
-pub mod label;
-pub mod layout;
-pub mod settle;
-mod takes;
-pub mod told;
+pub mod context;
+pub mod error;
+pub mod expression;
+pub mod laws;
+
+pub use context::Context;
+pub use error::TypeError;
+pub use expression::type_expr;

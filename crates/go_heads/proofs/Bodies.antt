@@ -3,8 +3,8 @@ use Rattle.std.proofs.Common.{◌≡◌, ℕ, ◌<◌, ◌≤◌, Bool, true, fa
 use Rattle.std.proofs.lemmas.Bool.{lt-ltb, le-ltb, le-leb, lt-leb, and_from, and_left, and_right, or_from}
 use Rattle.std.specs.Prelude.{◌||◌, if◌then◌else◌, nat_le, nat_lt}
 use Rattle.go_grammar.specs.Trees.{Tree, node, Trees, none, more, skip, first, last}
-use Rattle.go_splice.specs.Lists.{InOrder, Ordered}
-use Rattle.go_splice.proofs.Order.{tree_order, row_order}
+use Rattle.go_rewriting.specs.Lists.{InOrder, Ordered}
+use Rattle.go_rewriting.proofs.Public.{tree_order, row_order}
 use Rattle.go_tree.specs.Lists.{is_function}
 use Rattle.go_heads.specs.Heads.{body_behind, body_of, is_within, in_bodies}
 

@@ -1,9 +1,9 @@
 -- Trees whose places are moved.
 use Rattle.std.proofs.Common.{◌≡◌, ℕ, ◌<◌, ◌≤◌, refl, ap, ◌∙◌, arith}
 use Rattle.go_grammar.specs.Trees.{Tree, node, Trees, none, more, skip, first, last}
-use Rattle.go_splice.specs.Lists.{InOrder, Ordered}
-use Rattle.go_splice.specs.Places.{carry, carries}
-use Rattle.go_splice.proofs.Order.{tree_order, row_order}
+use Rattle.go_rewriting.specs.Lists.{InOrder, Ordered}
+use Rattle.go_rewriting.specs.Places.{carry, carries}
+use Rattle.go_rewriting.proofs.Public.{tree_order, row_order}
 
 module _ (f g : ℕ → ℕ) where
   mutual

@@ -4,9 +4,9 @@ use Rattle.go_tokens.specs.declared.token.TokenKind.{TokenKind}
 use Rattle.go_tokens.specs.Tokens.{kinds}
 use Rattle.go_grammar.specs.declared.kind.Category.TheVariants as category
 use Rattle.go_grammar.specs.Trees.{Tree, node, Trees, none, more, skip, kind_of, first, last, parts}
-use Rattle.go_splice.specs.Lists.{InOrder}
-use Rattle.go_splice.specs.Places.{carry, carries}
-use Rattle.go_splice.proofs.Order.{derives_ordered}
+use Rattle.go_rewriting.specs.Lists.{InOrder}
+use Rattle.go_rewriting.specs.Places.{carry, carries}
+use Rattle.go_rewriting.proofs.Public.{derives_ordered}
 use Rattle.go_tree.specs.Lists.{is_function}
 use Rattle.go_heads.specs.Heads.{File, IsRead, is_within, in_bodies, place_outside, head_of, heads, without_body, without_bodies, outline}
 use Rattle.go_heads.specs.Functions.{AreRead, alone, parts_there, declarations_in, all_declarations}

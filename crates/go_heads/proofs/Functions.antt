@@ -11,12 +11,10 @@ use Rattle.go_grammar.specs.Trees.{Tree, node, Trees, none, more, skip, first, l
 use Rattle.go_grammar.specs.Trees as trees
 use Rattle.go_grammar.proofs.Ranges.{lies_within}
 use Rattle.go_grammar.proofs.Unique.{unique}
-use Rattle.go_splice.specs.Lists.{InOrder, Elsewhere}
-use Rattle.go_splice.specs.Places.{carry}
-use Rattle.go_splice.specs.Replacing.{moved}
-use Rattle.go_splice.proofs.Kept.{soft_same, first_carry, last_carry}
-use Rattle.go_splice.proofs.Mild.{text_elsewhere}
-use Rattle.go_splice.proofs.Order.{tree_order, derives_ordered}
+use Rattle.go_rewriting.specs.Lists.{InOrder, Elsewhere}
+use Rattle.go_rewriting.specs.Places.{carry}
+use Rattle.go_rewriting.specs.Replacing.{moved}
+use Rattle.go_rewriting.proofs.Public.{soft_same, first_carry, last_carry, text_elsewhere, tree_order, derives_ordered}
 use Rattle.go_tree.specs.Lists.{is_function}
 use Rattle.go_tree.specs.Units.{word}
 use Rattle.go_heads.specs.Heads.{File, IsRead, Head, body_of, in_bodies, outside, place_outside, texts, head_of, without_body}

@@ -5,7 +5,7 @@ use Rattle.go_tokens.specs.declared.token.TokenKind.{TokenKind}
 use Rattle.go_tokens.specs.Tokens.{kinds}
 use Rattle.go_grammar.specs.declared.kind.Kind.{Kind}
 use Rattle.go_grammar.specs.Trees.{Tree, node, Trees, none, more, skip, kind_of, first, parts}
-use Rattle.go_splice.specs.Places.{carry, carries}
+use Rattle.go_rewriting.specs.Places.{carry, carries}
 use Rattle.go_tree.specs.Lists.{is_function, functions}
 use Rattle.go_heads.specs.Heads.{File, IsRead, in_bodies, place_outside, head_of, heads, without_body, without_bodies, outline}
 use Rattle.go_heads.specs.Functions.{Function, functions_in, all_functions, function_alone, signature_alone, body_texts, KeepsFunctions, AreRead}

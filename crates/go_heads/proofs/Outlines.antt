@@ -14,12 +14,10 @@ use Rattle.go_grammar.specs.Trees.{Tree, node, Trees, none, more, skip, kind_of,
 use Rattle.go_grammar.specs.Grammar.{rule, result_words, IsAt, Words, Derives, Spells, Goes, IsFile}
 use Rattle.go_grammar.specs.Words.{is_word, is_among}
 use Rattle.go_grammar.proofs.Ranges.{words_order}
-use Rattle.go_splice.specs.Lists.{InOrder, Ordered}
-use Rattle.go_splice.specs.Places.{carry, carries}
-use Rattle.go_splice.specs.Replacing.{Edge}
-use Rattle.go_splice.proofs.Kept.{Stay, soft_same, words_kept, derives_kept, first_carry, last_carry}
-use Rattle.go_splice.proofs.Mild.{part_mild}
-use Rattle.go_splice.proofs.Order.{tree_order, derives_ordered, goes_ordered, spells_ordered}
+use Rattle.go_rewriting.specs.Lists.{InOrder, Ordered}
+use Rattle.go_rewriting.specs.Places.{carry, carries}
+use Rattle.go_rewriting.specs.Replacing.{Edge}
+use Rattle.go_rewriting.proofs.Public.{Stay, soft_same, words_kept, derives_kept, first_carry, last_carry, part_mild, tree_order, derives_ordered, goes_ordered, spells_ordered}
 use Rattle.go_tree.specs.Lists.{is_function}
 use Rattle.go_heads.specs.Heads.{body_behind, body_of, is_within, in_bodies, outside, place_outside, without_body, without_bodies, outline}
 use Rattle.go_heads.proofs.Bodies.{before, inside, body_past, row_before, in_first, in_others}

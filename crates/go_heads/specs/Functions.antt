@@ -3,7 +3,7 @@ use Rattle.std.specs.Prelude.{◌≡◌, ℕ, zero, suc, ◌-◌, true, List, []
 use Rattle.std.specs.List.{AllByRecursion}
 use Rattle.go_grammar.specs.Grammar.{IsFile}
 use Rattle.go_grammar.specs.Trees.{Tree, Trees, none, more, skip, first, last, parts}
-use Rattle.go_splice.specs.Places.{carry}
+use Rattle.go_rewriting.specs.Places.{carry}
 use Rattle.go_tokens.specs.Tokens.{TokenList, kinds}
 use Rattle.go_tree.specs.Lists.{functions}
 use Rattle.go_tree.specs.Units.{word}

@@ -1,2 +1,11 @@
 pub mod Heads
 pub mod Functions
+pub mod Told
+pub mod Objects
+pub mod Meanings
+pub mod Lookups
+pub mod Bodies
+pub mod Names
+pub mod Locals
+pub mod FunctionNames
+pub mod Tokens

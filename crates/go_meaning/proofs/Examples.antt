@@ -3,7 +3,7 @@ use Rattle.std.proofs.Common.{refl}
 use Rattle.std.specs.Char.{encode_utf8}
 use Rattle.std.specs.Fmt.{digits}
 use Rattle.std.specs.Str.{chars, is_utf8}
-use Rattle.type_tests.specs.Questions.{answers}
+use Rattle.go_types_relations.specs.Questions.{answers}
 use Rattle.go_ints.specs.Wrapping.{wrapped}
 use Rattle.go_meaning.specs.Computations.{undecided, end_by, then_do, looped, clause, read, write, spend, enter, each, in_order, falling, over}
 use Rattle.go_meaning.specs.Operations.{operate}

@@ -2,7 +2,7 @@
 -- those of the old one, at turns that grow by no more than a factor and a cost; and it has printed what the old one has.
 use Rattle.std.proofs.Common.{◌≡◌, ℕ, zero, suc, ◌+◌, ◌-◌, ◌*◌, ◌≤◌, List, [], ◌∷◌, ◌++◌, sym, ap, ◌∙◌, subst, arith, take, drop}
 use Rattle.std.specs.Prelude.{ℤ, Bool, true, false, slice_set}
-use Rattle.type_tests.specs.Zeros.{Zero}
+use Rattle.go_types_relations.specs.Zeros.{Zero}
 use Rattle.go_meaning.specs.Values.{Value, Truth, Whole, Function, nth, is_true, zero_value}
 use Rattle.go_meaning.specs.Computations.{World, Ending, Next, Return, Break, Continue, Fallthrough, Panics, Outcome, Ends, Undecided, Comp, output_of, go_on, go_round, go_down, leave, undecided, end_by, then_do, looped, clause, read, write, spend, enter, choose, over}
 use Rattle.go_meaning.specs.Operations.{Operation, Items, Deed, Gives, Traps, perform, done, operate, item_count}

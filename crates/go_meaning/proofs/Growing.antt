@@ -6,7 +6,7 @@ use Rattle.go_ints.specs.declared.operators.Trap.{Trap}
 use Rattle.go_ints.specs.declared.operators.Trap.TheVariants.{DivideZero, NegativeShift}
 use Rattle.go_ints.specs.Arithmetic.{arithmetic}
 use Rattle.go_grammar.specs.declared.kind.Comparison.TheVariants.{Equal}
-use Rattle.type_tests.specs.Zeros.{Zero}
+use Rattle.go_types_relations.specs.Zeros.{Zero}
 use Rattle.go_meaning.specs.Values.{Value, Truth, Whole, Text, Parts, Slice, NilSlice, Function, NilFunction, nth, whole_of, is_true, text_of, zero_value, index_below}
 use Rattle.go_meaning.specs.Texts.{line_of}
 use Rattle.go_meaning.specs.Computations

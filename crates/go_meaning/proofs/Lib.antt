@@ -9,3 +9,4 @@ pub mod Equal
 pub mod Clock
 pub mod Renaming
 pub mod Bound
+pub mod Public

@@ -2,7 +2,7 @@
 use Rattle.std.proofs.Common.{◌≡◌, ℕ, zero, suc, ◌≤◌, List, [], ◌∷◌, ◌++◌, refl, sym, ap, subst, arith, take, drop, replicate}
 use Rattle.std.specs.Prelude.{pos, Bool, true, false}
 use Rattle.go_grammar.specs.declared.kind.Comparison.TheVariants.{Equal}
-use Rattle.type_tests.specs.Zeros.{Zero, nil_function}
+use Rattle.go_types_relations.specs.Zeros.{Zero, nil_function}
 use Rattle.go_meaning.specs.Values.{Value, Truth, Whole, Text, Parts, Slice, NilSlice, Function, NilFunction, nth, is_true, zero_value}
 use Rattle.go_meaning.specs.Computations.{Panic, NilCall, Next, Return, Break, Continue, Fallthrough, Panics, Comp, undecided, end_by, give, then_do, one, looped, clause, read, write, spend, choose, each, in_order, falling, over}
 use Rattle.go_meaning.specs.Operations.{Operation, Items, Fixed, Elements, Cells, Runes, Compare, Field, WithField, Element, WithElement, InArray, Cell, SetCell, InSlice, ReadVariable, WriteVariable, Item, operate, item_count}

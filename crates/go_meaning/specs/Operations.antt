@@ -12,7 +12,7 @@ use Rattle.go_ints.specs.Bitwise.{complement}
 use Rattle.go_ints.specs.Kinds.{wrapped_into}
 use Rattle.go_grammar.specs.declared.kind.Comparison.{Comparison}
 use Rattle.go_grammar.specs.declared.kind.Comparison.TheVariants.{Equal, NotEqual, Less, LessEqual, Greater, GreaterEqual}
-use Rattle.type_tests.specs.Zeros.{Zero}
+use Rattle.go_types_relations.specs.Zeros.{Zero}
 use Rattle.go_meaning.specs.Values.{Value, Truth, Whole, Text, Parts, Slice, NilSlice, NilFunction, nth, parts_of, whole_of, is_true, text_of, byte_of, zero_value, with_part, index_below, same_value, valued}
 use Rattle.go_meaning.specs.Texts.{Rune, runes_of, text_of_code, line_of}
 use Rattle.go_meaning.specs.Computations.{World, Panic, Divide, Shift, Index, Slicing, Make, User, Next, Panics, Outcome, Ends, Comp}

@@ -15,8 +15,8 @@ use Rattle.go_tree.specs.declared.object.Predeclared.{Predeclared}
 use Rattle.go_tree.specs.declared.object.Predeclared.TheVariants as predeclared
 use Rattle.go_types.specs.Trees.{TypeTree, boolean, text, integer, array, slice}
 use Rattle.go_types.specs.Relations.{Rights}
-use Rattle.type_tests.specs.Tests.{underlying_of}
-use Rattle.type_tests.specs.Zeros.{Zero, nil_function, zero_of}
+use Rattle.go_types_relations.specs.Tests.{underlying_of}
+use Rattle.go_types_relations.specs.Zeros.{Zero, nil_function, zero_of}
 use Rattle.go_typed.specs.declared.form.Form.{Form}
 use Rattle.go_typed.specs.declared.form.Form.TheVariants as form
 use Rattle.go_typed.specs.declared.form.Referent.{Referent}

@@ -1,6 +1,6 @@
 -- What a node does by itself, apart from its parts: all that its types tell is resolved here.
 use Rattle.std.specs.Prelude.{ℕ, Bool}
-use Rattle.type_tests.specs.Zeros.{Zero}
+use Rattle.go_types_relations.specs.Zeros.{Zero}
 use Rattle.go_meaning.specs.Values.{Value}
 use Rattle.go_meaning.specs.Operations.{Operation, Items}
 

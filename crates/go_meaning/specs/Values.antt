@@ -4,7 +4,7 @@ use Rattle.std.specs.Ordering.{int_eq}
 use Rattle.std.specs.Str.{bytes_eq}
 use Rattle.go_constants.specs.declared.values.Const.{Const}
 use Rattle.go_constants.specs.declared.values.Const.TheVariants as const
-use Rattle.type_tests.specs.Zeros.{Zero, false_value, number_zero, empty_text, elements, fields, nil_slice, nil_function, ZeroRow, no_zeros, more_zeros}
+use Rattle.go_types_relations.specs.Zeros.{Zero, false_value, number_zero, empty_text, elements, fields, nil_slice, nil_function, ZeroRow, no_zeros, more_zeros}
 
 mutual
   -- A value. It doesn't tell its type.
@@ -39,7 +39,7 @@ copies zero v = none
 copies (suc n) v = more v (copies n v)
 
 abbrev mutual
-  -- what a zero value of type_tests is here
+  -- what a zero value of go_types_relations is here
   pub zero_value : Zero → Value
   zero_value false_value = Truth false
   zero_value number_zero = Whole (pos 0)

@@ -7,10 +7,10 @@ use Rattle.std.specs.HashMap.{HashMap}
 use Rattle.std.specs.HashMap as hash
 use Rattle.go_tree.specs.Declarations.{Found}
 use Rattle.go_tree.specs.Needs.{Needed}
-use Rattle.go_package.specs.Declarations.{Specification}
-use Rattle.go_package.specs.Knowledge.{Outline, State, state_of, outlines}
-use Rattle.go_package.specs.Sources.{Package, declared_at, needed_from, needed_at}
-use Rattle.go_package.specs.Verdicts.{first_name, needed_columns, needed_by_all, numbers_of, is_in, needs_one, blocks, is_blocked}
+use Rattle.go_package_defs.specs.Declarations.{Specification}
+use Rattle.go_package_defs.specs.Knowledge.{Outline, State, state_of, outlines}
+use Rattle.go_package_defs.specs.Sources.{Package, declared_at, needed_from, needed_at}
+use Rattle.go_package_defs.specs.Verdicts.{first_name, needed_columns, needed_by_all, numbers_of, is_in, needs_one, blocks, is_blocked}
 use Rattle.go_needs.specs.declared.declaring.Declaring.{Declaring}
 use Rattle.go_needs.specs.declared.groups.Group.{Group}
 use Rattle.go_needs.specs.declared.needs.Needs.{Needs}
@@ -19,7 +19,7 @@ use Rattle.go_needs.specs.Blocked.{any_below, any_by, any_column, any_there, fla
 use Rattle.go_needs.specs.Groups.{Seen, group_view, group_in}
 use Rattle.go_needs.specs.Levels.{near, fails_at}
 use Rattle.go_needs.specs.Owners.{owner_of}
-use Rattle.go_cycles.specs.Ranks.{Place, same_place}
+use Rattle.go_scopes_cycles.specs.Ranks.{Place, same_place}
 use Rattle.go_needs.specs.Passing.{is_faulty, is_misassigned}
 use Rattle.go_needs.specs.Reached.{AreCalls, IsOurs, TellFailing, Reaches}
 use Rattle.go_needs.specs.Tells.{TellsNeeds}

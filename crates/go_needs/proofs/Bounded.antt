@@ -4,20 +4,20 @@ use Rattle.std.specs.Prelude.{if◌then◌else◌, slice_get}
 use Rattle.std.specs.HashMap.{HashMap}
 use Rattle.std.specs.HashMap as hash
 use Rattle.go_tree.specs.Needs.{Needed, with_all, needs, needs_of, all_needed}
-use Rattle.go_package.specs.Declarations.{Specification}
-use Rattle.go_package.specs.Knowledge.{Outline, outlines}
-use Rattle.go_package.specs.Sources.{Package, number_before, needed_numbers, rounds, needed_by}
+use Rattle.go_package_defs.specs.Declarations.{Specification}
+use Rattle.go_package_defs.specs.Knowledge.{Outline, outlines}
+use Rattle.go_package_defs.specs.Sources.{Package, number_before, needed_numbers, rounds, needed_by}
 use Rattle.go_needs.specs.declared.bounds.Bound.{Bound}
 use Rattle.go_needs.specs.declared.calls.Call.{Call}
 use Rattle.go_needs.specs.declared.levels.Levels.{Levels}
 use Rattle.go_needs.specs.declared.needs.Needs.{Needs}
 use Rattle.go_needs.specs.declared.owners.Owner.{Owner}
-use Rattle.go_cycles.specs.declared.ranks.Part.TheVariants as part
+use Rattle.go_scopes_cycles.specs.declared.ranks.Part.TheVariants as part
 use Rattle.go_needs.specs.Bounds.{AtMost, AllAtMost, AreBounds, level_under, is_low, bounds_one, bounds_by, is_bounded, are_bounded}
 use Rattle.go_needs.specs.Calls.{calls_of, fits}
 use Rattle.go_needs.specs.Levels.{level_of, nearer, here, nearest, near_in, near, KnowsNearest}
 use Rattle.go_needs.specs.Owners.{owner_of}
-use Rattle.go_cycles.specs.Ranks.{Place, same_place, own_part}
+use Rattle.go_scopes_cycles.specs.Ranks.{Place, same_place, own_part}
 use Rattle.go_needs.specs.Reached.{IsOurs}
 use Rattle.go_needs.specs.Tells.{TellsNeeds}
 use Rattle.go_needs.proofs.Called.{Each, Fits, Has, all_none}

@@ -6,15 +6,15 @@ use Rattle.go_tree.specs.Lookups.{Asked}
 use Rattle.go_tree.specs.declared.context.Site.{Site}
 use Rattle.go_tree.specs.declared.context.Site.TheVariants as site
 use Rattle.go_tree.specs.Needs.{Needed, if_so, way, way_by, needs}
-use Rattle.go_cycles.specs.Needs.{source_of, way_of, needed_in, needed_by}
-use Rattle.go_cycles.specs.Columns.{same_source}
-use Rattle.go_cycles.specs.Ranks.{Place}
-use Rattle.go_cycles.proofs.AllNeeded.{needs_some, needs_none}
-use Rattle.go_package.specs.Sources.{Package, number_at}
+use Rattle.go_scopes_cycles.specs.Needs.{source_of, way_of, needed_in, needed_by}
+use Rattle.go_scopes_cycles.specs.Columns.{same_source}
+use Rattle.go_scopes_cycles.specs.Ranks.{Place}
+use Rattle.go_scopes_cycles.proofs.Public.{needs_some, needs_none}
+use Rattle.go_package_defs.specs.Sources.{Package, number_at}
 use Rattle.go_needs.specs.declared.calls.Call.{Call}
 use Rattle.go_needs.specs.declared.levels.Levels.{Levels}
 use Rattle.go_needs.specs.declared.owners.Owner.{Owner}
-use Rattle.go_cycles.specs.declared.ranks.Part.{Part}
+use Rattle.go_scopes_cycles.specs.declared.ranks.Part.{Part}
 use Rattle.go_needs.specs.Calls.{is_counted, number_of, call_at, call_if, call_of, with_call, calls_of, is_owner, is_fit, fits_if, fits_one, fits}
 use Rattle.go_needs.specs.Levels.{level_of, nearer, here, nearest, near_in, near}
 use Rattle.go_needs.specs.Owners.{owner_of, same_owner, has_source}

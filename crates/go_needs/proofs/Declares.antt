@@ -1,8 +1,8 @@
 -- What declares a name is the specification of the definition.
 use Rattle.std.proofs.Common.{◌≡◌, ◌∙◌, ℕ, suc, ◌+◌, Bool, true, false, ◌&&◌, nat_eq, List, [], ◌∷◌, Option, Some, None, refl, ap, sym, arith}
 use Rattle.std.specs.Prelude.{slice_get, if◌then◌else◌}
-use Rattle.go_package.specs.Declarations.{Specification}
-use Rattle.go_package.specs.Knowledge.{following, place_of, column_of, found_or, declaring}
+use Rattle.go_package_defs.specs.Declarations.{Specification}
+use Rattle.go_package_defs.specs.Knowledge.{following, place_of, column_of, found_or, declaring}
 use Rattle.go_needs.specs.declared.declaring.Declaring.{Declaring}
 use Rattle.go_needs.specs.Declaring.{over_names, declaring_from}
 use Rattle.go_needs.proofs.Maps.{some_is}

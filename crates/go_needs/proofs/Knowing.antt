@@ -8,9 +8,9 @@ use Rattle.std.specs.HashMap as hash
 use Rattle.go_tree.specs.declared.object.Declared.{Declared}
 use Rattle.go_tree.specs.Declarations.{Found}
 use Rattle.go_tree.specs.Needs.{Needed}
-use Rattle.go_package.specs.Declarations.{Specification}
-use Rattle.go_package.specs.Knowledge.{Outline, declaring, outline_by, outlines}
-use Rattle.go_package.specs.Sources.{Package, declared_at, needed_by, needed_from, needed_at}
+use Rattle.go_package_defs.specs.Declarations.{Specification}
+use Rattle.go_package_defs.specs.Knowledge.{Outline, declaring, outline_by, outlines}
+use Rattle.go_package_defs.specs.Sources.{Package, declared_at, needed_by, needed_from, needed_at}
 use Rattle.go_needs.specs.declared.declaring.Declaring.{Declaring}
 use Rattle.go_needs.specs.declared.needs.Needs.{Needs}
 use Rattle.go_needs.specs.declared.owners.Owner.{Owner}
@@ -19,7 +19,7 @@ use Rattle.go_needs.specs.Groups.{roots}
 use Rattle.go_needs.specs.Levels.{near}
 use Rattle.go_needs.specs.Objects.{with_column, owner_in}
 use Rattle.go_needs.specs.Owners.{owner_of}
-use Rattle.go_cycles.specs.Ranks.{Place, same_place}
+use Rattle.go_scopes_cycles.specs.Ranks.{Place, same_place}
 use Rattle.go_needs.specs.Reached.{IsOurs, Reaches}
 use Rattle.go_needs.specs.Tells.{TellsNeeds}
 use Rattle.go_needs.proofs.Declares.{declares}

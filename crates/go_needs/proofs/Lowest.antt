@@ -1,11 +1,11 @@
 -- The lower of levels.
 use Rattle.std.proofs.Common.{◌≡◌, ◌∙◌, ℕ, Bool, true, false, min, nat_le, Option, Some, None, refl, ap, arith, inl, inr, ◌⊎◌}
 use Rattle.std.specs.Prelude.{if◌then◌else◌}
-use Rattle.go_cycles.specs.declared.ranks.Part.{Part}
-use Rattle.go_cycles.specs.declared.ranks.Part.TheVariants as part
+use Rattle.go_scopes_cycles.specs.declared.ranks.Part.{Part}
+use Rattle.go_scopes_cycles.specs.declared.ranks.Part.TheVariants as part
 use Rattle.go_needs.specs.Levels.{nearer, here, near_in}
-use Rattle.go_cycles.specs.Ranks.{Place, same_place, own_part}
-use Rattle.go_cycles.proofs.Ranked.{place_sound}
+use Rattle.go_scopes_cycles.specs.Ranks.{Place, same_place, own_part}
+use Rattle.go_scopes_cycles.proofs.Public.{place_sound}
 use Rattle.go_needs.proofs.Standing.{IsOwnPart, place_itself}
 
 pub left_none : (a b : Option ℕ) → nearer a b ≡ None → a ≡ None

@@ -6,16 +6,16 @@ use Rattle.std.specs.Bool.{beq}
 use Rattle.std.specs.List.{list_any}
 use Rattle.std.specs.HashMap.{HashMap}
 use Rattle.std.specs.HashMap as hash
-use Rattle.go_rules.specs.Scopes.{at_once, in_full}
-use Rattle.go_package.specs.Declarations.{Specification}
-use Rattle.go_package.specs.Knowledge.{Outline, State, state_of, outlines, all_pass, needs_of, passes}
-use Rattle.go_package.specs.Sources.{Package}
+use Rattle.go_exprs_rules.specs.Scopes.{at_once, in_full}
+use Rattle.go_package_defs.specs.Declarations.{Specification}
+use Rattle.go_package_defs.specs.Knowledge.{Outline, State, state_of, outlines, all_pass, needs_of, passes}
+use Rattle.go_package_defs.specs.Sources.{Package}
 use Rattle.go_needs.specs.declared.needs.Needs.{Needs}
 use Rattle.go_needs.specs.declared.needs.Passing.{Passing}
 use Rattle.go_needs.specs.declared.owners.Owner.{Owner}
 use Rattle.go_needs.specs.Blocked.{passing_of, passings, not_passing}
 use Rattle.go_needs.specs.Levels.{near, fails_at}
-use Rattle.go_cycles.specs.Ranks.{Place, same_place}
+use Rattle.go_scopes_cycles.specs.Ranks.{Place, same_place}
 use Rattle.go_needs.specs.Passing.{ArePassing}
 use Rattle.go_needs.specs.Reached.{AreCalls, TellFailing, Reaches}
 use Rattle.go_needs.specs.Tells.{TellsNeeds}

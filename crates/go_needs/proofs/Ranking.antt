@@ -7,10 +7,10 @@ use Rattle.std.specs.HashMap.{HashMap}
 use Rattle.std.specs.HashMap as hash
 use Rattle.go_tree.specs.Declarations.{Found}
 use Rattle.go_tree.specs.Needs.{Needed}
-use Rattle.go_package.specs.Declarations.{Specification}
-use Rattle.go_package.specs.Knowledge.{State, state_of, outlines}
-use Rattle.go_package.specs.Sources.{Package, declared_at, rounds, needed_by, needed_from, needed_at}
-use Rattle.go_package.specs.Verdicts.{first_name, needed_columns, needed_by_all, numbers_of, is_in, needs_one, blocks, is_blocked}
+use Rattle.go_package_defs.specs.Declarations.{Specification}
+use Rattle.go_package_defs.specs.Knowledge.{State, state_of, outlines}
+use Rattle.go_package_defs.specs.Sources.{Package, declared_at, rounds, needed_by, needed_from, needed_at}
+use Rattle.go_package_defs.specs.Verdicts.{first_name, needed_columns, needed_by_all, numbers_of, is_in, needs_one, blocks, is_blocked}
 use Rattle.go_needs.specs.declared.groups.Group.{Group}
 use Rattle.go_needs.specs.declared.levels.Levels.{Levels}
 use Rattle.go_needs.specs.declared.needs.Needs.{Needs}
@@ -20,7 +20,7 @@ use Rattle.go_needs.specs.Calls.{calls_of}
 use Rattle.go_needs.specs.Groups.{Seen, group_view}
 use Rattle.go_needs.specs.Levels.{near, nearest, fails_at, level_of, KnowsNearest}
 use Rattle.go_needs.specs.Owners.{owner_of}
-use Rattle.go_cycles.specs.Ranks.{Place, same_place}
+use Rattle.go_scopes_cycles.specs.Ranks.{Place, same_place}
 use Rattle.go_needs.specs.Passing.{is_faulty, is_misassigned}
 use Rattle.go_needs.specs.Ranks.{rank_at, rank_by, own_bound, AreRanks, low_below, low_by, is_ranked, are_ranked, descends, is_lower, is_lower_at, are_lower, is_under, any_under, all_from, shown_by, is_shown, shown}
 use Rattle.go_needs.specs.Reached.{IsOurs}

@@ -3,13 +3,13 @@ use Rattle.std.proofs.Common.{◌≡◌, ◌∙◌, ℕ, zero, suc, ◌<◌, ◌
 use Rattle.std.specs.Prelude.{if◌then◌else◌, slice_get}
 use Rattle.std.specs.List.{list_any}
 use Rattle.go_tree.specs.Needs.{Needed, is_same, same_way, is_known, with_one, with_all, needs, needs_of, all_needed}
-use Rattle.go_package.specs.Sources.{Package, number_at, number_before, needed_numbers, rounds, needed_by}
+use Rattle.go_package_defs.specs.Sources.{Package, number_at, number_before, needed_numbers, rounds, needed_by}
 use Rattle.go_needs.specs.declared.levels.Levels.{Levels}
 use Rattle.go_needs.specs.declared.owners.Owner.{Owner}
 use Rattle.go_needs.specs.Calls.{calls_of, fits}
 use Rattle.go_needs.specs.Levels.{level_of, nearest, near, settled}
 use Rattle.go_needs.specs.Owners.{owner_of}
-use Rattle.go_cycles.specs.Ranks.{Place}
+use Rattle.go_scopes_cycles.specs.Ranks.{Place}
 use Rattle.go_needs.specs.Reached.{IsOurs}
 use Rattle.go_needs.proofs.Standing.{both_left, both_right, same_number}
 use Rattle.go_needs.proofs.Here.{ours_object}

@@ -3,14 +3,14 @@ use Rattle.std.proofs.Common.{◌≡◌, ◌∙◌, ℕ, zero, suc, ◌<◌, ◌
 use Rattle.std.specs.Prelude.{slice_get}
 use Rattle.std.specs.HashMap.{HashMap}
 use Rattle.std.specs.HashMap as hash
-use Rattle.go_package.specs.Sources.{Package, rounds}
+use Rattle.go_package_defs.specs.Sources.{Package, rounds}
 use Rattle.go_needs.specs.declared.calls.Call.{Call}
 use Rattle.go_needs.specs.declared.levels.Levels.{Levels}
 use Rattle.go_needs.specs.declared.owners.Owner.{Owner}
-use Rattle.go_cycles.specs.declared.ranks.Part.TheVariants as part
+use Rattle.go_scopes_cycles.specs.declared.ranks.Part.TheVariants as part
 use Rattle.go_needs.specs.Calls.{calls_of}
 use Rattle.go_needs.specs.Levels.{level_of, nearer, nearest, near_in, near, settled, fails_at, is_settled, are_settled, KnowsNearest}
-use Rattle.go_cycles.specs.Ranks.{Place, same_place, own_part}
+use Rattle.go_scopes_cycles.specs.Ranks.{Place, same_place, own_part}
 use Rattle.go_needs.specs.Reached.{AreCalls, TellFailing, Reaches}
 use Rattle.go_needs.proofs.Standing.{both_left, both_right}
 use Rattle.go_needs.proofs.Reaching.{reaches}

@@ -5,8 +5,8 @@ use Rattle.go_tree.specs.declared.context.Site.{Site}
 use Rattle.go_tree.specs.declared.context.Site.TheVariants as site
 use Rattle.go_tree.specs.Lookups.{Asked}
 use Rattle.go_tree.specs.Uses.{UsesView}
-use Rattle.go_lookup.specs.Sited.{is_sited, sited}
-use Rattle.go_cycles.specs.Needs.{source_of}
+use Rattle.go_scopes_lookup.specs.Sited.{is_sited, sited}
+use Rattle.go_scopes_cycles.specs.Needs.{source_of}
 use Rattle.go_needs.specs.declared.owners.Owner.{Owner}
 use Rattle.go_needs.specs.Calls.{is_counted, call_if, call_of, with_call, calls_of, fits_if, fits_one, fits}
 

@@ -6,10 +6,10 @@ use Rattle.go_tree.specs.declared.context.Reach.TheVariants as reach
 use Rattle.go_tree.specs.Needs.{if_so, right_way, way_by}
 use Rattle.go_needs.specs.Calls.{is_counted}
 use Rattle.go_needs.specs.declared.owners.Owner.{Owner}
-use Rattle.go_cycles.specs.declared.ranks.Part.{Part}
-use Rattle.go_cycles.specs.declared.ranks.Part.TheVariants as part
+use Rattle.go_scopes_cycles.specs.declared.ranks.Part.{Part}
+use Rattle.go_scopes_cycles.specs.declared.ranks.Part.TheVariants as part
 use Rattle.go_needs.specs.Owners.{has_source}
-use Rattle.go_cycles.specs.Ranks.{Place, same_part, same_place, own_part}
+use Rattle.go_scopes_cycles.specs.Ranks.{Place, same_part, same_place, own_part}
 use Rattle.go_needs.specs.Parts.{place_of}
 
 pub both_left : (b c : Bool) → (b && c) ≡ true → b ≡ true

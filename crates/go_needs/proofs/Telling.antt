@@ -3,15 +3,15 @@ use Rattle.std.proofs.Common.{◌≡◌, ◌∙◌, ℕ, true, List, [], ◌∷�
 use Rattle.std.specs.Option.{option_map}
 use Rattle.std.specs.HashMap.{HashMap}
 use Rattle.std.specs.HashMap as hash
-use Rattle.go_lookup.specs.Tables.{same_spot}
+use Rattle.go_scopes_lookup.specs.Tables.{same_spot}
 use Rattle.go_tree.specs.File.{FileTree}
 use Rattle.go_tree.specs.Declarations.{Found}
 use Rattle.go_tree.specs.Units.{Unit}
 use Rattle.go_tree.specs.Uses.{UsesView, object_of}
 use Rattle.go_scopes.specs.Resolve.{units_of}
-use Rattle.go_package.specs.Declarations.{Specification}
-use Rattle.go_package.specs.Sources.{Package, source_of, unit_of, number_in, number_before, declared_at}
-use Rattle.go_package.specs.Verdicts.{first_name, numbers_of}
+use Rattle.go_package_defs.specs.Declarations.{Specification}
+use Rattle.go_package_defs.specs.Sources.{Package, source_of, unit_of, number_in, number_before, declared_at}
+use Rattle.go_package_defs.specs.Verdicts.{first_name, numbers_of}
 use Rattle.go_needs.specs.declared.calls.Call.{Call}
 use Rattle.go_needs.specs.declared.declaring.Declaring.{Declaring}
 use Rattle.go_needs.specs.declared.needs.Held.{Held}

@@ -1,12 +1,12 @@
 -- Which objects block the rule of a specification.
 use Rattle.std.specs.Prelude.{ℕ, zero, suc, Bool, true, false, ◌&&◌, ◌||◌, not, List, [], ◌∷◌, Option, Some, None, is_some, slice_get}
-use Rattle.go_package.specs.Verdicts.{is_in}
+use Rattle.go_package_defs.specs.Verdicts.{is_in}
 use Rattle.go_needs.specs.declared.declaring.Declaring.{Declaring}
 use Rattle.go_needs.specs.declared.groups.Group.{Group}
 use Rattle.go_needs.specs.declared.needs.Passing.{Passing}
 use Rattle.go_needs.specs.declared.owners.Owner.{Owner}
 use Rattle.go_needs.specs.Levels.{near, fails_at}
-use Rattle.go_cycles.specs.Ranks.{Place}
+use Rattle.go_scopes_cycles.specs.Ranks.{Place}
 
 abbrev pub passing_of : (Place → Option ℕ) → List Bool → ℕ → Owner → Passing
 passing_of g bs n o = record { at_once = fails_at bs n && not (is_some (near g o false)); in_full = fails_at bs n && not (is_some (near g o true)) }

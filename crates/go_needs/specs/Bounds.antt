@@ -1,11 +1,11 @@
 -- Numbers that bound the ranks of objects with all that they need.
 use Rattle.std.specs.Prelude.{◌≡◌, ℕ, suc, ◌-◌, ◌≤◌, Bool, true, false, ◌&&◌, nat_le, List, [], ◌∷◌, slice_get, Option, Some, None}
-use Rattle.go_package.specs.Knowledge.{Outline}
+use Rattle.go_package_defs.specs.Knowledge.{Outline}
 use Rattle.go_needs.specs.declared.bounds.Bound.{Bound}
 use Rattle.go_needs.specs.declared.levels.Levels.{Levels}
 use Rattle.go_needs.specs.declared.owners.Owner.{Owner}
 use Rattle.go_needs.specs.Levels.{near}
-use Rattle.go_cycles.specs.Ranks.{Place}
+use Rattle.go_scopes_cycles.specs.Ranks.{Place}
 
 -- No object of the list has a rank above k, and each has one.
 abbrev pub AtMost : Option ℕ → ℕ → Type 0

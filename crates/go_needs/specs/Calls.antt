@@ -5,8 +5,8 @@ use Rattle.go_tree.specs.declared.context.Site.TheVariants as site
 use Rattle.go_tree.specs.Declarations.{Found}
 use Rattle.go_tree.specs.Lookups.{Asked}
 use Rattle.go_tree.specs.Uses.{UsesView, object_of}
-use Rattle.go_cycles.specs.Needs.{source_of}
-use Rattle.go_package.specs.Sources.{number_in}
+use Rattle.go_scopes_cycles.specs.Needs.{source_of}
+use Rattle.go_package_defs.specs.Sources.{number_in}
 use Rattle.go_needs.specs.declared.calls.Call.{Call}
 use Rattle.go_needs.specs.declared.owners.Owner.{Owner}
 use Rattle.go_needs.specs.Owners.{owner_of, same_owner, has_source}

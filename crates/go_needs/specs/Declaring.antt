@@ -3,8 +3,8 @@ use Rattle.std.specs.Prelude.{◌≡◌, ℕ, suc, ◌&&◌, if◌then◌else◌
 use Rattle.std.specs.HashMap.{HashMap}
 use Rattle.std.specs.HashMap as hash
 use Rattle.go_tree.specs.declared.object.Declared.{Declared}
-use Rattle.go_lookup.specs.Tables.{same_spot}
-use Rattle.go_package.specs.Declarations.{Specification}
+use Rattle.go_scopes_lookup.specs.Tables.{same_spot}
+use Rattle.go_package_defs.specs.Declarations.{Specification}
 use Rattle.go_needs.specs.declared.declaring.Declaring.{Declaring}
 
 -- the names of the specification of the number i in the file m, from the number c on, before those of others

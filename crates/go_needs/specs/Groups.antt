@@ -4,10 +4,10 @@ use Rattle.std.specs.Option.{option_map}
 use Rattle.std.specs.HashMap.{HashMap}
 use Rattle.std.specs.HashMap as hash
 use Rattle.go_tree.specs.Uses.{UsesView, object_of}
-use Rattle.go_lookup.specs.Tables.{same_spot}
-use Rattle.go_package.specs.Declarations.{Specification}
-use Rattle.go_package.specs.Sources.{Package, number_in, number_before, declared_at}
-use Rattle.go_package.specs.Verdicts.{first_name, numbers_of}
+use Rattle.go_scopes_lookup.specs.Tables.{same_spot}
+use Rattle.go_package_defs.specs.Declarations.{Specification}
+use Rattle.go_package_defs.specs.Sources.{Package, number_in, number_before, declared_at}
+use Rattle.go_package_defs.specs.Verdicts.{first_name, numbers_of}
 use Rattle.go_needs.specs.declared.groups.Group.{Group}
 use Rattle.go_needs.specs.declared.owners.Owner.{Owner}
 use Rattle.go_needs.specs.Owners.{owner_of}

@@ -5,8 +5,8 @@ use Rattle.std.specs.HashMap as hash
 use Rattle.go_needs.specs.declared.calls.Call.{Call}
 use Rattle.go_needs.specs.declared.levels.Levels.{Levels}
 use Rattle.go_needs.specs.declared.owners.Owner.{Owner}
-use Rattle.go_cycles.specs.declared.ranks.Part.TheVariants as part
-use Rattle.go_cycles.specs.Ranks.{Place, same_place, own_part}
+use Rattle.go_scopes_cycles.specs.declared.ranks.Part.TheVariants as part
+use Rattle.go_scopes_cycles.specs.Ranks.{Place, same_place, own_part}
 
 abbrev pub level_in : Option Levels → Bool → Option ℕ
 level_in None f = None

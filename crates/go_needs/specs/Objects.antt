@@ -5,9 +5,9 @@ use Rattle.std.specs.HashMap.{HashMap}
 use Rattle.std.specs.HashMap as hash
 use Rattle.go_tree.specs.declared.object.Declared.{Declared}
 use Rattle.go_tree.specs.Declarations.{Found}
-use Rattle.go_lookup.specs.Tables.{same_spot}
-use Rattle.go_package.specs.Declarations.{Specification}
-use Rattle.go_package.specs.Sources.{declared_at}
+use Rattle.go_scopes_lookup.specs.Tables.{same_spot}
+use Rattle.go_package_defs.specs.Declarations.{Specification}
+use Rattle.go_package_defs.specs.Sources.{declared_at}
 use Rattle.go_needs.specs.declared.declaring.Declaring.{Declaring}
 use Rattle.go_needs.specs.declared.owners.Owner.{Owner}
 use Rattle.go_needs.specs.Declaring.{declaring_by, declaring_in}

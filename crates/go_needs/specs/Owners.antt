@@ -2,7 +2,7 @@
 use Rattle.std.specs.Prelude.{ℕ, Bool, false, ◌&&◌, ◌||◌, nat_eq, List, [], ◌∷◌}
 use Rattle.go_tree.specs.Declarations.{Found}
 use Rattle.go_tree.specs.Needs.{is_source}
-use Rattle.go_cycles.specs.Columns.{same_source}
+use Rattle.go_scopes_cycles.specs.Columns.{same_source}
 use Rattle.go_needs.specs.declared.owners.Owner.{Owner}
 
 abbrev pub owner_of : Found → Owner

@@ -3,8 +3,8 @@ use Rattle.std.specs.Prelude.{ℕ, Bool, true, false, Option, Some, None}
 use Rattle.go_tree.specs.declared.context.Site.{Site}
 use Rattle.go_tree.specs.declared.context.Site.TheVariants as site
 use Rattle.go_tree.specs.declared.context.Reach.TheVariants as reach
-use Rattle.go_cycles.specs.declared.ranks.Part.TheVariants as part
-use Rattle.go_cycles.specs.Ranks.{Place}
+use Rattle.go_scopes_cycles.specs.declared.ranks.Part.TheVariants as part
+use Rattle.go_scopes_cycles.specs.Ranks.{Place}
 
 -- where a name stands that is needed in full
 abbrev pub full_place : ℕ → Site → Option Place

@@ -1,8 +1,8 @@
 -- Which objects pass a test with all that they need.
 use Rattle.std.specs.Prelude.{◌≡◌, ℕ, Bool, not, List, length, Some, slice_get}
-use Rattle.go_rules.specs.Scopes.{at_once, in_full}
-use Rattle.go_rules.specs.Tables.{no_faults}
-use Rattle.go_package.specs.Knowledge.{Outline, State, passes}
+use Rattle.go_exprs_rules.specs.Scopes.{at_once, in_full}
+use Rattle.go_exprs_rules.specs.Tables.{no_faults}
+use Rattle.go_package_defs.specs.Knowledge.{Outline, State, passes}
 use Rattle.go_needs.specs.declared.needs.Passing.{Passing}
 
 -- a rule fails in its type or in its expression

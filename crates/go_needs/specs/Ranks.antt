@@ -5,12 +5,12 @@ use Rattle.go_needs.specs.declared.declaring.Declaring.{Declaring}
 use Rattle.go_needs.specs.declared.groups.Group.{Group}
 use Rattle.go_needs.specs.declared.levels.Levels.{Levels}
 use Rattle.go_needs.specs.declared.owners.Owner.{Owner}
-use Rattle.go_package.specs.Declarations.{Specification}
-use Rattle.go_package.specs.Sources.{Package}
-use Rattle.go_package.specs.Verdicts.{needed_by_all}
+use Rattle.go_package_defs.specs.Declarations.{Specification}
+use Rattle.go_package_defs.specs.Sources.{Package}
+use Rattle.go_package_defs.specs.Verdicts.{needed_by_all}
 use Rattle.go_needs.specs.Bounds.{AllAtMost, is_low}
 use Rattle.go_needs.specs.Levels.{near, fails_at, level_of}
-use Rattle.go_cycles.specs.Ranks.{Place}
+use Rattle.go_scopes_cycles.specs.Ranks.{Place}
 
 abbrev pub rank_at : List ℕ → ℕ → ℕ
 rank_at rs n = unwrap_or (slice_get rs n) 0

@@ -4,13 +4,13 @@ use Rattle.std.specs.HashMap.{HashMap}
 use Rattle.std.specs.HashMap as hash
 use Rattle.std.specs.List.{list_any}
 use Rattle.go_tree.specs.Needs.{Needed}
-use Rattle.go_package.specs.Sources.{Package, needed_by}
+use Rattle.go_package_defs.specs.Sources.{Package, needed_by}
 use Rattle.go_needs.specs.declared.calls.Call.{Call}
 use Rattle.go_needs.specs.declared.owners.Owner.{Owner}
 use Rattle.go_needs.specs.Calls.{calls_of, fits}
 use Rattle.go_needs.specs.Levels.{near, fails_at}
 use Rattle.go_needs.specs.Owners.{owner_of, has_source}
-use Rattle.go_cycles.specs.Ranks.{Place, same_place}
+use Rattle.go_scopes_cycles.specs.Ranks.{Place, same_place}
 
 -- The calls are those in the specifications of `all`, which has those of the objects of the package, os; and each calls for an object.
 pub record AreCalls (p : Package) (os all : List Owner) (cs : List Call) : Type 0 where

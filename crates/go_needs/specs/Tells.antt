@@ -3,8 +3,8 @@ use Rattle.std.specs.Prelude.{◌≡◌, List, ◌++◌, map, Some}
 use Rattle.go_tree.specs.Lookups.{Asked, asked_from}
 use Rattle.go_tree.specs.Meanings.{meanings}
 use Rattle.go_tree.specs.Units.{Unit}
-use Rattle.go_package.specs.Declarations.{Specification}
-use Rattle.go_package.specs.Sources.{Package}
+use Rattle.go_package_defs.specs.Declarations.{Specification}
+use Rattle.go_package_defs.specs.Sources.{Package}
 use Rattle.go_needs.specs.declared.needs.Held.{Held}
 use Rattle.go_needs.specs.declared.needs.Needs.{Needs}
 use Rattle.go_needs.specs.declared.owners.Owner.{Owner}

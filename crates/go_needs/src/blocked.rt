@@ -2,10 +2,10 @@
 
 ghost use Rattle.std.specs.Prelude.{◌≡◌, not, IfOk, map, replicate, slice_get};
 ghost use Rattle.std.specs.HashMap as hash;
-ghost use Rattle.go_package.specs.Verdicts.{is_in};
+ghost use Rattle.go_package_defs.specs.Verdicts.{is_in};
 ghost use Rattle.go_needs.specs.Blocked.{passing_of, passings, not_passing, any_below, any_column, any_there, flags_from, blocks_at, blocking};
 ghost use Rattle.go_needs.specs.Levels.{fails_at};
-ghost use Rattle.go_cycles.specs.Ranks.{same_place};
+ghost use Rattle.go_scopes_cycles.specs.Ranks.{same_place};
 
 use crate::declaring::Declaring;
 use crate::groups::Group;

@@ -4,7 +4,7 @@ ghost use Rattle.std.specs.Prelude.{◌≡◌, IfOk, map, slice_get};
 ghost use Rattle.std.specs.HashMap as hash;
 ghost use Rattle.go_needs.specs.Bounds as specs;
 ghost use Rattle.go_needs.specs.Bounds.{level_under, is_low, bounds_one, is_bounded, are_bounded};
-ghost use Rattle.go_cycles.specs.Ranks.{same_place};
+ghost use Rattle.go_scopes_cycles.specs.Ranks.{same_place};
 
 use crate::levels::Levels;
 use crate::nearest::{Nearest, near};

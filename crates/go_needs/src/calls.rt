@@ -2,8 +2,8 @@
 
 ghost use Rattle.std.specs.Prelude.{◌≡◌, ℕ, List, Some, true, IfOk, map};
 ghost use Rattle.std.specs.HashSet as set;
-ghost use Rattle.go_lookup.specs.Tables.{same_spot};
-ghost use Rattle.go_lookup.specs.Views.{found_view, asked_view};
+ghost use Rattle.go_scopes_lookup.specs.Tables.{same_spot};
+ghost use Rattle.go_scopes_lookup.specs.Views.{found_view, asked_view};
 ghost use Rattle.go_needs.specs.Calls.{is_counted, number_of, call_of, calls_of, is_fit, fits_one, fits};
 ghost use Rattle.go_needs.specs.Owners.{has_source};
 ghost use Rattle.go_needs.specs.declared.owners.Owner as owner;
@@ -11,10 +11,10 @@ ghost use Rattle.go_needs.specs.declared.owners.Owner as owner;
 use crate::owners::{Owner, Sources, owner_of, same_owner, sources_of};
 use crate::parts::{full_place, partial_place};
 use go_base::Memory;
-use go_cycles::needs::source_of;
-use go_cycles::ranks::Place;
-use go_lookup::asked::Asked;
-use go_lookup::found::Found;
+use go_scopes_cycles::needs::source_of;
+use go_scopes_cycles::ranks::Place;
+use go_scopes_lookup::asked::Asked;
+use go_scopes_lookup::found::Found;
 use go_tree::context::Site;
 use go_tree::object::Object;
 use go_tree::uses::Uses;

@@ -3,7 +3,7 @@
 ghost use Rattle.std.specs.Prelude.{◌≡◌, ℕ, Some, IfOk, OnOk, map, slice_get};
 ghost use Rattle.std.specs.HashMap as hash;
 ghost use Rattle.go_declarations.specs.Views.{seen_all};
-ghost use Rattle.go_lookup.specs.Tables.{same_spot};
+ghost use Rattle.go_scopes_lookup.specs.Tables.{same_spot};
 ghost use Rattle.go_needs.specs.Declaring.{over_names, KnowsDeclaring, declaring_by};
 
 use go_base::Memory;

@@ -3,8 +3,8 @@
 ghost use Rattle.std.specs.Prelude.{◌≡◌, ◌++◌, IfOk, length, map, slice_get};
 ghost use Rattle.std.specs.Option.{option_map};
 ghost use Rattle.go_declarations.specs.Views.{specification_view, seen_all};
-ghost use Rattle.go_package.specs.Declarations.{trees_of};
-ghost use Rattle.go_package.specs.Verdicts.{first_name};
+ghost use Rattle.go_package_defs.specs.Declarations.{trees_of};
+ghost use Rattle.go_package_defs.specs.Verdicts.{first_name};
 ghost use Rattle.go_tree.specs.Views.{views};
 ghost use Rattle.go_needs.specs.Groups.{group_view, group_by, numbers_in, roots};
 

@@ -3,7 +3,7 @@
 ghost use Rattle.std.specs.Prelude.{◌≡◌, slice_get};
 ghost use Rattle.std.specs.HashMap as hash;
 ghost use Rattle.go_needs.specs.Levels.{level_of, settled, fails_at, is_settled, are_settled};
-ghost use Rattle.go_cycles.specs.Ranks.{same_place};
+ghost use Rattle.go_scopes_cycles.specs.Ranks.{same_place};
 
 use crate::nearest::{Nearest, near};
 use crate::owners::Owner;

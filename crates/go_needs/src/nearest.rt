@@ -3,13 +3,13 @@
 ghost use Rattle.std.specs.Prelude.{◌≡◌, true, false, Some, IfOk, OnOk};
 ghost use Rattle.std.specs.HashMap as hash;
 ghost use Rattle.go_needs.specs.Levels.{nearer, here, nearest, near_in, near, KnowsNearest, level_of};
-ghost use Rattle.go_cycles.specs.Ranks.{Place, same_place};
+ghost use Rattle.go_scopes_cycles.specs.Ranks.{Place, same_place};
 
 use crate::calls::Call;
 use crate::levels::{Levels, level_of};
 use crate::owners::Owner;
 use crate::parts::own_part;
-use go_cycles::ranks::{Part, Place};
+use go_scopes_cycles::ranks::{Part, Place};
 use std::alloc::{AllocError, Global};
 use std::collections::HashMap;
 

@@ -1,16 +1,16 @@
 //! What the objects of a package need.
 
 ghost use Rattle.std.specs.Prelude.{◌≡◌, ◌≤◌, ℕ, Bool, List, Some, true, IfOk, IfSome, length, map, nat_lt, slice_get, is_some};
-ghost use Rattle.go_names.specs.Scopes.{AreOrderly};
+ghost use Rattle.go_scopes_events.specs.Scopes.{AreOrderly};
 ghost use Rattle.go_tree.specs.Declarations.{found};
 ghost use Rattle.go_tree.specs.File.{FileTree};
 ghost use Rattle.go_scopes.specs.Resolve.{units_of};
-ghost use Rattle.go_lookup.specs.Views.{units_view};
+ghost use Rattle.go_scopes_lookup.specs.Views.{units_view};
 ghost use Rattle.go_declarations.specs.Views.{seen_all};
-ghost use Rattle.go_package.specs.Declarations as declarations;
-ghost use Rattle.go_package.specs.Knowledge.{Outline, State, outlines};
-ghost use Rattle.go_package.specs.Sources.{Package, package_of, source_of};
-ghost use Rattle.go_package.specs.Verdicts.{is_blocked};
+ghost use Rattle.go_package_defs.specs.Declarations as declarations;
+ghost use Rattle.go_package_defs.specs.Knowledge.{Outline, State, outlines};
+ghost use Rattle.go_package_defs.specs.Sources.{Package, package_of, source_of};
+ghost use Rattle.go_package_defs.specs.Verdicts.{is_blocked};
 ghost use Rattle.go_needs.specs.Bounds.{AreBounds};
 ghost use Rattle.go_needs.specs.Passing.{ArePassing, is_faulty, is_misassigned};
 ghost use Rattle.go_needs.specs.Ranks.{AreRanks, rank_by};
@@ -31,10 +31,10 @@ use crate::reached::reached;
 use crate::search::graded_levels;
 use go_base::Memory;
 use go_declarations::Specification;
-use go_lookup::found::all_found;
-use go_lookup::look_up::sited_names;
-use go_lookup::unit::Unit;
 use go_scopes::names::entries_of;
+use go_scopes_lookup::found::all_found;
+use go_scopes_lookup::look_up::sited_names;
+use go_scopes_lookup::unit::Unit;
 use go_tree::uses::Uses;
 use std::alloc::Global;
 

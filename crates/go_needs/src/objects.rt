@@ -1,13 +1,13 @@
 //! The specifications that the objects of a package have.
 
 ghost use Rattle.std.specs.Prelude.{◌≡◌, Some, IfOk, map};
-ghost use Rattle.go_lookup.specs.Views.{found_view};
+ghost use Rattle.go_scopes_lookup.specs.Views.{found_view};
 ghost use Rattle.go_needs.specs.Objects.{KnowsOwners, owner_by};
 
 use crate::declaring::Table;
 use crate::owners::{Owner, owner_of};
 use go_base::Memory;
-use go_lookup::found::Found;
+use go_scopes_lookup::found::Found;
 use go_tree::object::Declared;
 use std::alloc::{AllocError, Global};
 use std::collections::HashMap;

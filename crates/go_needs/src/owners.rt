@@ -2,13 +2,13 @@
 
 ghost use Rattle.std.specs.Prelude.{◌≡◌, ℕ, ◌&&◌, ◌||◌, nat_eq, IfOk, OnOk};
 ghost use Rattle.std.specs.HashSet as set;
-ghost use Rattle.go_lookup.specs.Tables.{same_spot};
-ghost use Rattle.go_lookup.specs.Views.{found_view};
+ghost use Rattle.go_scopes_lookup.specs.Tables.{same_spot};
+ghost use Rattle.go_scopes_lookup.specs.Views.{found_view};
 ghost use Rattle.go_tree.specs.Needs.{is_source};
 ghost use Rattle.go_needs.specs.Owners.{owner_of, same_owner, has_source};
 
-use go_cycles::columns::same_source;
-use go_lookup::found::Found;
+use go_scopes_cycles::columns::same_source;
+use go_scopes_lookup::found::Found;
 use std::alloc::{AllocError, Global};
 use std::collections::HashSet;
 

@@ -1,10 +1,10 @@
 //! Parts of specifications, in which names stand.
 
 ghost use Rattle.std.specs.Prelude.{◌≡◌};
-ghost use Rattle.go_cycles.specs.Ranks.{own_part};
+ghost use Rattle.go_scopes_cycles.specs.Ranks.{own_part};
 ghost use Rattle.go_needs.specs.Parts.{full_place, partial_place};
 
-use go_cycles::ranks::{Part, Place};
+use go_scopes_cycles::ranks::{Part, Place};
 use go_tree::context::{Reach, Site};
 
 /// Where a name of the file stands that is needed in full, if it stands in a specification.

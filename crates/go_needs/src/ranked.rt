@@ -2,7 +2,7 @@
 
 ghost use Rattle.std.specs.Prelude.{◌≡◌, IfOk, map};
 ghost use Rattle.std.specs.HashMap as hash;
-ghost use Rattle.go_cycles.specs.Ranks.{same_place};
+ghost use Rattle.go_scopes_cycles.specs.Ranks.{same_place};
 ghost use Rattle.go_needs.specs.Ranks as specs;
 ghost use Rattle.go_needs.specs.Ranks.{own_bound, rank_by, low_below, is_ranked, are_ranked, descends, is_lower, is_lower_at, are_lower, is_under, any_under, all_from, shown};
 

@@ -8,7 +8,7 @@ use crate::levels::fails_at;
 use crate::owners::Owner;
 use crate::ranked::rank_at;
 use crate::search::Seed;
-use go_cycles::ranks::Place;
+use go_scopes_cycles::ranks::Place;
 use std::alloc::{AllocError, Global};
 use std::collections::HashMap;
 

@@ -1,7 +1,7 @@
 //! Whether declarations need an object that fails.
 
 ghost use Rattle.std.specs.Prelude.{◌≡◌, ℕ, Bool, List, IfOk, length};
-ghost use Rattle.go_package.specs.Sources.{Package};
+ghost use Rattle.go_package_defs.specs.Sources.{Package};
 ghost use Rattle.go_needs.specs.Reached.{AreCalls, TellFailing, Reaches};
 ghost use Rattle.go_needs.specs.declared.owners.Owner as owner;
 

@@ -5,7 +5,7 @@
 use crate::calls::Call;
 use crate::levels::{Levels, level_of};
 use crate::owners::Owner;
-use go_cycles::ranks::{Part, Place};
+use go_scopes_cycles::ranks::{Part, Place};
 use std::alloc::{AllocError, Global};
 use std::collections::HashMap;
 

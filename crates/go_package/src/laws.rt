@@ -1,80 +1,25 @@
-//! Laws and worked examples of the definitions. These functions do nothing: their contracts are what holds.
-ghost use Rattle.go_package.specs.CheckExamples.{CheckExamples, TypingExamples};
-ghost use Rattle.go_package.specs.StatementExamples.{StatementExamples};
-ghost use Rattle.go_package.specs.DeclarationExamples.{SingleExamples, NeededExamples, GroupExamples};
-ghost use Rattle.go_base.specs.declared.bytes.FileText.{FileText};
-ghost use Rattle.go_package.specs.Declarations.{Specification};
-ghost use Rattle.go_package.specs.Kept.{StaysChecked};
-ghost use Rattle.go_package.specs.Portions.{PortionSaysAll};
-ghost use Rattle.go_typed.specs.Packages.{PackageView};
-ghost use Rattle.go_package.specs.Single.{HasOneAnswer};
-ghost use Rattle.go_package.specs.Sources.{Package};
-ghost use Rattle.std.specs.Prelude.{◌≡◌, ℕ, List, None};
-ghost use Rattle.go_tree.specs.Faults.{reported};
-ghost use Rattle.go_tree.specs.Units as names;
-ghost use Rattle.go_names.specs.Scopes.{AreOrderly};
-ghost use Rattle.go_package.specs.Resolved.{IsOrdered};
+//! Laws, for the crates above. The functions do nothing: their contracts are the laws.
 
-use go_grammar::laws::one_tree_of_a_file;
-use go_order::laws::declarations_bound_rounds;
-use go_tokens::laws::{one_fault, one_lexing};
-use go_typed::laws::packages_under_other_numbers;
+ghost use Rattle.go_package.specs.Reading.{FileFaultsAreReported};
+ghost use Rattle.std.specs.Prelude.{List, map};
+ghost use Rattle.std.specs.List.{AllByRecursion};
+ghost use Rattle.go_tree.specs.declared.context.Entity.{Entity};
+ghost use Rattle.go_tree.specs.File.{FileTree};
+ghost use Rattle.go_tree.specs.Uses.{UsesView};
+ghost use Rattle.go_package_defs.specs.Bodies.{those_of};
+ghost use Rattle.go_package_defs.specs.Sources.{source_of};
+ghost use Rattle.go_package_alike.specs.Portions.{IsDerived, IsWhole};
+ghost use Rattle.go_package.specs.Functions.{AreFiles, package_in, AreStanding, ArePlainVariables, specified};
 
-/// Single declarations: what a name stands for, or which rule fails where.
-pub fn single_declarations()
-    ensures { SingleExamples }
+/// The fault of a file by itself that `read_files` answers is the one that is reported of the package.
+pub fn file_faults_are_reported()
+    ensures { FileFaultsAreReported }
 {}
 
-/// Declarations that need one another, in one file and in two.
-pub fn needed_declarations()
-    ensures { NeededExamples }
+/// The declarations of files stand by themselves: where they are read by their own tokens alone, their literals can be read too. The
+/// specifications of variables have no statements.
+pub fn declarations_stand()
+    ensures derived { (files : List FileTree) → AreFiles files → AllByRecursion IsDerived (map source_of files) }
+    ensures standing { (files : List FileTree) (uses : UsesView) → AreFiles files → (e : Entity) → AllByRecursion IsWhole (those_of e (specified files)) → AreStanding (package_in files uses) e (specified files) }
+    ensures plain { (files : List FileTree) (uses : UsesView) → AreFiles files → ArePlainVariables (specified files) }
 {}
-
-/// Groups of constants.
-pub fn groups()
-    ensures { GroupExamples }
-{}
-
-/// Whole packages: whether one is good, or what is reported of it.
-pub fn checks()
-    ensures { CheckExamples }
-{}
-
-/// Statements in whole packages.
-pub fn statements()
-    ensures { StatementExamples }
-{}
-
-/// The types of a package with those of its functions.
-pub fn typings()
-    ensures { TypingExamples }
-{}
-
-/// In a package whose names have no fault, no declaration needs itself, all that names call for are declared, and declarations of
-/// one name are one. So they can be put in an order in which each stands behind those that it needs.
-pub fn resolved_packages_have_an_order()
-    ensures { (us : List names.Unit) → AreOrderly us → reported us ≡ None → IsOrdered us }
-{
-    declarations_bound_rounds();
-}
-
-/// A package is good, or one fault is reported, never both; and with its types it is one package.
-pub fn packages_have_one_answer()
-    ensures { (texts : List FileText) → HasOneAnswer texts }
-{
-    one_lexing();
-    one_fault();
-    one_tree_of_a_file();
-}
-
-/// The types of a function follow from its own tokens and their meanings, and from what surrounds it.
-pub fn functions_follow_from_their_tokens()
-    ensures { (p q : Package) (d e : Specification) (number : ℕ) → PortionSaysAll p q d e number }
-{}
-
-/// What the check of its bytes gives of a package stays so under other numbers of declared types.
-pub fn checked_packages_stay_so()
-    ensures { (p q : PackageView) → StaysChecked p q }
-{
-    packages_under_other_numbers();
-}

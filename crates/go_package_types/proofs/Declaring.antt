@@ -11,12 +11,11 @@ use Rattle.go_types.specs.Tables.{Table, IsTable, HasShape, type_of, rights_of}
 use Rattle.go_types.specs.Changes.{IsDeclared}
 use Rattle.go_types.proofs.Places.{get_last, get_within}
 use Rattle.go_types.proofs.Underlyings.{declared_type}
-use Rattle.type_tests.proofs.Extending.{declared_extends, tree_stays}
-use Rattle.type_tests.proofs.Interning.{declared_rights}
-use Rattle.go_exprs.proofs.Stays.{longer}
-use Rattle.go_rules.proofs.Parts.{drop_step}
-use Rattle.go_package.specs.Knowledge.{is_type}
-use Rattle.go_judging.specs.World.{AreNamed}
+use Rattle.go_types_relations.proofs.Public.{declared_extends, tree_stays, declared_rights}
+use Rattle.go_exprs_engine.proofs.Public.{longer}
+use Rattle.go_exprs_rules.proofs.Public.{drop_step}
+use Rattle.go_package_defs.specs.Knowledge.{is_type}
+use Rattle.go_package_rounds.specs.World.{AreNamed}
 use Rattle.go_package_types.specs.Numbers.{open_right, open_rights}
 
 snoc : (P : ℕ → ℕ → Type 0) (is : List ℕ) (o : ℕ) → ((n i : ℕ) → slice_get is n ≡ Some i → P n i) → P (length is) o → (n i : ℕ) → slice_get (is ++ o ∷ []) n ≡ Some i → P n i

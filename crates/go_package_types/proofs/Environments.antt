@@ -7,23 +7,22 @@ use Rattle.go_tree.specs.declared.object.Declared.{Declared}
 use Rattle.go_types.specs.Trees.{TypeTree}
 use Rattle.go_types.specs.Relations.{Rights}
 use Rattle.go_types.specs.Tables.{Table, IsTable, type_of, rights_of}
-use Rattle.type_tests.specs.Extends.{Grows}
+use Rattle.go_types_relations.specs.Extends.{Grows}
 use Rattle.go_typed.specs.Packages.{is_there}
 use Rattle.go_typed.specs.Trees as trees
 use Rattle.go_typed.specs.Trees.{sort_mapped, SortHas}
 use Rattle.go_typed.specs.Views.{sort_view}
-use Rattle.go_rules.specs.declared.fault.TypeFault.{TypeFault}
-use Rattle.go_rules.specs.Faults.{least, earlier}
-use Rattle.go_rules.specs.Tables.{no_faults}
+use Rattle.go_exprs_rules.specs.declared.fault.TypeFault.{TypeFault}
+use Rattle.go_exprs_rules.specs.Faults.{least, earlier}
+use Rattle.go_exprs_rules.specs.Tables.{no_faults}
 use Rattle.go_needs.specs.Passing.{is_faulty, is_misassigned}
-use Rattle.go_package.specs.Knowledge.{State, is_type}
-use Rattle.go_judging.specs.declared.held.Held.{Held}
-use Rattle.go_judging.specs.Held.{Summary, summary, held_seen, all_seen, AllHeld}
-use Rattle.go_judging.specs.declared.world.World.{World}
-use Rattle.go_judging.specs.World.{Shows}
-use Rattle.go_judging.proofs.Stays.{all_stay}
-use Rattle.go_judging.specs.Rights.{behind, rights_held}
-use Rattle.go_judging.proofs.Standings.{head_same, tail_same}
+use Rattle.go_package_defs.specs.Knowledge.{State, is_type}
+use Rattle.go_package_rounds.specs.declared.held.Held.{Held}
+use Rattle.go_package_rounds.specs.Held.{Summary, summary, held_seen, all_seen, AllHeld}
+use Rattle.go_package_rounds.specs.declared.world.World.{World}
+use Rattle.go_package_rounds.specs.World.{Shows}
+use Rattle.go_package_rounds.proofs.Public.{all_stay, head_same, tail_same}
+use Rattle.go_package_rounds.specs.Rights.{behind, rights_held}
 use Rattle.go_package_types.specs.Answers.{HasRight, HaveRights}
 
 -- ---- what is held, and the states

@@ -7,21 +7,21 @@ use Rattle.go_base.specs.declared.fault.Fault.{Fault}
 use Rattle.go_tokens.specs.Tokens.{TokenList}
 use Rattle.go_tree.specs.Failures.{Failure, least_from}
 use Rattle.go_types.specs.Tables.{Table, IsTable}
-use Rattle.type_tests.specs.Extends.{Grows}
-use Rattle.go_rules.specs.declared.fault.TypeFault.{TypeFault}
-use Rattle.go_rules.specs.Faults.{least}
-use Rattle.go_rules.specs.Scopes.{Scope}
-use Rattle.go_package.specs.Answer.{all_failures, failures_at, mains_from}
-use Rattle.go_package.specs.Declarations.{Specification}
-use Rattle.go_package.specs.Knowledge.{Outline, State, free_scope}
-use Rattle.go_package.specs.Knowledge as knowledge
-use Rattle.go_package.specs.Sources.{Package}
-use Rattle.go_package.specs.Verdicts.{expression_faults, specification_rule, is_blocked, specification_faults, specification_faults_on}
-use Rattle.go_specifications.specs.Whole.{unless_failing, failing_as_whole}
-use Rattle.go_fault_places.specs.Places.{EachFault}
-use Rattle.go_judging.specs.declared.world.World.{World}
-use Rattle.go_judging.specs.World.{Fits, KnownStandings}
-use Rattle.go_judging.proofs.Stays.{fits_more, standings_more, stand_more}
+use Rattle.go_types_relations.specs.Extends.{Grows}
+use Rattle.go_exprs_rules.specs.declared.fault.TypeFault.{TypeFault}
+use Rattle.go_exprs_rules.specs.Faults.{least}
+use Rattle.go_exprs_rules.specs.Scopes.{Scope}
+use Rattle.go_package_defs.specs.Answer.{all_failures, failures_at, mains_from}
+use Rattle.go_package_defs.specs.Declarations.{Specification}
+use Rattle.go_package_defs.specs.Knowledge.{Outline, State, free_scope}
+use Rattle.go_package_defs.specs.Knowledge as knowledge
+use Rattle.go_package_defs.specs.Sources.{Package}
+use Rattle.go_package_defs.specs.Verdicts.{expression_faults, specification_rule, is_blocked, specification_faults, specification_faults_on}
+use Rattle.go_package_types.specs.Whole.{unless_failing, failing_as_whole}
+use Rattle.go_package_laws.specs.Places.{EachFault}
+use Rattle.go_package_rounds.specs.declared.world.World.{World}
+use Rattle.go_package_rounds.specs.World.{Fits, KnownStandings}
+use Rattle.go_package_rounds.proofs.Public.{fits_more, standings_more, stand_more}
 use Rattle.go_package_types.specs.declared.faults.Known.{Known}
 use Rattle.go_scopes.specs.Views.{failure_of}
 use Rattle.go_package_types.specs.Known.{Tells}

@@ -10,12 +10,12 @@ use Rattle.go_tokens.specs.declared.token.Token.{Token}
 use Rattle.go_tree.specs.Failures as failures
 use Rattle.go_tree.specs.Failures.{Failure, is_earlier, least_from}
 use Rattle.go_tree.specs.Units.{start_in, end_in}
-use Rattle.go_rules.specs.declared.fault.TypeFault.{TypeFault}
-use Rattle.go_rules.specs.Faults.{before, sooner, earlier, least}
-use Rattle.go_rules.proofs.Firsts.{decided, takes, keeps, earlier_assoc}
-use Rattle.go_package.specs.Answer.{failure_at, failures_at}
-use Rattle.go_package.specs.Sources.{Package, tokens_in}
-use Rattle.go_fault_places.specs.Places.{EachFault}
+use Rattle.go_exprs_rules.specs.declared.fault.TypeFault.{TypeFault}
+use Rattle.go_exprs_rules.specs.Faults.{before, sooner, earlier, least}
+use Rattle.go_exprs_rules.proofs.Public.{decided, takes, keeps, earlier_assoc}
+use Rattle.go_package_defs.specs.Answer.{failure_at, failures_at}
+use Rattle.go_package_defs.specs.Sources.{Package, tokens_in}
+use Rattle.go_package_laws.specs.Places.{EachFault}
 use Rattle.go_package_types.specs.Places.{has_bytes, stands}
 
 -- ---- tokens in order

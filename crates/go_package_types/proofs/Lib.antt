@@ -9,3 +9,6 @@ pub mod Standing
 pub mod Faulty
 pub mod Starting
 pub mod Undeclared
+pub mod Constants
+pub mod Rows
+pub mod Places

@@ -4,12 +4,12 @@ use Rattle.std.specs.Option.{option_map}
 use Rattle.go_tokens.specs.Tokens.{TokenList, IsTokenList, AreOrdered, span_of}
 use Rattle.go_tree.specs.Failures.{Failure, least_from}
 use Rattle.go_tree.specs.Units.{bytes_of}
-use Rattle.go_rules.specs.declared.fault.TypeFault.{TypeFault}
-use Rattle.go_rules.specs.Faults.{least, earlier}
-use Rattle.go_package.specs.Answer.{failure_at, failures_at}
-use Rattle.go_package.specs.Sources.{Package, tokens_in}
-use Rattle.go_specifications.specs.Whole.{unless_failing}
-use Rattle.go_fault_places.specs.Places.{EachFault}
+use Rattle.go_exprs_rules.specs.declared.fault.TypeFault.{TypeFault}
+use Rattle.go_exprs_rules.specs.Faults.{least, earlier}
+use Rattle.go_package_defs.specs.Answer.{failure_at, failures_at}
+use Rattle.go_package_defs.specs.Sources.{Package, tokens_in}
+use Rattle.go_package_types.specs.Whole.{unless_failing}
+use Rattle.go_package_laws.specs.Places.{EachFault}
 use Rattle.go_package_types.specs.Merged.{merged, failure_in}
 use Rattle.go_package_types.specs.Places.{stands}
 use Rattle.go_package_types.proofs.Kept.{keeps_least}

@@ -15,10 +15,10 @@ use Rattle.go_tree.specs.File.{FileTree}
 use Rattle.go_tree.specs.Units.{word}
 use Rattle.go_tree.specs.Uses.{UsesView}
 use Rattle.go_tree.specs.Views.{view}
-use Rattle.go_exprs.specs.Literals.{AllRead}
-use Rattle.go_package.specs.Answer.{specifications}
-use Rattle.go_package.specs.Declarations.{Specification, specification_of, source_behind, grouped, declared, declaration, declarations, in_file}
-use Rattle.go_package.specs.Sources.{package_of, source_of, tokens_there, text_at}
+use Rattle.go_exprs_engine.specs.Literals.{AllRead}
+use Rattle.go_package_defs.specs.Answer.{specifications}
+use Rattle.go_package_defs.specs.Declarations.{Specification, specification_of, source_behind, grouped, declared, declaration, declarations, in_file}
+use Rattle.go_package_defs.specs.Sources.{package_of, source_of, tokens_there, text_at}
 use Rattle.go_declarations.specs.declared.specification.Specification as program
 use Rattle.go_declarations.specs.Reads.{SpecificationRead}
 use Rattle.go_declarations.specs.Views.{specification_view, seen_all}

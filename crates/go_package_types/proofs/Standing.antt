@@ -5,16 +5,16 @@ use Rattle.go_grammar.specs.Trees.{Trees, none, more, skip}
 use Rattle.go_tokens.specs.Spellings.{same_text}
 use Rattle.go_tree.specs.declared.object.Declared.{Declared}
 use Rattle.go_tree.specs.Failures.{Failure, least_from}
-use Rattle.go_fault_places.specs.Places.{EachPart}
-use Rattle.go_package.specs.Answer.{failures_at, fault_if, is_main_package, is_procedure, main_faults, mains_from}
-use Rattle.go_package.specs.Declarations.{trees_of}
-use Rattle.go_package.specs.Knowledge.{Outline, State, is_sound, passes, state_of}
-use Rattle.go_package.specs.Sources.{Package, text_at}
-use Rattle.go_rules.specs.Scopes.{at_once}
+use Rattle.go_package_laws.specs.Places.{EachPart}
+use Rattle.go_package_defs.specs.Answer.{failures_at, fault_if, is_main_package, is_procedure, main_faults, mains_from}
+use Rattle.go_package_defs.specs.Declarations.{trees_of}
+use Rattle.go_package_defs.specs.Knowledge.{Outline, State, is_sound, passes, state_of}
+use Rattle.go_package_defs.specs.Sources.{Package, text_at}
+use Rattle.go_exprs_rules.specs.Scopes.{at_once}
 use Rattle.go_types.specs.Tables.{Table}
-use Rattle.go_judging.specs.declared.held.Held.{Held}
-use Rattle.go_judging.specs.Held.{summary, held_seen, all_seen}
-use Rattle.go_judging.proofs.Standings.{head_same, tail_same}
+use Rattle.go_package_rounds.specs.declared.held.Held.{Held}
+use Rattle.go_package_rounds.specs.Held.{summary, held_seen, all_seen}
+use Rattle.go_package_rounds.proofs.Public.{head_same, tail_same}
 use Rattle.go_package_types.specs.Places.{EachStands}
 use Rattle.go_package_types.proofs.Merged.{least_from_append}
 

@@ -4,9 +4,9 @@ use Rattle.go_tree.specs.declared.context.Entity.{Entity}
 use Rattle.go_tree.specs.declared.context.Entity.TheVariants as entity
 use Rattle.go_tree.specs.declared.object.Declared.{Declared}
 use Rattle.go_types.specs.Relations.{Rights}
-use Rattle.go_package.specs.Knowledge.{Outline, is_type, rights_among}
-use Rattle.go_package.specs.Sources.{Package}
-use Rattle.go_package.specs.Verdicts.{first_state, first_states}
+use Rattle.go_package_defs.specs.Knowledge.{Outline, is_type, rights_among}
+use Rattle.go_package_defs.specs.Sources.{Package}
+use Rattle.go_package_defs.specs.Verdicts.{first_state, first_states}
 use Rattle.go_package_types.specs.Numbers.{open_right, open_rights}
 
 module _ (p : Package) where

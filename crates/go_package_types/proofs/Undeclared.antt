@@ -6,7 +6,7 @@ use Rattle.go_types.specs.declared.shape.Shape.TheVariants as shape
 use Rattle.go_types.specs.Tables.{Table, IsTable, is_declaration}
 use Rattle.go_types.specs.Changes.{first_types, IsClosedBelow}
 use Rattle.go_types.proofs.Countings.{count_rises}
-use Rattle.type_tests.specs.Extends.{Extends}
+use Rattle.go_types_relations.specs.Extends.{Extends}
 
 abbrev pub Bare : ℕ → Table → Type 0
 Bare n t = count_by is_declaration (take n t.shapes) ≡ 0

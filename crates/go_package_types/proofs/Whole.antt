@@ -7,22 +7,21 @@ use Rattle.go_tree.specs.declared.context.Entity.TheVariants as entity
 use Rattle.go_types.specs.Trees.{TypeTree}
 use Rattle.go_types.specs.Relations.{Rights}
 use Rattle.go_typed.specs.Trees.{sort_of}
-use Rattle.go_rules.specs.declared.fault.TypeFault.{TypeFault}
-use Rattle.go_rules.specs.Scopes.{Scope, Hint}
-use Rattle.go_rules.specs.Settling.{Part}
-use Rattle.go_rules.specs.Sorts.{is_unknown, is_nil, is_constant}
-use Rattle.go_rules.specs.TypeNodes.{part_type}
-use Rattle.go_rules.specs.Typing.{typing, faults}
-use Rattle.go_rules.specs.Faults.{joined}
-use Rattle.type_tests.specs.Tests.{is_assignable}
-use Rattle.go_stmts.specs.Assigning.{Wanted, whole_results, unassigned, all_unassigned, result_unassigned, results_unassigned, call_assigned, assignment_by, constant_failing, constants_failing}
-use Rattle.go_stmts.specs.Rules.{variables_failing}
-use Rattle.go_package.specs.Declarations.{Specification}
-use Rattle.go_package.specs.Verdicts.{type_hint, value_hint, faults_in, type_faults, typed_type, typed_values, values_faults, expression_faults, known_parts, counted, specification_failing, specification_rule, rule_unless}
-use Rattle.go_specifications.specs.Whole.{unless_failing, failing_as_whole}
-use Rattle.go_fault_places.specs.Places.{EachFault, EachOf}
-use Rattle.go_fault_places.proofs.Parts.{Placed, ListPlaced, both, either, at_it, undefaulted_at, unassignable_at}
-use Rattle.go_fault_places.proofs.Typings.{typing_placed, faults_at_nodes}
+use Rattle.go_exprs_rules.specs.declared.fault.TypeFault.{TypeFault}
+use Rattle.go_exprs_rules.specs.Scopes.{Scope, Hint}
+use Rattle.go_exprs_rules.specs.Settling.{Part}
+use Rattle.go_exprs_rules.specs.Sorts.{is_unknown, is_nil, is_constant}
+use Rattle.go_exprs_rules.specs.TypeNodes.{part_type}
+use Rattle.go_exprs_rules.specs.Typing.{typing, faults}
+use Rattle.go_exprs_rules.specs.Faults.{joined}
+use Rattle.go_types_relations.specs.Tests.{is_assignable}
+use Rattle.go_stmts_defs.specs.Assigning.{Wanted, whole_results, unassigned, all_unassigned, result_unassigned, results_unassigned, call_assigned, assignment_by, constant_failing, constants_failing}
+use Rattle.go_stmts_defs.specs.Rules.{variables_failing}
+use Rattle.go_package_defs.specs.Declarations.{Specification}
+use Rattle.go_package_defs.specs.Verdicts.{type_hint, value_hint, faults_in, type_faults, typed_type, typed_values, values_faults, expression_faults, known_parts, counted, specification_failing, specification_rule, rule_unless}
+use Rattle.go_package_types.specs.Whole.{unless_failing, failing_as_whole}
+use Rattle.go_package_laws.specs.Places.{EachFault, EachOf}
+use Rattle.go_package_laws.proofs.Public.{Placed, ListPlaced, both, either, at_it, undefaulted_at, unassignable_at, typing_placed, faults_at_nodes}
 use Rattle.go_package_types.specs.Places.{PartStands, EachStands, SpecificationStands}
 
 module _ (q : ℕ → ℕ → Bool) where

@@ -9,10 +9,10 @@ use Rattle.go_tree.specs.Views.{view}
 use Rattle.go_types.specs.Tables.{Table, rights_of}
 use Rattle.go_typed.specs.Scopes.{EnvView}
 use Rattle.go_typed.specs.Trees.{Sort, SortHas}
-use Rattle.go_type_rules.specs.Naming.{objects_seen}
-use Rattle.go_package.specs.Answer.{Environment}
-use Rattle.go_package.specs.Knowledge.{is_type}
-use Rattle.go_judging.specs.declared.held.Held.{Held}
+use Rattle.go_exprs_types.specs.Naming.{objects_seen}
+use Rattle.go_package_defs.specs.Answer.{Environment}
+use Rattle.go_package_defs.specs.Knowledge.{is_type}
+use Rattle.go_package_rounds.specs.declared.held.Held.{Held}
 
 -- The file has this number, its tokens are the lexing of its text, and its tree is the derivation over them.
 pub record IsLexedFile (n : ℕ) (f : FileTree) : Type 0 where

@@ -1,14 +1,14 @@
 -- What the program knows of the objects of a package where their rules are judged.
 use Rattle.std.specs.Prelude.{◌≡◌, ℕ, Bool, true, List, length, map, Some, slice_get}
 use Rattle.go_types.specs.Tables.{Table, rights_of}
-use Rattle.go_package.specs.Declarations.{Specification}
-use Rattle.go_package.specs.Knowledge.{Outline, State}
-use Rattle.go_package.specs.Knowledge as knowledge
-use Rattle.go_package.specs.Sources.{Package}
-use Rattle.go_package.specs.Verdicts.{is_blocked}
+use Rattle.go_package_defs.specs.Declarations.{Specification}
+use Rattle.go_package_defs.specs.Knowledge.{Outline, State}
+use Rattle.go_package_defs.specs.Knowledge as knowledge
+use Rattle.go_package_defs.specs.Sources.{Package}
+use Rattle.go_package_defs.specs.Verdicts.{is_blocked}
 use Rattle.go_needs.specs.Passing.{is_faulty, is_misassigned}
-use Rattle.go_judging.specs.declared.world.World.{World}
-use Rattle.go_judging.specs.World.{package_in, outlines_in, specifications_in, StandsFor}
+use Rattle.go_package_rounds.specs.declared.world.World.{World}
+use Rattle.go_package_rounds.specs.World.{package_in, outlines_in, specifications_in, StandsFor}
 use Rattle.go_package_types.specs.declared.faults.Known.{Known}
 
 -- The specifications with the flag need a declaration with a fault.

@@ -3,7 +3,7 @@ use Rattle.std.specs.Prelude.{Option, Some, None}
 use Rattle.go_tokens.specs.Tokens.{TokenList}
 use Rattle.go_tree.specs.Failures.{Failure, earlier}
 use Rattle.go_tree.specs.Units.{bytes_of}
-use Rattle.go_rules.specs.declared.fault.TypeFault.{TypeFault}
+use Rattle.go_exprs_rules.specs.declared.fault.TypeFault.{TypeFault}
 
 abbrev pub merged : Option Failure → Option Failure → Option Failure
 merged f None = f

@@ -3,7 +3,7 @@ use Rattle.std.specs.Prelude.{Bool, true, false, List, [], ◌∷◌, ◌++◌, 
 use Rattle.go_tree.specs.declared.object.Declared.{Declared}
 use Rattle.go_types.specs.Relations.{Rights}
 use Rattle.go_typed.specs.Packages as packages
-use Rattle.go_package.specs.Knowledge.{is_type}
+use Rattle.go_package_defs.specs.Knowledge.{is_type}
 use Rattle.go_package_types.specs.declared.declare.Counts.{Counts}
 
 abbrev pub counts_view : Counts → packages.Counts

@@ -3,8 +3,8 @@ use Rattle.std.specs.Prelude.{◌≡◌, ℕ, ◌-◌, Bool, true, false, ◌&&�
 use Rattle.go_grammar.specs.Trees.{Tree}
 use Rattle.go_tokens.specs.Tokens.{TokenList}
 use Rattle.go_tokens.specs.declared.token.Token.{Token}
-use Rattle.go_package.specs.Declarations.{Specification}
-use Rattle.go_fault_places.specs.Places.{EachNode}
+use Rattle.go_package_defs.specs.Declarations.{Specification}
+use Rattle.go_package_laws.specs.Places.{EachNode}
 
 -- a token that there is and that has bytes, as each has but an inserted semicolon
 abbrev pub has_bytes : Option Token → Bool

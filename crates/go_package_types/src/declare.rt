@@ -1,11 +1,11 @@
 //! The declared types of a package, and the numbers of its objects by sort.
 ghost use Rattle.std.specs.Prelude.{◌≡◌, ◌++◌, [], suc, IfOk, OnOk, length};
 ghost use Rattle.go_types.specs.Tables.{IsTable, rights_of};
-ghost use Rattle.type_tests.specs.Extends.{Extends};
+ghost use Rattle.go_types_relations.specs.Extends.{Extends};
 ghost use Rattle.go_typed.specs.Packages.{counted, referent_of, referents};
 ghost use Rattle.go_package_types.specs.Numbers.{counts_view, open_right, open_rights};
-ghost use Rattle.go_package.specs.Knowledge.{is_type};
-ghost use Rattle.go_judging.specs.World.{AreNamed};
+ghost use Rattle.go_package_defs.specs.Knowledge.{is_type};
+ghost use Rattle.go_package_rounds.specs.World.{AreNamed};
 
 use go_base::Memory;
 use go_tree::context::Entity;

@@ -2,7 +2,7 @@
 ghost use Rattle.std.specs.Prelude.{◌≡◌, IsTrue, slice_get};
 ghost use Rattle.std.specs.Option.{option_map};
 ghost use Rattle.go_tree.specs.Views.{view, views};
-ghost use Rattle.go_fault_places.specs.Places.{EachNode, EachPart};
+ghost use Rattle.go_package_laws.specs.Places.{EachNode, EachPart};
 ghost use Rattle.go_declarations.specs.Views.{specification_view};
 ghost use Rattle.go_package_types.specs.Places as places;
 ghost use Rattle.go_package_types.specs.Places.{PartStands, EachStands, SpecificationStands};

@@ -11,7 +11,7 @@ use Rattle.go_tree.specs.Units.{is_blank}
 use Rattle.go_tree.specs.Extents.{covers, lies_inside}
 use Rattle.go_tree.specs.Meanings.{Meaning, covering, is_innermost, innermost_of, meaning_at}
 use Rattle.go_tree.specs.Objects.{object_by, object_at}
-use Rattle.go_names.specs.Moved.{moved_scope, moved_extent, moved_meaning}
+use Rattle.go_scopes_events.specs.Moved.{moved_scope, moved_extent, moved_meaning}
 
 le_moved : (n a b : ℕ) → nat_le (n + a) (n + b) ≡ nat_le a b
 le_moved n a b = grind (arith, nat_tests)

@@ -28,10 +28,9 @@ use Rattle.go_tree.specs.Faults.{clause_faults, name_faults, reported}
 use Rattle.go_tree.specs.File.{FileTree}
 use Rattle.go_tree.specs.Views.{view}
 use Rattle.go_tree.specs.Uses.{declared_by, declared_in_package, functions_among, uses}
-use Rattle.go_names.specs.Functions.{functions_told, function_names}
-use Rattle.go_names.specs.Inside.{function_scope, IsDeclared, IsInside, LocalsInside, nowhere}
-use Rattle.go_names.proofs.Functions.{file_told}
-use Rattle.go_names.proofs.Inside.{file_inside}
+use Rattle.go_scopes_events.specs.Functions.{functions_told, function_names}
+use Rattle.go_scopes_events.specs.Inside.{function_scope, IsDeclared, IsInside, LocalsInside, nowhere}
+use Rattle.go_scopes_events.proofs.Public.{file_told, file_inside}
 use Rattle.go_scopes.specs.Resolve.{unit_of, units_of}
 use Rattle.go_scopes.specs.Numbering.{spot_of, function_spots, AreFiles}
 

@@ -1,11 +1,11 @@
 -- Files that are orderly, and one more behind them.
 use Rattle.std.proofs.Common.{◌≡◌, List, [], ◌∷◌, ◌++◌, length, sym, subst}
-use Rattle.go_names.specs.Inside.{LocalsInside, nowhere}
-use Rattle.go_names.specs.Orders.{AreInOrder}
-use Rattle.go_names.specs.Scopes.{IsOrderly, AreOrderly}
-use Rattle.go_lookup.specs.Tables.{AreCounted, AreInside}
-use Rattle.go_lookup.specs.declared.unit.Unit.{Unit}
-use Rattle.go_lookup.specs.Views.{units_view}
+use Rattle.go_scopes_events.specs.Inside.{LocalsInside, nowhere}
+use Rattle.go_scopes_events.specs.Orders.{AreInOrder}
+use Rattle.go_scopes_events.specs.Scopes.{IsOrderly, AreOrderly}
+use Rattle.go_scopes_lookup.specs.Tables.{AreCounted, AreInside}
+use Rattle.go_scopes_lookup.specs.declared.unit.Unit.{Unit}
+use Rattle.go_scopes_lookup.specs.Views.{units_view}
 
 behind : (us : List Unit) (u : Unit) → AreOrderly (units_view us) → IsOrderly u.events.items → AreOrderly (units_view (us ++ u ∷ []))
 behind [] u h g = (g, tt)

@@ -8,7 +8,7 @@ use Rattle.go_tree.specs.Failures.{place_if}
 use Rattle.go_tree.specs.Lookups.{Asked}
 use Rattle.go_tree.specs.Meanings.{Meaning}
 use Rattle.go_tree.specs.Needs.{Needed, if_so, way_by, needed_meaning, needs, needs_of, is_among, with_all, all_needed, needs_itself, cycles}
-use Rattle.go_lookup.specs.Sited.{is_sited, sited}
+use Rattle.go_scopes_lookup.specs.Sited.{is_sited, sited}
 
 nothing : (b : Bool) (m : Option Meaning) (ns : List Needed) → needed_meaning (if_so b None) m ns ≡ ns
 nothing true m ns = refl

@@ -3,7 +3,7 @@ use Rattle.std.proofs.Common.{◌≡◌, ℕ, refl, ap, ◌∙◌, Bool, true, f
 use Rattle.go_tree.specs.Declarations.{Found}
 use Rattle.go_tree.specs.Meanings.{Meaning}
 use Rattle.go_tree.specs.Lookups.{Asked, means, is_assigned}
-use Rattle.go_lookup.specs.Tables.{same_spot}
+use Rattle.go_scopes_lookup.specs.Tables.{same_spot}
 use Rattle.go_scopes.specs.Used.{source_spot, meaning_spot, unless, used_spot, uses}
 
 -- whether the place is that of the declaration

@@ -3,7 +3,7 @@ use Rattle.std.specs.Prelude.{ℕ, suc, List, [], ◌∷◌, ◌++◌, map}
 use Rattle.go_tree.specs.declared.object.Declared.{Declared}
 use Rattle.go_tree.specs.File.{FileTree, IsFileTree}
 use Rattle.go_tree.specs.Views.{view}
-use Rattle.go_names.specs.Functions.{function_names}
+use Rattle.go_scopes_events.specs.Functions.{function_names}
 
 -- the number of a file, and that of the token of a name
 abbrev pub spot_of : Declared → ℕ × ℕ

@@ -5,7 +5,7 @@ use Rattle.std.specs.HashSet as set
 use Rattle.go_tree.specs.Declarations.{Found}
 use Rattle.go_tree.specs.Meanings.{Meaning}
 use Rattle.go_tree.specs.Lookups.{Asked, object_asked, is_assigned, means, is_used, is_import, uses_import}
-use Rattle.go_lookup.specs.Tables.{same_spot}
+use Rattle.go_scopes_lookup.specs.Tables.{same_spot}
 
 abbrev pub source_spot : Option Found → Option (ℕ × ℕ)
 source_spot None = None

@@ -2,7 +2,7 @@
 use Rattle.go_base.specs.declared.fault.Fault.{Fault}
 use Rattle.go_tree.specs.Failures.{Failure}
 use Rattle.go_tree.specs.Repeated as rules
-use Rattle.go_lookup.specs.Views.{place_of}
+use Rattle.go_scopes_lookup.specs.Views.{place_of}
 use Rattle.go_scopes.specs.declared.repeated.NamePlace.{NamePlace}
 
 abbrev pub failure_of : Fault → Failure

@@ -4,14 +4,14 @@ ghost use Rattle.std.specs.Prelude.{◌≡◌, ◌≤◌, ◌+◌, Some, IfOk, I
 ghost use Rattle.std.specs.Option.{option_map};
 ghost use Rattle.go_base.specs.declared.fault.FaultCode.{FaultCode};
 ghost use Rattle.go_tree.specs.Branches.{misplaced, branches, statements, limit};
-ghost use Rattle.go_lookup.specs.Views.{place_of, unit_view, units_view};
+ghost use Rattle.go_scopes_lookup.specs.Views.{place_of, unit_view, units_view};
 ghost use Rattle.go_scopes.specs.Noted.{noted};
 ghost use Rattle.go_scopes.specs.Views.{failure_of};
 
 use crate::failure::note;
 use crate::file_rule::{FileRule, note_files};
 use go_base::{Fault, FaultCode, Memory, Span};
-use go_lookup::unit::{Unit, bytes_of};
+use go_scopes_lookup::unit::{Unit, bytes_of};
 use go_tree::event::Event;
 use std::alloc::Global;
 

@@ -5,19 +5,19 @@ ghost use Rattle.std.specs.Option.{option_map};
 ghost use Rattle.go_base.specs.declared.fault.FaultCode.{FaultCode};
 ghost use Rattle.go_tree.specs.Failures.{place_if};
 ghost use Rattle.go_tree.specs.Needs.{needs_itself, cycles};
-ghost use Rattle.go_lookup.specs.Views.{found_view, asked_view};
-ghost use Rattle.go_lookup.specs.Sited.{sited};
-ghost use Rattle.go_cycles.specs.Order.{IsOrder};
+ghost use Rattle.go_scopes_lookup.specs.Views.{found_view, asked_view};
+ghost use Rattle.go_scopes_lookup.specs.Sited.{sited};
+ghost use Rattle.go_scopes_cycles.specs.Order.{IsOrder};
 ghost use Rattle.go_scopes.specs.Decided.{is_decided};
 ghost use Rattle.go_scopes.specs.Noted.{noted};
 ghost use Rattle.go_scopes.specs.Views.{failure_of};
 
 use crate::failure::{is_earlier, note};
 use go_base::{Fault, FaultCode};
-use go_cycles::order::{Order, order_of};
-use go_lookup::asked::Asked;
-use go_lookup::found::Found;
-use go_lookup::kinds::is_sited;
+use go_scopes_cycles::order::{Order, order_of};
+use go_scopes_lookup::asked::Asked;
+use go_scopes_lookup::found::Found;
+use go_scopes_lookup::kinds::is_sited;
 use std::alloc::{AllocError, Global};
 
 /// Whether a fault that was found is reported before another one.

@@ -3,7 +3,7 @@
 ghost use Rattle.std.specs.Prelude.{◌≡◌, []};
 ghost use Rattle.std.specs.Option.{option_map};
 ghost use Rattle.go_tree.specs.Failures.{is_earlier, earlier, place_if};
-ghost use Rattle.go_lookup.specs.Views.{place_of};
+ghost use Rattle.go_scopes_lookup.specs.Views.{place_of};
 ghost use Rattle.go_scopes.specs.Noted.{noted};
 ghost use Rattle.go_scopes.specs.Views.{failure_of};
 

@@ -7,12 +7,12 @@ ghost use Rattle.go_tokens.specs.Tokens.{TokenList};
 ghost use Rattle.go_tree.specs.declared.event.Event.{Event};
 ghost use Rattle.go_tree.specs.Units.{Place};
 ghost use Rattle.go_tree.specs.Failures.{of_files};
-ghost use Rattle.go_lookup.specs.Views.{units_view};
+ghost use Rattle.go_scopes_lookup.specs.Views.{units_view};
 ghost use Rattle.go_scopes.specs.Noted.{noted};
 ghost use Rattle.go_scopes.specs.Views.{failure_of};
 
 use go_base::{Fault, Memory};
-use go_lookup::unit::Unit;
+use go_scopes_lookup::unit::Unit;
 use std::alloc::Global;
 
 /// A rule on the events of a file by themselves: its code, and the places where it fails.

@@ -13,7 +13,7 @@ ghost use Rattle.go_tree.specs.Redeclared.{second_imports, none_new, redeclared}
 ghost use Rattle.go_tree.specs.Repeated.{redeclared_names, repeated_parameters};
 ghost use Rattle.go_tree.specs.Units as names;
 ghost use Rattle.go_tree.specs.Uses.{functions_among, uses};
-ghost use Rattle.go_names.specs.Moved.{moved_meaning};
+ghost use Rattle.go_scopes_events.specs.Moved.{moved_meaning};
 ghost use Rattle.go_scopes.specs.Numbering.{spot_of, function_spots, AreFiles};
 ghost use Rattle.go_scopes.specs.Resolve.{units_of};
 ghost use Rattle.go_scopes.specs.SecondMembers.{is_parameter, any_member, second_among};

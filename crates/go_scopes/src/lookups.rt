@@ -3,17 +3,17 @@
 ghost use Rattle.std.specs.Prelude.{◌≡◌, map};
 ghost use Rattle.std.specs.Option.{option_map};
 ghost use Rattle.go_tree.specs.Lookups.{object_asked, lacks_meaning, is_unknown, is_import, is_other_member, is_no_call, is_initial};
-ghost use Rattle.go_lookup.specs.Views.{place_of, meaning_view, asked_view};
+ghost use Rattle.go_scopes_lookup.specs.Views.{place_of, meaning_view, asked_view};
 ghost use Rattle.go_scopes.specs.LookupRules.{code_of, fails, place_by, places_by};
 ghost use Rattle.go_scopes.specs.Noted.{noted};
 ghost use Rattle.go_scopes.specs.Views.{failure_of};
 
 use crate::failure::note;
 use go_base::{Fault, FaultCode, Span};
-use go_lookup::asked::Asked;
-use go_lookup::meaning::{Meaning, object_by};
-use go_lookup::unit::same;
-use go_names::predeclared::is_unknown;
+use go_scopes_events::predeclared::is_unknown;
+use go_scopes_lookup::asked::Asked;
+use go_scopes_lookup::meaning::{Meaning, object_by};
+use go_scopes_lookup::unit::same;
 use go_tree::context::{Entity, Role};
 use go_tree::object::{Object, Predeclared};
 

@@ -6,7 +6,7 @@ ghost use Rattle.go_tree.specs.declared.event.Event.{Event};
 ghost use Rattle.go_tree.specs.Duplicates.{has_member};
 ghost use Rattle.go_scopes.specs.Gathered.{AddsName, AddsMember, Gathers};
 
-use go_lookup::unit::word;
+use go_scopes_lookup::unit::word;
 use go_tokens::tokens::Tokens;
 use go_tree::event::{Event, Member};
 use std::alloc::{AllocError, Global};

@@ -1,17 +1,17 @@
 //! What any name means at any place of a package.
 
 ghost use Rattle.std.specs.Prelude.{◌≡◌, ◌≤◌, ℕ, IfOk, length, map};
-ghost use Rattle.go_names.specs.Scopes.{locals_of, AreNested, AreOrderly};
+ghost use Rattle.go_scopes_events.specs.Scopes.{locals_of, AreNested, AreOrderly};
 ghost use Rattle.go_tree.specs.Meanings.{meanings};
-ghost use Rattle.go_lookup.specs.Views.{units_view, entry_view};
+ghost use Rattle.go_scopes_lookup.specs.Views.{units_view, entry_view};
 
 use go_base::Memory;
-use go_lookup::found::{all_found, new_among};
-use go_lookup::meaning::{Entry, entries};
-use go_lookup::unit::Unit;
+use go_scopes_lookup::found::{all_found, new_among};
+use go_scopes_lookup::meaning::{Entry, entries};
+use go_scopes_lookup::unit::Unit;
 use std::alloc::Global;
 
-/// What the imports and the declarations of a package mean. `go_lookup::by_name` makes a table of them that answers what a name means
+/// What the imports and the declarations of a package mean. `go_scopes_lookup::by_name` makes a table of them that answers what a name means
 /// at a token, whether or not the name stands there. The files are numbered from 0 by their places.
 ///
 /// # Errors

@@ -6,21 +6,21 @@ ghost use Rattle.go_base.specs.declared.fault.FaultCode.{FaultCode};
 ghost use Rattle.go_tree.specs.Declarations as rules;
 ghost use Rattle.go_tree.specs.Failures.{of_files};
 ghost use Rattle.go_tree.specs.Redeclared.{has_clash, second_declarations, has_import, hidden_imports, second_imports, is_by_define, has_new, none_new, redeclared};
-ghost use Rattle.go_lookup.specs.Views.{units_view, found_view};
-ghost use Rattle.go_lookup.specs.Keys.{KnowsNames, KnowsStatements};
+ghost use Rattle.go_scopes_lookup.specs.Views.{units_view, found_view};
+ghost use Rattle.go_scopes_lookup.specs.Keys.{KnowsNames, KnowsStatements};
 ghost use Rattle.go_scopes.specs.Noted.{noted};
 ghost use Rattle.go_scopes.specs.Views.{failure_of};
 
 use crate::failure::note;
 use crate::file_rule::{FileRule, note_files};
 use go_base::{Fault, FaultCode, Memory};
-use go_lookup::found::Found;
-use go_lookup::keys::{
+use go_scopes_lookup::found::Found;
+use go_scopes_lookup::keys::{
     Key, Statement, add_name, add_statement, is_parameter, key_of, statement_of,
 };
-use go_lookup::kinds::{is_by_define, is_package};
-use go_lookup::meaning::imports_fmt;
-use go_lookup::unit::{Unit, bytes_at, is_fmt, is_fmt_path};
+use go_scopes_lookup::kinds::{is_by_define, is_package};
+use go_scopes_lookup::meaning::imports_fmt;
+use go_scopes_lookup::unit::{Unit, bytes_at, is_fmt, is_fmt_path};
 use go_tree::event::Event;
 use indexmap::{IndexMap, IndexSet};
 use std::alloc::Global;

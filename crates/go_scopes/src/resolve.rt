@@ -3,15 +3,15 @@
 ghost use Rattle.std.specs.Prelude.{◌≡◌, ◌≤◌, None, Some, IfOk, length, map};
 ghost use Rattle.std.specs.Option.{option_map};
 ghost use Rattle.go_base.specs.Gives.{Meets};
-ghost use Rattle.go_names.specs.Inside.{LocalsInside, nowhere};
-ghost use Rattle.go_names.specs.Orders.{AreInOrder};
-ghost use Rattle.go_names.specs.Scopes.{IsOrderly, AreOrderly};
-ghost use Rattle.go_lookup.specs.Tables.{AreCounted, AreInside};
+ghost use Rattle.go_scopes_events.specs.Inside.{LocalsInside, nowhere};
+ghost use Rattle.go_scopes_events.specs.Orders.{AreInOrder};
+ghost use Rattle.go_scopes_events.specs.Scopes.{IsOrderly, AreOrderly};
+ghost use Rattle.go_scopes_lookup.specs.Tables.{AreCounted, AreInside};
 ghost use Rattle.go_tree.specs.Declarations.{found};
 ghost use Rattle.go_tree.specs.Failures.{least, least_from};
 ghost use Rattle.go_tree.specs.Faults.{lookup_faults, unused_faults, placed_faults, name_faults_by, reported};
 ghost use Rattle.go_tree.specs.Uses.{uses};
-ghost use Rattle.go_lookup.specs.Views.{unit_view, units_view, found_view, asked_view};
+ghost use Rattle.go_scopes_lookup.specs.Views.{unit_view, units_view, found_view, asked_view};
 ghost use Rattle.go_scopes.specs.Resolve.{unit_of, units_of, refusal_of};
 ghost use Rattle.go_scopes.specs.Views.{failure_of};
 
@@ -24,14 +24,16 @@ use crate::lookups::{LookupRule, note_lookups};
 use crate::redeclared::redeclared;
 use crate::unused::{unused_imports, unused_variables};
 use go_base::{Fault, Memory};
-use go_lookup::asked::Asked;
-use go_lookup::declared::uses_of;
-use go_lookup::found::{Found, all_found, new_among};
-use go_lookup::look_up::looked_up;
-use go_lookup::meaning::entries;
-use go_lookup::unit::Unit;
-use go_names::laws::{files_are_orderly, locals_stand_inside_functions, names_are_in_order};
-use go_names::walk::events;
+use go_scopes_events::laws::{
+    files_are_orderly, locals_stand_inside_functions, names_are_in_order,
+};
+use go_scopes_events::walk::events;
+use go_scopes_lookup::asked::Asked;
+use go_scopes_lookup::declared::uses_of;
+use go_scopes_lookup::found::{Found, all_found, new_among};
+use go_scopes_lookup::look_up::looked_up;
+use go_scopes_lookup::meaning::entries;
+use go_scopes_lookup::unit::Unit;
 use go_tree::file::File;
 use go_tree::uses::Uses;
 use std::alloc::{AllocError, Global};

@@ -1,35 +1,12 @@
-//! Laws and worked examples of the definitions. These functions do nothing: their contracts are what holds.
-ghost use Rattle.go_stmts.specs.BodyExamples.{BodyExamples};
-ghost use Rattle.go_stmts.specs.BranchExamples.{BranchExamples};
-ghost use Rattle.go_stmts.specs.Examples.{AssignmentExamples, DeclarationExamples, StatementExamples};
-ghost use Rattle.go_stmts.specs.Moving.{PlaceSaysNothing};
+//! Laws of typed functions. These functions do nothing: their contracts are the laws.
+ghost use Rattle.std.specs.Prelude.{◌≡◌, length};
+ghost use Rattle.go_types.specs.Tables.{Table, IsTable, type_of};
+ghost use Rattle.go_types_relations.specs.Extends.{Extends};
+ghost use Rattle.go_typed.specs.Contents.{func_content};
+ghost use Rattle.go_typed.specs.Funcs.{FuncView};
+ghost use Rattle.go_stmts.specs.Bodies.{KnownFunction};
 
-/// What a function says with its types doesn't depend on where it stands in its file.
-pub fn place_says_nothing()
-    ensures { PlaceSaysNothing }
-{}
-
-/// Assignments: which rule fails where.
-pub fn assignments()
-    ensures { AssignmentExamples }
-{}
-
-/// Declarations: what names stand for behind them, or which rule fails where.
-pub fn declarations()
-    ensures { DeclarationExamples }
-{}
-
-/// Expression statements, branches, loops, returned values and terminating statements.
-pub fn statements()
-    ensures { StatementExamples }
-{}
-
-/// Typed trees of declarations and of a whole function.
-pub fn bodies()
-    ensures { BodyExamples }
-{}
-
-/// Headers, branches and further declarations.
-pub fn branches()
-    ensures { BranchExamples }
+/// What a typed function is stays in each table that has more types.
+pub fn functions_stay()
+    ensures { (old new : Table) → IsTable old → Extends old new → (f : FuncView) → KnownFunction (length old.shapes) f → func_content (type_of new.shapes) f ≡ func_content (type_of old.shapes) f }
 {}

@@ -4,8 +4,8 @@ use mathlib.Core.Path.{fun_ext}
 use Rattle.std.specs.Option.{option_map}
 use Rattle.go_types.specs.Trees.{TypeTree, boolean, text, integer, array, slice, structure, function, declared, TypeRow}
 use Rattle.go_types.specs.Trees as types
-use Rattle.type_tests.specs.Questions.{entry}
-use Rattle.type_tests.specs.Renaming.{renamed, renamed_row}
+use Rattle.go_types_relations.specs.Questions.{entry}
+use Rattle.go_types_relations.specs.Renaming.{renamed, renamed_row}
 use Rattle.go_typed.specs.Contents.{Content, FuncContent, func_renamed, IsRenamed}
 use Rattle.go_typed.specs.Trees.{Sort, Nothing, Unknown, Blank, Nil, Builtin, Println, Package, IsType, Value, Constant, Open, OpenConstant, Results, Typed, typed, Typeds, none, more, skip, sort_mapped, label_mapped, mapped, all_mapped}
 

@@ -5,7 +5,7 @@ use Rattle.go_tree.specs.Uses.{UsesView}
 use Rattle.go_types.specs.Relations.{Rights}
 use Rattle.go_types.specs.Tables.{type_of, rights_of}
 use Rattle.go_types.specs.Trees.{TypeTree}
-use Rattle.type_tests.specs.Renaming.{renamed, IsOneToOne, AreRenamed}
+use Rattle.go_types_relations.specs.Renaming.{renamed, IsOneToOne, AreRenamed}
 use Rattle.go_typed.specs.declared.form.Referent.{Referent}
 use Rattle.go_typed.specs.declared.origin.Origin.{Origin}
 use Rattle.go_typed.specs.Funcs.{FuncView, tree_of}

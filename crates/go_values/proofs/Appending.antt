@@ -2,7 +2,7 @@
 use Rattle.std.proofs.Common.{◌≡◌, ℕ, zero, suc, ◌+◌, ◌<◌, ◌≤◌, Result, Ok, Err, IfOk, List, [], ◌∷◌, ◌++◌, take, drop, length, refl, sym, ap, ◌∙◌, arith, ◌-◌, append_assoc, length-append, length-drop, length-take-le}
 use Rattle.std.proofs.lemmas.Bool.{le-leb}
 use Rattle.go_base.specs.declared.memory.Memory.{Memory}
-use Rattle.type_tests.specs.Zeros.{Zero}
+use Rattle.go_types_relations.specs.Zeros.{Zero}
 use Rattle.go_meaning.specs.Values as meant
 use Rattle.go_meaning.specs.Computations.{World}
 use Rattle.go_meaning.specs.Operations.{Gives, appended, capacity_of, length_of, longer, put_at, with_cells}

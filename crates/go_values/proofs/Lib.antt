@@ -8,3 +8,4 @@ pub mod Appending
 pub mod Quotients
 pub mod Copying
 pub mod Inner
+pub mod Public

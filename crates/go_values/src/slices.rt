@@ -1,7 +1,7 @@
 //! Slices and their arrays (Go specification, "Slice types").
 
 ghost use Rattle.std.specs.Prelude.{◌≡◌, ◌&&◌, ◌+◌, ◌*◌, ◌^◌, ◌<◌, ◌≤◌, ◌++◌, max, [], ◌∷◌, IfOk, IfSome, IfNone, OnOk, OnErr, get_or, int_le, is_some, length, pos, slice_set, take};
-ghost use Rattle.type_tests.specs.Zeros.{Zero};
+ghost use Rattle.go_types_relations.specs.Zeros.{Zero};
 ghost use Rattle.go_meaning.specs.Values as meant;
 ghost use Rattle.go_meaning.specs.Values.{NilFunction, Slice, nth, whole_of, zero_value};
 ghost use Rattle.go_meaning.specs.Operations.{Append, Cell, Copy, Gather, Gives, SetCell, array_at, capacity_of, cell, contents, length_of, longer, made, new_slice, perform, put_at, source, with_cells};

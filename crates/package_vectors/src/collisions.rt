@@ -10,12 +10,12 @@ use case_tables::table::Table;
 use clone_classes::pairwise::pairwise;
 use clone_replies::class_reply;
 use go_base::{Memory, Steps};
-use go_checked::CheckedPackage;
-use package_index::classes::classes;
-use package_index::index::index_of;
+use go_package_defs::CheckedPackage;
 use std::alloc::Global;
 use std::marker::Brand;
 use std::sync::ledger::{Blank, Ledger};
+use window_index::classes::classes;
+use window_index::package::index_of;
 
 pub struct Collisions;
 

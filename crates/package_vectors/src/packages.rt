@@ -4,11 +4,10 @@ ghost use Rattle.std.specs.Prelude.{IfOk};
 ghost use Rattle.go_base.specs.Package.{IsPackage};
 
 use case_tables::folders::folder_of;
-use clone_folder::open_folder;
+use clone_server::open_folder;
 use go_base::{FileText, Memory};
-use go_check::check;
-use go_checked::CheckedPackage;
-use go_reading::CheckError;
+use go_package::check;
+use go_package_defs::{CheckError, CheckedPackage};
 use std::alloc::Global;
 
 /// The files of the package, as `NAME=BYTES`, divided by blanks, and `-` for none.

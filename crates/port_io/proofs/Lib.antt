@@ -1,1 +1,2 @@
 mod StoredLemmas
+mod ListingLemmas

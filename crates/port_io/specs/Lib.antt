@@ -5,3 +5,4 @@ pub mod Plans
 pub mod Held
 pub mod Folders
 pub mod Stored
+pub mod Listing

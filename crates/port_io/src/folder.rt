@@ -1,8 +1,13 @@
-ghost use Rattle.std.specs.Prelude.{◌≡◌, ◌↔◌, ◌++◌, ℕ, List, Option, Some, None, IfOk, IfSome, OnOk, OnErr, IsSome, codes, string_bytes};
+ghost use Rattle.std.specs.Prelude.{◌≡◌, ◌↔◌, ◌++◌, ℕ, List, Option, Some, None, Err, IfOk, IfErr, IfSome, IsErr, OnOk, OnErr, IsSome, codes, string_bytes};
 ghost use Rattle.std.specs.Option.{option_copied, option_map};
 ghost use Rattle.std.specs.IoError.{error_kind};
+ghost use Rattle.std.specs.Iterator.{IsFinite};
+ghost use Rattle.std.specs.Fs.{dir_entry_name};
+ghost use Rattle.std.specs.Str.{IsUtf8};
 ghost use Rattle.std.specs.List.Sorted.{IsPermutation};
 ghost use Rattle.std.specs.FinMap as map;
+ghost use Rattle.go_base.specs.Gives.{Gives};
+ghost use Rattle.port_io.specs.Listing.{folder_refusal, name_failure, name_in_folder, TellsNames, TellsFault};
 ghost use Rattle.port_io.specs.Held.{Held, files_under, with_file};
 ghost use Rattle.port_io.specs.Folders.{CountsCall, Writes};
 ghost use Rattle.port_io.specs.Stored.{held_by, chosen_text};
@@ -11,6 +16,7 @@ use crate::calls::{Calls, raise};
 use crate::store::Store;
 use go_base::{Bytes, Memory, Name, NameError};
 use std::alloc::{AllocError, AllocFailed, Global};
+use std::fs::DirEntry;
 use std::io::ErrorKind;
 use std::rt::Files;
 use std::{fs, io};
@@ -352,9 +358,10 @@ fn counted<X>(outcome: Result<X, FolderError>, faults: &mut u64) -> Result<X, Fo
     outcome
 }
 
-/// The path of a file.
+/// The path of a file. A name that is no text has none.
 fn path_in(alloc: Global, dir: &str, name: &Name) -> Result<String, FolderError>
-    ensures { IfOk result (λ path. string_bytes path ≡ dir.now ++ codes "/" ++ name.now) }
+    ensures path { IfOk result (λ path. string_bytes path ≡ dir.now ++ codes "/" ++ name.now) }
+    ensures failed { (result ≡ Err FolderError.Failed) ↔ (IsUtf8 name.now → ⊥) }
 {
     let Ok(name) = std::str::from_utf8(name.bytes()) else {
         return Err(FolderError::Failed);
@@ -367,23 +374,60 @@ fn list_dir<R: Files + AllocGlobal + Clone + Drop>(
     rt: &R,
     dir: &str,
 ) -> Result<Vec<Name>, FolderError> {
-    let mut names = Vec::new(rt.alloc());
-    for entry in fs::read_dir(rt, dir).map_err(cause)? {
-        let entry = entry.map_err(cause)?;
-        if entry.file_type().map_err(cause)?.is_file() {
-            names.push(name_of(rt.alloc(), entry.file_name())?)?;
+    let alloc = rt.alloc();
+    let entries = fs::read_dir(rt, dir).map_err(cause)?;
+    names_among(alloc, entries.map(|entry| name_at(alloc, entry)))
+}
+
+/// The names among the entries, which end at the first fault.
+fn names_among<I: Iterator<Item = Result<Option<Name>, FolderError>>>(
+    alloc: Global,
+    entries: I,
+) -> Result<Vec<Name>, FolderError>
+    requires can { I.can_next entries }
+    requires ends { IsFinite (I.remaining entries) }
+    ensures names { IfOk result (λ names. TellsNames I.next_gives entries names.items) }
+    ensures failed { (result ≡ Err FolderError.Failed) → TellsFault I.next_gives entries }
+{
+    let mut names = Vec::new(alloc);
+    for entry in entries {
+        if let Some(name) = entry? {
+            names.push(name)?;
         }
     }
     Ok(names)
 }
 
-fn name_of(alloc: Global, text: &str) -> Result<Name, FolderError>
-    ensures { IfOk result (λ name. name ≡ text.now) }
+/// The name of an entry, if it is a plain file.
+fn name_at<R: Files + AllocGlobal + Clone + Drop>(
+    alloc: Global,
+    entry: io::Result<DirEntry<R>>,
+) -> Result<Option<Name>, FolderError>
+    ensures err { IfErr entry (λ _. IsErr result) }
+    ensures name { IfOk entry (λ entry. IfOk result (λ name. IfSome name (λ name. name ≡ dir_entry_name entry))) }
 {
-    Name::of(alloc, text.as_bytes()).map_err(|error| match error {
+    let entry = entry.map_err(cause)?;
+    if entry.file_type().map_err(cause)?.is_file() {
+        Ok(Some(name_of(alloc, entry.file_name())?))
+    } else {
+        Ok(None)
+    }
+}
+
+/// A text that is no name is a failed call.
+fn name_cause(error: NameError) -> FolderError
+    ensures { result ≡ name_failure error }
+{
+    match error {
         NameError::Form => FolderError::Failed,
         NameError::Memory => FolderError::Memory,
-    })
+    }
+}
+
+fn name_of(alloc: Global, text: &str) -> Result<Name, FolderError>
+    ensures { Gives (λ n. n) folder_refusal result (name_in_folder text.now) }
+{
+    Name::of(alloc, text.as_bytes()).map_err(name_cause)
 }
 
 fn read_file<R: Files + AllocGlobal + Clone + Drop>(

@@ -1,8 +1,10 @@
-ghost use Rattle.std.specs.Prelude.{◌≡◌, ℕ, ◌<◌, ◌≤◌, List, [], ◌++◌, length, take, Option, Some, None, IfOk, IfErr, OnOk, OnErr, IfSome};
+ghost use Rattle.std.specs.Prelude.{◌≡◌, ◌==◌, ◌↔◌, ℕ, ◌<◌, ◌≤◌, List, [], ◌++◌, length, take, Option, Some, None, Ok, Err, IfOk, IfErr, IsErr, OnOk, OnErr, IfSome, if◌then◌else◌};
+ghost use Rattle.std.specs.IoError.{error_kind};
 ghost use Rattle.port_io.specs.Faults.{CountsWrite};
 
 use crate::calls::{Calls, raise};
 use std::alloc::{AllocError, Global};
+use std::io;
 use std::io::{ErrorKind, Write};
 use thiserror::Error;
 
@@ -191,19 +193,48 @@ impl<W: Write> FileSink<W> {
     }
 }
 
+/// A failed write, unless memory ran out.
+fn cause(error: io::Error) -> SinkError
+    ensures { (result ≡ SinkError.Memory) ↔ (error_kind error ≡ ErrorKind.OutOfMemory) }
+{
+    if error.kind() == ErrorKind::OutOfMemory {
+        SinkError::Memory
+    } else {
+        SinkError::Failed
+    }
+}
+
+/// How many bytes a writer took. One that took none has failed.
+fn taken(outcome: io::Result<usize>) -> Result<usize, SinkError>
+    ensures ok { IfOk outcome (λ n. result ≡ (if n == 0 then Err SinkError.Failed else Ok n)) }
+    ensures err { IfErr outcome (λ _. IsErr result) }
+    ensures memory { IfErr outcome (λ error. (result ≡ Err SinkError.Memory) ↔ (error_kind error ≡ ErrorKind.OutOfMemory)) }
+{
+    match outcome {
+        Ok(0) => Err(SinkError::Failed),
+        Ok(n) => Ok(n),
+        Err(error) => Err(cause(error)),
+    }
+}
+
+/// The outcome as it is, counted where it is a fault.
+fn counted(outcome: Result<usize, SinkError>, faults: &mut u64) -> Result<usize, SinkError>
+    ensures same { result ≡ outcome }
+    ensures count { CountsWrite outcome faults.old faults.new }
+{
+    if let Err(SinkError::Failed) = &outcome {
+        *faults = raise(*faults);
+    }
+    outcome
+}
+
 impl<W: Write> Sink for FileSink<W> {
     ghost written = { λ s. W.contents s.writer };
 
     ghost faults = { λ s. s.faults };
 
     fn write(&mut self, bytes: &[u8]) -> Result<usize, SinkError> {
-        match self.writer.write(bytes) {
-            Ok(n) if n > 0 => Ok(n),
-            Err(error) if error.kind() == ErrorKind::OutOfMemory => Err(SinkError::Memory),
-            _ => {
-                self.faults = raise(self.faults);
-                Err(SinkError::Failed)
-            }
-        }
+        let outcome = taken(self.writer.write(bytes));
+        counted(outcome, &mut self.faults)
     }
 }

@@ -1,12 +1,14 @@
 //! A real folder, read, edited and written by the program, and read back by it.
 
-use crate::rows::PLAIN;
 use clone_program::Goclone;
 use clone_server::serve::serve;
 use go_base::Bytes;
 use port_io::{DirFolder, MemSink, MemSource};
 use std::fs;
 use std::test::Fail;
+
+const PLAIN: &str =
+    "package main\n\nfunc f(a int) int {\n\tb := a + 1\n\tb = b * 2\n\treturn b\n}\n\nfunc g(x int) int {\n\ty := x + 5\n\ty = y * 2\n\treturn y\n}\n";
 
 /// The status of a run over the folder, and what it writes.
 fn served(rt: &HostRuntime, script: &str) -> Result<(u8, Vec<u8>), Fail> {

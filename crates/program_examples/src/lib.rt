@@ -1,11 +1,7 @@
-//! Worked sessions of the program, over folders, scripts and sinks in memory, and one over a real folder.
+//! A session of the program over a real folder. Sessions over folders in memory are rows of `session_vectors`.
 //!
 //! The tests stand in a crate of their own, since the check of a crate with tests proves it twice.
 #![tactic(auto)]
 
 #[cfg(test)]
 mod folders;
-#[cfg(test)]
-mod rows;
-#[cfg(test)]
-mod runs;

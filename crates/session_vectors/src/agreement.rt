@@ -4,16 +4,16 @@
 ghost use Rattle.std.specs.Prelude.{◌≡◌, ◌≤◌, IfOk};
 ghost use Rattle.go_base.specs.Package.{IsPackage};
 
+use alpha_hash::alpha::AlphaHash;
 use alpha_hash::window_hash::{ConstantHash, WindowHash};
 use clone_classes::pairwise::pairwise;
-use clone_folder::{OpenError, open_folder};
 use clone_program::PackageCheck;
 use clone_replies::class_reply;
+use clone_server::{OpenError, open_folder};
 use clone_session::{Check, Session};
 use go_base::{Bytes, FileText, Memory, Steps};
-use go_reading::CheckError;
+use go_package_defs::CheckError;
 use port_io::MemFolder;
-use rolling_hash::alpha::AlphaHash;
 use std::alloc::Global;
 use std::marker::Brand;
 use std::sync::ledger::{Blank, Ledger};

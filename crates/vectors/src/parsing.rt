@@ -1,4 +1,4 @@
-//! Tables of files: a name, a file in hexadecimal digits (`-` for none), and `tree` or its fault.
+//! Tables of files: a name, a file in hexadecimal digits (`-` for none), and `tree`, its tree written out, or its fault.
 
 ghost use Rattle.std.specs.Prelude.{◌≤◌, length};
 
@@ -8,6 +8,7 @@ use go_base::Memory;
 use go_parse::{ParseError, parse};
 use go_tokens::error::LexError;
 use go_tokens::lex::lex;
+use go_tree::file::File;
 use std::alloc::Global;
 
 /// The bytes of the longest file.
@@ -32,7 +33,7 @@ impl Table for Parsing {
         if bytes.len() > LONGEST {
             return Ok(Some(String::from_str(alloc, "too long")?));
         }
-        let got = answer(alloc, &bytes)?;
+        let got = answer(alloc, &bytes, *wanted != "tree")?;
         if got.as_str() == *wanted {
             Ok(None)
         } else {
@@ -41,13 +42,13 @@ impl Table for Parsing {
     }
 }
 
-/// Whether the file has a tree, or its fault, as the table writes it.
-fn answer(alloc: Global, bytes: &[u8]) -> Result<String, Memory>
+/// The file's tree, which is written out or not, or its fault, as the table writes it.
+fn answer(alloc: Global, bytes: &[u8], is_whole: bool) -> Result<String, Memory>
     requires { length bytes.now ≤ 1048576 }
 {
     let fault = match lex(alloc, 0, bytes) {
         Ok(tokens) => match parse(alloc, &tokens) {
-            Ok(_) => return Ok(String::from_str(alloc, "tree")?),
+            Ok(file) => return written(alloc, &file, is_whole),
             Err(ParseError::Fault(fault)) => fault,
             Err(ParseError::Memory) => return Err(Memory),
         },
@@ -55,4 +56,13 @@ fn answer(alloc: Global, bytes: &[u8]) -> Result<String, Memory>
         Err(LexError::Memory) => return Err(Memory),
     };
     Ok(format!(in alloc; "fault {}", fault.code.number())?)
+}
+
+/// The word for a file that has a tree, or the tree.
+fn written(alloc: Global, file: &File, is_whole: bool) -> Result<String, Memory> {
+    if is_whole {
+        Ok(format!(in alloc; "{:?}", file.root())?)
+    } else {
+        Ok(String::from_str(alloc, "tree")?)
+    }
 }

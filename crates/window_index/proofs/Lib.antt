@@ -6,3 +6,17 @@ pub mod Keeping
 pub mod Owners
 pub mod Counting
 pub mod Staying
+pub mod Ascents
+pub mod Flattened
+pub mod Classified
+pub mod PackageEntering
+pub mod Members
+pub mod Nested
+pub mod Derived
+pub mod Ranks
+pub mod Typings
+pub mod Layouts
+pub mod Readings
+pub mod Functions
+pub mod Packages
+pub mod Bytes

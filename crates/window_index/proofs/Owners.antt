@@ -10,7 +10,7 @@ use Rattle.go_typed.specs.Trees.{Typed, typed, Typeds, none, more, skip}
 use Rattle.clone_window.specs.declared.bounds.Bounds.{Bounds}
 use Rattle.clone_window.specs.Masses.{each_mass}
 use Rattle.clone_window.specs.Windows.{is_heavy, list_count, run_at, windows, windows_along, windows_among, windows_at, windows_from, windows_in}
-use Rattle.clone_same.specs.Bodies.{Body}
+use Rattle.clone_window.specs.Bodies.{Body}
 use Rattle.clone_classes.specs.Classes.{Among}
 use Rattle.clone_classes.specs.Listing.{windows_of_all}
 use Rattle.alpha_hash.specs.Sharing.{numbered, windows_of_func, windows_there}

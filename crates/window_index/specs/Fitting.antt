@@ -4,7 +4,7 @@ use Rattle.std.specs.List.{AllByRecursion}
 use Rattle.go_typed.specs.declared.window.Window.{Window}
 use Rattle.go_typed.specs.Packages.{PackageView}
 use Rattle.clone_window.specs.declared.bounds.Bounds.{Bounds}
-use Rattle.clone_same.specs.Bodies.{bodies_of, same_in}
+use Rattle.clone_window.specs.Bodies.{bodies_of, same_in}
 use Rattle.clone_classes.specs.Classes.{Among}
 use Rattle.clone_classes.specs.Listing.{windows_of_all}
 use Rattle.window_index.specs.Buckets.{Bucket, held, is_some_left, leads}

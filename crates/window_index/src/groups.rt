@@ -1,12 +1,12 @@
 //! Groups of windows that are the same.
 
 ghost use Rattle.std.specs.Prelude.{◌≡◌, ◌≤◌, ◌<◌, ◌+◌, ◌++◌, ◌∷◌, [], length, map, filter, IfOk, OnOk, OnErr};
-ghost use Rattle.clone_same.specs.Bodies.{same_in};
+ghost use Rattle.clone_window.specs.Bodies.{same_in};
 ghost use Rattle.clone_classes.specs.Listing.{members_of};
 ghost use Rattle.window_index.specs.Buckets.{is_some_left, is_two, joined, leads, others_in, without};
 ghost use Rattle.window_index.specs.Groups.{first_led, rows, with_one};
 
-use clone_same::same::same;
+use clone_window::same::same;
 use go_base::{Memory, Steps};
 use go_typed::checked::Checked;
 use go_typed::window::{Class, Window, Windows};

@@ -4,7 +4,7 @@ ghost use Rattle.std.specs.Prelude.{◌≡◌, ◌≤◌, ◌<◌, ◌+◌, ◌+
 ghost use Rattle.std.specs.List.{AllByRecursion};
 ghost use Rattle.std.specs.List.Sorted.{IsPermutation};
 ghost use Rattle.go_typed.specs.Packages.{PackageView as Package};
-ghost use Rattle.clone_same.specs.Bodies.{bodies_of, same_in};
+ghost use Rattle.clone_window.specs.Bodies.{bodies_of, same_in};
 ghost use Rattle.clone_classes.specs.Listing.{members_of};
 ghost use Rattle.alpha_hash.specs.Sharing.{numbered, windows_of_func};
 ghost use Rattle.window_index.specs.Buckets.{all_entered, entered, groups_in, held, is_of, is_some_left, is_two, left, without};

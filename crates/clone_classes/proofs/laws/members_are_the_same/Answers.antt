@@ -1,6 +1,6 @@
 use Rattle.std.specs.Prelude.{nat_eq}
 use Rattle.clone_classes.specs.Listing.{windows_of_all}
-use Rattle.clone_same.specs.Bodies.{are_same}
+use Rattle.clone_window.specs.Bodies.{are_same}
 use Rattle.clone_classes.proofs.Groups.{members-are-windows, members-are-same}
 use Rattle.clone_classes.proofs.Sameness.{within, numbers}
 use Rattle.clone_classes.proofs.laws.members_are_the_same.Goals as goal

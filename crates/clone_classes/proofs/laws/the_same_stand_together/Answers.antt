@@ -1,6 +1,6 @@
 use Rattle.std.specs.Prelude.{nat_eq}
 use Rattle.clone_classes.specs.Listing.{windows_of_all}
-use Rattle.clone_same.specs.Bodies.{are_same}
+use Rattle.clone_window.specs.Bodies.{are_same}
 use Rattle.clone_classes.proofs.Groups.{same-stand-together}
 use Rattle.clone_classes.proofs.Sameness.{within, numbers}
 use Rattle.clone_classes.proofs.laws.the_same_stand_together.Goals as goal

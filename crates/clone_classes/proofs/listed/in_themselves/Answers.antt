@@ -1,7 +1,7 @@
 use Rattle.std.proofs.Common.{◌≡◌, ◌+◌, List, [], ◌∷◌, ◌++◌, take, sym, subst, ap, ◌∙◌}
 use Rattle.std.proofs.lemmas.List.{take_more}
 use Rattle.go_typed.specs.declared.window.Class.{Class}
-use Rattle.clone_same.specs.Bodies.{bodies_of}
+use Rattle.clone_window.specs.Bodies.{bodies_of}
 use Rattle.clone_classes.specs.Choices.{place_of}
 use Rattle.clone_classes.specs.Orders.{AreOrdered}
 use Rattle.clone_classes.proofs.Orders.{ordered-more}

@@ -1,6 +1,6 @@
 use Rattle.std.proofs.Common.{rules}
 use Rattle.std.proofs.lemmas.Fn.{always_returns_same}
-use Rattle.clone_same.specs.Bodies.{bodies_of}
+use Rattle.clone_window.specs.Bodies.{bodies_of}
 use Rattle.clone_classes.specs.Choices.{place_of}
 use Rattle.clone_classes.specs.Orders.{class_place}
 use Rattle.clone_classes.proofs.listed.sort_classes.Goals as goal

@@ -1,6 +1,6 @@
 use Rattle.std.proofs.Common.{◌≡◌, ◌∙◌, ◌++◌, Some, length, slice_get, refl, ap, sym}
 use Rattle.std.proofs.lemmas.Option.{slice_get_read}
-use Rattle.clone_same.specs.Bodies.{bodies_of}
+use Rattle.clone_window.specs.Bodies.{bodies_of}
 use Rattle.clone_classes.specs.Listing.{windows_of_all}
 use Rattle.clone_classes.proofs.Grouping.{functions-step}
 use Rattle.clone_classes.proofs.pairwise.all_windows.Goals as goal

@@ -1,5 +1,5 @@
 use Rattle.std.proofs.Common.{◌≡◌, ◌∷◌, ◌++◌, filter, drop}
-use Rattle.clone_same.specs.Bodies.{same_in}
+use Rattle.clone_window.specs.Bodies.{same_in}
 use Rattle.clone_classes.proofs.pairwise.led_by.Given as goal
 
 abbrev pub invariant-loop-other : goal.invariant-loop-other

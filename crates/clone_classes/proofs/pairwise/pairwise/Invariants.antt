@@ -1,5 +1,5 @@
 use Rattle.std.proofs.Common.{◌≡◌, ◌++◌, take, drop}
-use Rattle.clone_same.specs.Bodies.{same_in}
+use Rattle.clone_window.specs.Bodies.{same_in}
 use Rattle.clone_classes.specs.Classes.{classes, classes_from}
 use Rattle.clone_classes.specs.Listing.{members_of}
 use Rattle.clone_classes.proofs.pairwise.pairwise.Given as goal

@@ -1,7 +1,7 @@
 use Rattle.std.proofs.Common.{◌≡◌, ◌∙◌, Bool, List, [], ◌∷◌, ◌++◌, length, ap, sym, subst}
 use Rattle.std.specs.Prelude.{OnOk, nat_lt, if◌then◌else◌}
 use Rattle.go_typed.specs.declared.window.Window.{Window}
-use Rattle.clone_same.specs.Bodies.{same_in}
+use Rattle.clone_window.specs.Bodies.{same_in}
 use Rattle.clone_classes.specs.Listing.{members_of}
 use Rattle.clone_classes.proofs.Grouping.{led-if}
 use Rattle.clone_classes.proofs.pairwise.push_class.Goals as goal

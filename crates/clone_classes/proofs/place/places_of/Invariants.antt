@@ -1,5 +1,5 @@
 use Rattle.std.proofs.Common.{◌≡◌, map, take}
-use Rattle.clone_same.specs.Bodies.{bodies_of}
+use Rattle.clone_window.specs.Bodies.{bodies_of}
 use Rattle.clone_classes.specs.Choices.{place_of}
 use Rattle.clone_classes.proofs.place.places_of.Given as goal
 

@@ -1,5 +1,5 @@
 use Rattle.std.proofs.lemmas.Result.{err_from_is_err_and}
-use Rattle.clone_intake.specs.Taking.{outcome_of}
+use Rattle.clone_server.specs.Taking.{outcome_of}
 use Rattle.clone_server.specs.Session.{outcome_text, outcome_status}
 use Rattle.clone_server.proofs.Ending.{closes_before}
 use Rattle.clone_server.proofs.serve.finish.Goals as goal

@@ -1,7 +1,7 @@
 use Rattle.std.proofs.Common.{◌≡◌, Err, sym, subst}
 use Rattle.go_base.specs.Gives.{Unless}
-use Rattle.clone_words.specs.declared.words.WordsError.TheVariants as errors
-use Rattle.clone_words.specs.Words.{texts_of, words_of, words_refusal}
+use Rattle.clone_server.specs.declared.words.WordsError.TheVariants as errors
+use Rattle.clone_server.specs.Words.{texts_of, words_of, words_refusal}
 use Rattle.clone_server.specs.Run.{RunsWords}
 use Rattle.clone_server.proofs.Ending.{words_memory}
 use Rattle.clone_server.proofs.serve.run.Goals as goal

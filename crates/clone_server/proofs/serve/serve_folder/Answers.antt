@@ -1,7 +1,7 @@
 use Rattle.std.proofs.Common.{◌≡◌, Ok, Err, refl, sym, subst, ◌∙◌}
 use Rattle.go_base.specs.Gives.{Unless}
-use Rattle.clone_folder.specs.declared.folder.OpenError.TheVariants as errors
-use Rattle.clone_folder.specs.Opening.{opened, open_refusal}
+use Rattle.clone_server.specs.declared.folder.OpenError.TheVariants as errors
+use Rattle.clone_server.specs.Opening.{opened, open_refusal}
 use Rattle.clone_server.specs.Run.{RunsFolder}
 use Rattle.clone_server.proofs.Ending.{folder_files, folder_failed, folder_memory}
 use Rattle.clone_server.proofs.serve.serve_folder.Goals as goal

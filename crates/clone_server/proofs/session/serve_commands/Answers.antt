@@ -1,6 +1,6 @@
 use Rattle.std.proofs.Common.{◌++◌, Ok, Err, refl, sym, subst, ◌∙◌, arith}
 use Rattle.std.proofs.lemmas.Result.{err_from_is_err_and}
-use Rattle.clone_intake.specs.Taking.{Taken, IsWithin, Comes}
+use Rattle.clone_server.specs.Taking.{Taken, IsWithin, Comes}
 use Rattle.clone_server.specs.Serving.{Serves}
 use Rattle.clone_server.proofs.Standing.{Stands, stands_first, stands_more, stops_within, stands_end, stands_still}
 use Rattle.clone_server.proofs.session.serve_commands.Goals as goal

@@ -1,7 +1,7 @@
 use Rattle.std.proofs.Common.{◌≡◌, ◌-◌, List, ℕ, Some}
 use Rattle.port_io.specs.Held.{Held}
 use Rattle.clone_script.specs.Script.{most_script}
-use Rattle.clone_intake.specs.Taking.{IsWithin, consumed}
+use Rattle.clone_server.specs.Taking.{IsWithin, consumed}
 use Rattle.clone_server.proofs.Standing.{Stands}
 use Rattle.clone_server.proofs.session.serve_commands.Given as goal
 

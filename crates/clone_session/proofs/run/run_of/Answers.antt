@@ -1,6 +1,6 @@
 use Rattle.std.proofs.Common.{subst}
 use Rattle.go_base.specs.Gives.{Gives}
-use Rattle.go_run.specs.Runs.{outcome_view, refusal}
+use Rattle.go_eval.specs.Runs.{outcome_view, refusal}
 use Rattle.clone_session.proofs.run.run_of.Goals as goal
 
 pub returns : goal.returns

@@ -1,7 +1,7 @@
 use Rattle.std.proofs.Common.{ℕ, ◌<◌, length, sym, subst}
 use Rattle.std.specs.List.{AllByRecursion}
 use Rattle.go_types.specs.Tables.{HasPartsBelow}
-use Rattle.go_call_rules.proofs.Lists.{back_known}
+use Rattle.go_exprs_calls.proofs.Public.{back_known}
 use Rattle.go_declarations.proofs.assigning.result_row.Goals as goal
 
 pub returns-in-Some-Func-clause-known : goal.returns-in-Some-Func-clause-known

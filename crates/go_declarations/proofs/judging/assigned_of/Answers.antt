@@ -3,8 +3,8 @@ use Rattle.std.specs.Option.{option_map}
 use Rattle.std.proofs.lemmas.Result.{IfOk-weaker}
 use Rattle.go_types.specs.Tables.{rights_of}
 use Rattle.go_typed.specs.Views.{seen}
-use Rattle.go_rules.specs.TypeNodes.{part_type}
-use Rattle.go_package.specs.Verdicts.{are_judged, assigned_if, assigned_as}
+use Rattle.go_exprs_rules.specs.TypeNodes.{part_type}
+use Rattle.go_package_defs.specs.Verdicts.{are_judged, assigned_if, assigned_as}
 use Rattle.go_declarations.specs.Assigned.{ShowsAssigned}
 use Rattle.go_declarations.specs.Views.{specification_view}
 use Rattle.go_declarations.proofs.judging.assigned_of.Goals as goal

@@ -1,6 +1,6 @@
 use Rattle.std.proofs.Common.{◌≡◌, ◌≤◌, ◌+◌, drop, length}
 use Rattle.go_tree.specs.Views.{views}
-use Rattle.go_package.specs.Declarations.{trees_of}
+use Rattle.go_package_defs.specs.Declarations.{trees_of}
 use Rattle.go_declarations.proofs.judging.count.Given as goal
 
 abbrev pub invariant-loop-part : goal.invariant-loop-part

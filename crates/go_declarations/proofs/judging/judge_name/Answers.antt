@@ -3,14 +3,14 @@ use Rattle.std.specs.Option.{option_map}
 use Rattle.std.proofs.lemmas.Result.{IfOk-weaker}
 use Rattle.go_tree.specs.Views.{view}
 use Rattle.go_types.specs.Tables.{rights_of}
-use Rattle.type_tests.proofs.Extending.{grows_both}
+use Rattle.go_types_relations.proofs.Public.{grows_both}
 use Rattle.go_typed.specs.Views.{seen}
-use Rattle.go_rules.specs.Faults.{least, earlier}
-use Rattle.go_rules.specs.Hints.{hint_seen}
-use Rattle.go_rules.proofs.Firsts.{least_append}
-use Rattle.go_type_rules.specs.Naming.{names}
-use Rattle.go_exprs.proofs.Stays.{names_stay, scope_known, basics_stay}
-use Rattle.go_package.specs.Verdicts.{part_in, faults_in, value_hint, own_value, type_faults, typed_type, own_faults, assigned_of, state_with}
+use Rattle.go_exprs_rules.specs.Faults.{least, earlier}
+use Rattle.go_exprs_rules.specs.Hints.{hint_seen}
+use Rattle.go_exprs_rules.proofs.Public.{least_append}
+use Rattle.go_exprs_types.specs.Naming.{names}
+use Rattle.go_exprs_engine.proofs.Public.{names_stay, scope_known, basics_stay}
+use Rattle.go_package_defs.specs.Verdicts.{part_in, faults_in, value_hint, own_value, type_faults, typed_type, own_faults, assigned_of, state_with}
 use Rattle.go_declarations.specs.Judged.{fault_in}
 use Rattle.go_declarations.specs.States.{ShowsState}
 use Rattle.go_declarations.specs.Views.{specification_view}

@@ -1,7 +1,7 @@
 use Rattle.std.proofs.Common.{◌≡◌, drop}
 use Rattle.std.specs.Prelude.{slice_get}
 use Rattle.go_tree.specs.Views.{views}
-use Rattle.go_package.specs.Declarations.{trees_of}
+use Rattle.go_package_defs.specs.Declarations.{trees_of}
 use Rattle.go_declarations.proofs.judging.present_at.Given as goal
 
 abbrev pub invariant-loop-part : goal.invariant-loop-part

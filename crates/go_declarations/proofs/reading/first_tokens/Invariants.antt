@@ -1,6 +1,6 @@
 use Rattle.std.proofs.Common.{◌≡◌, ◌++◌, drop}
 use Rattle.go_tree.specs.Views.{views}
-use Rattle.go_package.specs.Declarations.{first_tokens}
+use Rattle.go_package_defs.specs.Declarations.{first_tokens}
 use Rattle.go_declarations.proofs.reading.first_tokens.Given as goal
 
 abbrev pub invariant-loop-part : goal.invariant-loop-part

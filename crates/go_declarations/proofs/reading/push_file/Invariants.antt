@@ -1,6 +1,6 @@
 use Rattle.std.proofs.Common.{◌≡◌, ◌++◌, drop}
 use Rattle.go_tree.specs.Views.{views}
-use Rattle.go_package.specs.Declarations.{declarations}
+use Rattle.go_package_defs.specs.Declarations.{declarations}
 use Rattle.go_declarations.specs.Views.{seen_all}
 use Rattle.go_declarations.proofs.reading.push_file.Given as goal
 

@@ -1,7 +1,7 @@
 use Rattle.std.proofs.Common.{◌≡◌, ◌≤◌, ◌++◌, drop, None}
 use Rattle.std.specs.Option.{option_map}
 use Rattle.go_tree.specs.Views.{view, views}
-use Rattle.go_package.specs.Declarations.{grouped}
+use Rattle.go_package_defs.specs.Declarations.{grouped}
 use Rattle.go_declarations.specs.Views.{seen_all}
 use Rattle.go_declarations.proofs.reading.push_group.Given as goal
 

@@ -1,6 +1,6 @@
 use Rattle.std.proofs.Common.{◌≡◌, ◌++◌, drop, map}
-use Rattle.go_package.specs.Answer.{specifications}
-use Rattle.go_package.specs.Sources.{source_of}
+use Rattle.go_package_defs.specs.Answer.{specifications}
+use Rattle.go_package_defs.specs.Sources.{source_of}
 use Rattle.go_declarations.specs.Views.{seen_all}
 use Rattle.go_declarations.proofs.reading.specifications.Given as goal
 

@@ -1,7 +1,7 @@
 use Rattle.std.proofs.Common.{◌≡◌}
 use Rattle.std.specs.HashMap as hash
 use Rattle.go_needs.specs.Blocked.{any_below}
-use Rattle.go_cycles.specs.Ranks.{same_place}
+use Rattle.go_scopes_cycles.specs.Ranks.{same_place}
 use Rattle.go_needs.proofs.blocked.any_below.Given as goal
 
 abbrev pub invariant-loop-column : goal.invariant-loop-column

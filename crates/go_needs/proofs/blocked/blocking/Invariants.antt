@@ -1,7 +1,7 @@
 use Rattle.std.proofs.Common.{◌≡◌, ◌++◌, drop}
 use Rattle.std.specs.HashMap as hash
 use Rattle.go_needs.specs.Blocked.{blocking}
-use Rattle.go_cycles.specs.Ranks.{same_place}
+use Rattle.go_scopes_cycles.specs.Ranks.{same_place}
 use Rattle.go_needs.proofs.blocked.blocking.Given as goal
 
 abbrev pub invariant-loop-number : goal.invariant-loop-number

@@ -1,6 +1,6 @@
 use Rattle.std.proofs.Common.{◌≡◌, ◌+◌, ◌∷◌, ◌++◌, ◌∙◌, [], suc, drop, ap, sym, arith, append_assoc, None, slice_index_or}
 use Rattle.go_needs.specs.declared.owners.Owner.{Owner}
-use Rattle.go_package.specs.Verdicts.{is_in}
+use Rattle.go_package_defs.specs.Verdicts.{is_in}
 use Rattle.go_needs.specs.Blocked.{flags_from}
 use Rattle.go_needs.proofs.Lists.{drop-one}
 use Rattle.go_needs.proofs.blocked.flags.Goals as goal

@@ -1,5 +1,5 @@
 use Rattle.std.proofs.Common.{◌≡◌, drop}
-use Rattle.go_package.specs.Verdicts.{is_in}
+use Rattle.go_package_defs.specs.Verdicts.{is_in}
 use Rattle.go_needs.proofs.blocked.is_in.Given as goal
 
 abbrev pub invariant-loop-own : goal.invariant-loop-own

@@ -1,7 +1,7 @@
 use Rattle.std.proofs.Common.{◌≡◌, drop}
 use Rattle.std.specs.HashMap as hash
 use Rattle.go_needs.specs.Bounds.{are_bounded}
-use Rattle.go_cycles.specs.Ranks.{same_place}
+use Rattle.go_scopes_cycles.specs.Ranks.{same_place}
 use Rattle.go_needs.proofs.bounds.are_bounded.Given as goal
 
 abbrev pub invariant-loop-number : goal.invariant-loop-number

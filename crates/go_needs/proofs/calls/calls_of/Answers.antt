@@ -1,7 +1,7 @@
 use Rattle.std.proofs.Common.{◌≡◌, ◌+◌, ◌∷◌, ◌++◌, ◌∙◌, ◌&&◌, ℕ, true, drop, map, ap, sym, arith}
 use Rattle.std.specs.HashSet as set
-use Rattle.go_lookup.specs.Tables.{same_spot}
-use Rattle.go_lookup.specs.Views.{asked_view}
+use Rattle.go_scopes_lookup.specs.Tables.{same_spot}
+use Rattle.go_scopes_lookup.specs.Views.{asked_view}
 use Rattle.go_needs.specs.Calls.{call_of, with_call, calls_of, fits_one, fits}
 use Rattle.go_needs.specs.Owners.{has_source}
 use Rattle.go_needs.proofs.Lists.{drop-next}

@@ -1,5 +1,5 @@
 use Rattle.std.proofs.Common.{◌≡◌, ◌++◌, drop, map}
-use Rattle.go_lookup.specs.Views.{asked_view}
+use Rattle.go_scopes_lookup.specs.Views.{asked_view}
 use Rattle.go_needs.specs.Calls.{calls_of, fits}
 use Rattle.go_needs.proofs.calls.calls_of.Given as goal
 

@@ -1,6 +1,6 @@
 use Rattle.std.proofs.Common.{◌≡◌, ◌-◌, ◌∷◌, ◌∙◌, drop, ap, arith, slice_index_or}
 use Rattle.std.specs.HashMap as hash
-use Rattle.go_lookup.specs.Tables.{same_spot}
+use Rattle.go_scopes_lookup.specs.Tables.{same_spot}
 use Rattle.go_needs.specs.Declaring.{over_names}
 use Rattle.go_needs.proofs.Lists.{drop-one}
 use Rattle.go_needs.proofs.declaring.add_names.Goals as goal

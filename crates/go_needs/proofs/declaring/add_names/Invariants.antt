@@ -1,6 +1,6 @@
 use Rattle.std.proofs.Common.{◌≡◌, ℕ, drop}
 use Rattle.std.specs.HashMap as hash
-use Rattle.go_lookup.specs.Tables.{same_spot}
+use Rattle.go_scopes_lookup.specs.Tables.{same_spot}
 use Rattle.go_needs.specs.Declaring.{over_names}
 use Rattle.go_needs.proofs.declaring.add_names.Given as goal
 

@@ -1,6 +1,6 @@
 use Rattle.std.proofs.Common.{◌≡◌, ℕ, drop}
 use Rattle.std.specs.HashMap as hash
-use Rattle.go_lookup.specs.Tables.{same_spot}
+use Rattle.go_scopes_lookup.specs.Tables.{same_spot}
 use Rattle.go_declarations.specs.Views.{seen_all}
 use Rattle.go_needs.specs.Declaring.{declaring_from}
 use Rattle.go_needs.proofs.declaring.table_of.Given as goal

@@ -1,5 +1,5 @@
 use Rattle.std.proofs.Common.{◌≡◌, ◌+◌, ◌≤◌, drop, length}
-use Rattle.go_package.specs.Declarations.{trees_of}
+use Rattle.go_package_defs.specs.Declarations.{trees_of}
 use Rattle.go_tree.specs.Views.{views}
 use Rattle.go_needs.proofs.groups.count_values.Given as goal
 

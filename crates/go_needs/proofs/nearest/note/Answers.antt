@@ -2,8 +2,8 @@ use Rattle.std.proofs.Common.{◌≡◌, ◌∙◌, ℕ, Bool, true, false, cond
 use Rattle.std.specs.Prelude.{if◌then◌else◌}
 use Rattle.std.specs.HashMap as hash
 use Rattle.go_needs.specs.Levels.{nearer, here}
-use Rattle.go_cycles.specs.Ranks.{same_place}
-use Rattle.go_cycles.proofs.Ranked.{place_sound}
+use Rattle.go_scopes_cycles.specs.Ranks.{same_place}
+use Rattle.go_scopes_cycles.proofs.Public.{place_sound}
 use Rattle.go_needs.proofs.nearest.note.Goals as goal
 
 -- a level is noted where there was none

@@ -1,7 +1,7 @@
 use Rattle.std.proofs.Common.{rules, ◌≡◌, ◌∙◌, map, sym, ap}
 use Rattle.std.proofs.lemmas.Result.{IfOk-weaker}
-use Rattle.go_lookup.specs.Sited.{sited}
-use Rattle.go_lookup.specs.Views.{units_view, asked_view}
+use Rattle.go_scopes_lookup.specs.Sited.{sited}
+use Rattle.go_scopes_lookup.specs.Views.{units_view, asked_view}
 use Rattle.go_needs.specs.Calls.{calls_of, fits}
 use Rattle.go_needs.specs.Tells.{all_owners, names_asked}
 use Rattle.go_needs.proofs.Sited.{calls_sited, fits_sited}

@@ -1,7 +1,7 @@
 use Rattle.std.proofs.Common.{rules, ◌≡◌, ◌∙◌, map, Some, sym, ap}
 use Rattle.go_declarations.specs.Views.{seen_all}
 use Rattle.go_tree.specs.Declarations.{found}
-use Rattle.go_lookup.specs.Views.{units_view, found_view}
+use Rattle.go_scopes_lookup.specs.Views.{units_view, found_view}
 use Rattle.go_needs.specs.Declaring.{KnowsDeclaring, declaring_by}
 use Rattle.go_needs.specs.Groups.{group_view, group_by}
 use Rattle.go_needs.specs.Objects.{KnowsOwners, owner_by}

@@ -1,8 +1,8 @@
 use Rattle.std.proofs.Common.{◌∙◌, map, refl, sym, ap}
 use Rattle.go_declarations.specs.Views.{seen_all}
 use Rattle.go_tree.specs.Declarations.{found}
-use Rattle.go_lookup.specs.Views.{units_view}
-use Rattle.go_package.specs.Sources.{package_of, source_of}
+use Rattle.go_scopes_lookup.specs.Views.{units_view}
+use Rattle.go_package_defs.specs.Sources.{package_of, source_of}
 use Rattle.go_needs.specs.Tells.{names_asked}
 use Rattle.go_needs.proofs.Telling.{units_same, are_calls}
 use Rattle.go_needs.proofs.needs.needs_of.Goals as goal

@@ -1,7 +1,7 @@
 use Rattle.std.proofs.Common.{arith, ◌≡◌, ◌-◌, ◌∷◌, ◌∙◌, ap, map, drop}
 use Rattle.std.specs.Option.{option_map}
-use Rattle.go_lookup.specs.Views.{found_view}
-use Rattle.go_package.specs.Sources.{declared_at}
+use Rattle.go_scopes_lookup.specs.Views.{found_view}
+use Rattle.go_package_defs.specs.Sources.{declared_at}
 use Rattle.go_needs.specs.Owners.{owner_of}
 use Rattle.go_needs.proofs.Lists.{drop-back, drop-nothing}
 use Rattle.go_needs.proofs.objects.owned_of.Goals as goal

@@ -1,5 +1,5 @@
 use Rattle.std.proofs.Common.{drop, map}
-use Rattle.go_lookup.specs.Views.{found_view}
+use Rattle.go_scopes_lookup.specs.Views.{found_view}
 use Rattle.go_needs.specs.Objects.{KnowsOwners}
 use Rattle.go_needs.proofs.objects.owned_of.Given as goal
 

@@ -1,6 +1,6 @@
 use Rattle.std.proofs.Common.{◌≡◌}
 use Rattle.std.specs.HashMap as hash
-use Rattle.go_cycles.specs.Ranks.{same_place}
+use Rattle.go_scopes_cycles.specs.Ranks.{same_place}
 use Rattle.go_needs.specs.Ranks.{low_below}
 use Rattle.go_needs.proofs.ranked.low_below.Given as goal
 

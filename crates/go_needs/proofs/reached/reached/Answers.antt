@@ -1,7 +1,7 @@
 use Rattle.std.proofs.Common.{rules, ◌≡◌, ◌+◌, ◌≤◌, true, length}
 use Rattle.std.specs.HashMap as hash
 use Rattle.go_needs.specs.Levels.{are_settled, KnowsNearest}
-use Rattle.go_cycles.specs.Ranks.{same_place}
+use Rattle.go_scopes_cycles.specs.Ranks.{same_place}
 use Rattle.go_needs.proofs.Settled.{reached_so}
 use Rattle.go_needs.proofs.reached.reached.Goals as goal
 

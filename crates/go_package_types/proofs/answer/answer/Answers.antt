@@ -2,8 +2,8 @@ use Rattle.std.proofs.Common.{◌≡◌, Option, Result, None, Ok, ap, sym, ◌�
 use Rattle.std.specs.Option.{option_map}
 use Rattle.go_tree.specs.Failures.{Failure, least}
 use Rattle.go_scopes.specs.Views.{failure_of}
-use Rattle.go_package.specs.Answer.{Environment, all_failures, environment_of, unless}
-use Rattle.go_judging.specs.World.{package_in, specifications_in, outlines_in}
+use Rattle.go_package_defs.specs.Answer.{Environment, all_failures, environment_of, unless}
+use Rattle.go_package_rounds.specs.World.{package_in, specifications_in, outlines_in}
 use Rattle.go_package_types.proofs.Environments.{shows_more}
 use Rattle.go_package_types.proofs.answer.answer.Goals as goal
 

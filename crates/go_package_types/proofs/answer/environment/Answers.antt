@@ -4,7 +4,7 @@ use Rattle.go_types.specs.Tables.{type_of}
 use Rattle.go_typed.specs.Scopes.{EnvView}
 use Rattle.go_typed.specs.Trees.{sort_mapped}
 use Rattle.go_typed.specs.Views.{sort_view}
-use Rattle.go_judging.proofs.RightSides.{held_are}
+use Rattle.go_package_rounds.proofs.Public.{held_are}
 use Rattle.go_package_types.specs.Answers.{environment_seen, HaveRights}
 use Rattle.go_package_types.proofs.Environments.{stands_are, all_there, stands_known}
 use Rattle.go_package_types.proofs.answer.environment.Goals as goal

@@ -4,12 +4,11 @@ use Rattle.std.proofs.lemmas.Result.{IfOk-weaker}
 use Rattle.go_tree.specs.Failures.{least, least_from}
 use Rattle.go_scopes.specs.Views.{failure_of}
 use Rattle.go_needs.specs.Passing.{ArePassing}
-use Rattle.go_package.specs.Answer.{all_failures, mains_from}
-use Rattle.go_package.specs.Knowledge as knowledge
-use Rattle.go_judging.specs.Held.{all_seen, summary}
-use Rattle.go_judging.specs.World.{package_in, specifications_in, outlines_in, StandsFor, KnownStandings}
-use Rattle.go_judging.proofs.Standings.{sound_tests}
-use Rattle.go_judging.proofs.Stays.{all_more, all_stay}
+use Rattle.go_package_defs.specs.Answer.{all_failures, mains_from}
+use Rattle.go_package_defs.specs.Knowledge as knowledge
+use Rattle.go_package_rounds.specs.Held.{all_seen, summary}
+use Rattle.go_package_rounds.specs.World.{package_in, specifications_in, outlines_in, StandsFor, KnownStandings}
+use Rattle.go_package_rounds.proofs.Public.{sound_tests, all_more, all_stay}
 use Rattle.go_package_types.specs.Known.{AreBlocked}
 use Rattle.go_package_types.proofs.Environments.{faulty_are, misassigned_are}
 use Rattle.go_package_types.proofs.answer.least_fault.Goals as goal

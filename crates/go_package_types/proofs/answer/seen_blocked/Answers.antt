@@ -1,5 +1,5 @@
 use Rattle.std.proofs.lemmas.Result.{IfOk-weaker}
-use Rattle.go_judging.specs.World.{package_in, specifications_in}
+use Rattle.go_package_rounds.specs.World.{package_in, specifications_in}
 use Rattle.go_package_types.proofs.answer.seen_blocked.Goals as goal
 
 pub returns-then-contains-2 : goal.returns-then-contains-2

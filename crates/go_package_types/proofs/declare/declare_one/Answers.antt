@@ -1,7 +1,7 @@
 use Rattle.std.proofs.Common.{◌≡◌, ◌++◌, ◌∷◌, [], sym, subst}
 use Rattle.go_types.specs.Tables.{rights_of}
-use Rattle.go_package.specs.Knowledge.{is_type}
-use Rattle.go_judging.specs.World.{AreNamed}
+use Rattle.go_package_defs.specs.Knowledge.{is_type}
+use Rattle.go_package_rounds.specs.World.{AreNamed}
 use Rattle.go_package_types.specs.Numbers.{open_right}
 use Rattle.go_package_types.proofs.Declaring.{named_next, rights_next}
 use Rattle.go_package_types.proofs.declare.declare_one.Goals as goal

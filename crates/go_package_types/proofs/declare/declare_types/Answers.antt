@@ -1,6 +1,6 @@
 use Rattle.std.proofs.Common.{◌++◌, length, ap, sym, ◌∙◌}
 use Rattle.go_types.specs.Tables.{rights_of}
-use Rattle.type_tests.proofs.Extending.{extends_self, extends_both}
+use Rattle.go_types_relations.proofs.Public.{extends_self, extends_both}
 use Rattle.go_package_types.specs.Numbers.{open_rights}
 use Rattle.go_package_types.proofs.Declaring.{open_step, nothing_named, no_rights}
 use Rattle.go_package_types.proofs.declare.declare_types.Goals as goal

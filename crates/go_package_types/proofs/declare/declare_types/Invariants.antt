@@ -1,7 +1,7 @@
 use Rattle.std.proofs.Common.{◌≡◌, ◌++◌, length, drop}
 use Rattle.go_types.specs.Tables.{rights_of}
-use Rattle.type_tests.specs.Extends.{Extends}
-use Rattle.go_judging.specs.World.{AreNamed}
+use Rattle.go_types_relations.specs.Extends.{Extends}
+use Rattle.go_package_rounds.specs.World.{AreNamed}
 use Rattle.go_package_types.specs.Numbers.{open_rights}
 use Rattle.go_package_types.proofs.declare.declare_types.Given as goal
 

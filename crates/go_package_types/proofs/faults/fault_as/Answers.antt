@@ -1,12 +1,12 @@
 use Rattle.std.proofs.Common.{length, ap, sym, subst, ◌∙◌}
 use Rattle.std.proofs.lemmas.Result.{IfOk-weaker}
 use Rattle.go_typed.specs.Scopes.{LocalsView}
-use Rattle.go_rules.specs.Seen.{AreBasics}
-use Rattle.go_rules.specs.Faults.{least}
-use Rattle.go_package.specs.Knowledge as knowledge
+use Rattle.go_exprs_rules.specs.Seen.{AreBasics}
+use Rattle.go_exprs_rules.specs.Faults.{least}
+use Rattle.go_package_defs.specs.Knowledge as knowledge
 use Rattle.go_declarations.specs.Reads.{SpecificationRead}
 use Rattle.go_declarations.specs.Views.{specification_view}
-use Rattle.go_specifications.specs.Whole.{failing_as_whole}
+use Rattle.go_package_types.specs.Whole.{failing_as_whole}
 use Rattle.go_package_types.proofs.faults.fault_as.Goals as goal
 
 pub specification_fault-requires-clause-scope : goal.specification_fault-requires-clause-scope

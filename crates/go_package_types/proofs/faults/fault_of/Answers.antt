@@ -1,10 +1,10 @@
 use Rattle.std.proofs.Common.{◌≡◌, false, Some, ap, sym, ◌∙◌}
-use Rattle.type_tests.proofs.Extending.{grows_both}
-use Rattle.go_rules.specs.Faults.{least}
-use Rattle.go_package.specs.Knowledge.{free_scope}
-use Rattle.go_specifications.specs.Whole.{failing_as_whole}
+use Rattle.go_types_relations.proofs.Public.{grows_both}
+use Rattle.go_exprs_rules.specs.Faults.{least}
+use Rattle.go_package_defs.specs.Knowledge.{free_scope}
+use Rattle.go_package_types.specs.Whole.{failing_as_whole}
 use Rattle.go_declarations.specs.Views.{specification_view}
-use Rattle.go_judging.specs.World.{package_in, outlines_in}
+use Rattle.go_package_rounds.specs.World.{package_in, outlines_in}
 use Rattle.go_package_types.proofs.Faulty.{tells_more, fits_grown, known_grown, some_there, no_inner, own_there, blocked_there, told, changes_nothing}
 use Rattle.go_package_types.proofs.faults.fault_of.Goals as goal
 

@@ -1,7 +1,7 @@
 use Rattle.std.proofs.Common.{◌≡◌, ◌∙◌, Bool, true, false, Option, Some, None, sym, arith}
 use Rattle.std.specs.Prelude.{unwrap_or}
 use Rattle.std.proofs.lemmas.Result.{IfOk-weaker}
-use Rattle.go_judging.specs.World.{package_in, specifications_in}
+use Rattle.go_package_rounds.specs.World.{package_in, specifications_in}
 use Rattle.go_package_types.proofs.faults.is_blocked.Goals as goal
 
 seen_true : (o : Option Bool) → unwrap_or o false ≡ true → o ≡ Some true

@@ -1,15 +1,15 @@
 use Rattle.std.proofs.Common.{◌≡◌, Some, refl, ap, sym, ◌∙◌}
 use Rattle.std.specs.Option.{option_map}
 use Rattle.go_tree.specs.Failures.{least_from}
-use Rattle.go_lookup.proofs.Told.{get_some}
+use Rattle.go_scopes_lookup.proofs.Public.{get_some}
 use Rattle.go_scopes.specs.Views.{failure_of}
-use Rattle.go_rules.specs.Faults.{least}
-use Rattle.go_package.specs.Answer.{failures_at}
-use Rattle.go_package.specs.Declarations.{Specification}
-use Rattle.go_package.specs.Verdicts.{specification_faults}
+use Rattle.go_exprs_rules.specs.Faults.{least}
+use Rattle.go_package_defs.specs.Answer.{failures_at}
+use Rattle.go_package_defs.specs.Declarations.{Specification}
+use Rattle.go_package_defs.specs.Verdicts.{specification_faults}
 use Rattle.go_declarations.specs.Views.{specification_view}
-use Rattle.go_judging.specs.World.{package_in, outlines_in}
-use Rattle.go_judging.proofs.Judged.{seen_at}
+use Rattle.go_package_rounds.specs.World.{package_in, outlines_in}
+use Rattle.go_package_rounds.proofs.Public.{seen_at}
 use Rattle.go_package_types.specs.Places.{stands}
 use Rattle.go_package_types.proofs.Faulty.{each_there}
 use Rattle.go_package_types.proofs.Noted.{noted}

@@ -2,12 +2,12 @@ use Rattle.std.proofs.Common.{◌<◌, ◌≤◌, length, arith}
 use Rattle.std.specs.Option.{option_map}
 use Rattle.std.proofs.lemmas.List.{length-map}
 use Rattle.go_tree.specs.Failures.{least}
-use Rattle.type_tests.proofs.Extending.{grows_both}
+use Rattle.go_types_relations.proofs.Public.{grows_both}
 use Rattle.go_scopes.specs.Views.{failure_of}
-use Rattle.go_package.specs.Answer.{all_failures}
+use Rattle.go_package_defs.specs.Answer.{all_failures}
 use Rattle.go_declarations.specs.Views.{specification_view}
-use Rattle.go_judging.specs.World.{package_in, outlines_in, specifications_in}
-use Rattle.go_judging.proofs.Listed.{element}
+use Rattle.go_package_rounds.specs.World.{package_in, outlines_in, specifications_in}
+use Rattle.go_package_rounds.proofs.Public.{element}
 use Rattle.go_package_types.proofs.Faulty.{tells_more, fits_grown, known_grown, one_behind, all_behind}
 use Rattle.go_package_types.proofs.faults.specifications_fault.Goals as goal
 

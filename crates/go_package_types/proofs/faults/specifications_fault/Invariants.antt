@@ -1,11 +1,11 @@
 use Rattle.std.proofs.Common.{◌≡◌, List, drop}
 use Rattle.std.specs.Option.{option_map}
 use Rattle.go_tree.specs.Failures.{least, least_from}
-use Rattle.type_tests.specs.Extends.{Grows}
+use Rattle.go_types_relations.specs.Extends.{Grows}
 use Rattle.go_scopes.specs.Views.{failure_of}
-use Rattle.go_package.specs.Answer.{all_failures}
-use Rattle.go_package.specs.Knowledge.{State}
-use Rattle.go_judging.specs.World.{package_in, outlines_in, specifications_in}
+use Rattle.go_package_defs.specs.Answer.{all_failures}
+use Rattle.go_package_defs.specs.Knowledge.{State}
+use Rattle.go_package_rounds.specs.World.{package_in, outlines_in, specifications_in}
 use Rattle.go_package_types.specs.Known.{Tells}
 use Rattle.go_package_types.proofs.faults.specifications_fault.Given as goal
 

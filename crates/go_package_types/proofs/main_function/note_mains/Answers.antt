@@ -4,9 +4,9 @@ use Rattle.std.specs.Prelude.{slice_get}
 use Rattle.std.specs.Option.{option_map}
 use Rattle.go_tree.specs.Failures.{least_from}
 use Rattle.go_scopes.specs.Views.{failure_of}
-use Rattle.go_lookup.proofs.Told.{get_some}
-use Rattle.go_package.specs.Answer.{is_main_package}
-use Rattle.go_judging.specs.World.{package_in, outlines_in}
+use Rattle.go_scopes_lookup.proofs.Public.{get_some}
+use Rattle.go_package_defs.specs.Answer.{is_main_package}
+use Rattle.go_package_rounds.specs.World.{package_in, outlines_in}
 use Rattle.go_package_types.proofs.Standing.{seen_at, mains_step, mains_none}
 use Rattle.go_package_types.proofs.main_function.note_mains.Goals as goal
 

@@ -2,12 +2,12 @@ use Rattle.std.proofs.Common.{◌≡◌, List, drop, map}
 use Rattle.std.specs.Option.{option_map}
 use Rattle.go_tree.specs.Failures.{least_from}
 use Rattle.go_scopes.specs.Views.{failure_of}
-use Rattle.go_package.specs.Answer.{mains_from}
-use Rattle.go_package.specs.Knowledge as knowledge
-use Rattle.go_package.specs.Knowledge.{State}
+use Rattle.go_package_defs.specs.Answer.{mains_from}
+use Rattle.go_package_defs.specs.Knowledge as knowledge
+use Rattle.go_package_defs.specs.Knowledge.{State}
 use Rattle.go_needs.specs.Passing.{ArePassing}
-use Rattle.go_judging.specs.Held.{all_seen, summary}
-use Rattle.go_judging.specs.World.{package_in, outlines_in}
+use Rattle.go_package_rounds.specs.Held.{all_seen, summary}
+use Rattle.go_package_rounds.specs.World.{package_in, outlines_in}
 use Rattle.go_package_types.proofs.main_function.note_mains.Given as goal
 
 abbrev pub invariant-loop-number : goal.invariant-loop-number

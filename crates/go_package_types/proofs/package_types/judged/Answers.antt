@@ -1,16 +1,15 @@
 use Rattle.std.proofs.Common.{length, ap, sym, subst, ◌∙◌, arith}
 use Rattle.go_types.specs.Tables.{Table}
 use Rattle.go_types.specs.Changes.{first_types}
-use Rattle.type_tests.specs.Extends.{Extends}
-use Rattle.type_tests.proofs.Extending.{extends_both}
-use Rattle.go_exprs.proofs.Stays.{longer}
-use Rattle.go_package.specs.Knowledge.{outline_by, declaring}
-use Rattle.go_package.specs.Sources.{rounds}
-use Rattle.go_package.specs.Verdicts.{known}
-use Rattle.go_judging.specs.Held.{AllHeld}
-use Rattle.go_judging.specs.World.{package_in, outlines_in, specifications_in, Shows}
-use Rattle.go_judging.proofs.Listed.{first_length, outlines_length}
-use Rattle.go_judging.proofs.Stays.{fits_more}
+use Rattle.go_types_relations.specs.Extends.{Extends}
+use Rattle.go_types_relations.proofs.Public.{extends_both}
+use Rattle.go_exprs_engine.proofs.Public.{longer}
+use Rattle.go_package_defs.specs.Knowledge.{outline_by, declaring}
+use Rattle.go_package_defs.specs.Sources.{rounds}
+use Rattle.go_package_defs.specs.Verdicts.{known}
+use Rattle.go_package_rounds.specs.Held.{AllHeld}
+use Rattle.go_package_rounds.specs.World.{package_in, outlines_in, specifications_in, Shows}
+use Rattle.go_package_rounds.proofs.Public.{first_length, outlines_length, fits_more}
 use Rattle.go_package_types.proofs.Starting.{first_open}
 use Rattle.go_package_types.proofs.Undeclared.{closed_below, no_rights, bare_longer, first_stays, first_extends}
 use Rattle.go_package_types.proofs.package_types.judged.Goals as goal

@@ -1,7 +1,7 @@
 use Rattle.std.proofs.Common.{ap, sym, subst, ◌∙◌}
-use Rattle.type_tests.proofs.Extending.{extends_both}
-use Rattle.go_judging.specs.World.{AreNamed}
-use Rattle.go_judging.proofs.Stays.{named_more}
+use Rattle.go_types_relations.proofs.Public.{extends_both}
+use Rattle.go_package_rounds.specs.World.{AreNamed}
+use Rattle.go_package_rounds.proofs.Public.{named_more}
 use Rattle.go_package_types.specs.Numbers.{open_rights}
 use Rattle.go_package_types.proofs.package_types.judged_anew.Goals as goal
 

@@ -1,12 +1,11 @@
 use Rattle.std.proofs.Common.{length, sym, subst, ◌∙◌}
-use Rattle.type_tests.proofs.Extending.{extends_both}
-use Rattle.go_package.specs.Knowledge.{outline_by, declaring}
-use Rattle.go_package.specs.Sources.{rounds}
-use Rattle.go_package.specs.Verdicts.{known}
-use Rattle.go_judging.specs.Held.{AllHeld}
-use Rattle.go_judging.specs.World.{package_in, outlines_in, specifications_in, Shows}
-use Rattle.go_judging.proofs.Listed.{first_length, outlines_length}
-use Rattle.go_judging.proofs.Stays.{fits_more}
+use Rattle.go_types_relations.proofs.Public.{extends_both}
+use Rattle.go_package_defs.specs.Knowledge.{outline_by, declaring}
+use Rattle.go_package_defs.specs.Sources.{rounds}
+use Rattle.go_package_defs.specs.Verdicts.{known}
+use Rattle.go_package_rounds.specs.Held.{AllHeld}
+use Rattle.go_package_rounds.specs.World.{package_in, outlines_in, specifications_in, Shows}
+use Rattle.go_package_rounds.proofs.Public.{first_length, outlines_length, fits_more}
 use Rattle.go_package_types.proofs.Starting.{first_open}
 use Rattle.go_package_types.proofs.package_types.judged_in_rounds.Goals as goal
 

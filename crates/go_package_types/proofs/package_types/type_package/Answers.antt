@@ -2,20 +2,20 @@ use Rattle.std.proofs.Common.{◌≡◌, ◌≤◌, [], length, map, ap, sym, su
 use Rattle.go_base.specs.Gives.{Gives}
 use Rattle.go_types.specs.Tables.{Table}
 use Rattle.go_types.specs.Changes.{first_types}
-use Rattle.type_tests.specs.Extends.{Extends}
-use Rattle.type_tests.proofs.Extending.{extends_both}
-use Rattle.go_exprs.proofs.Stays.{longer}
+use Rattle.go_types_relations.specs.Extends.{Extends}
+use Rattle.go_types_relations.proofs.Public.{extends_both}
+use Rattle.go_exprs_engine.proofs.Public.{longer}
 use Rattle.go_typed.specs.Packages.{referents}
 use Rattle.go_typed.specs.Scopes.{EnvView}
 use Rattle.go_typed.specs.Views.{sort_view}
-use Rattle.go_contexts.specs.Expressions.{failure_named}
-use Rattle.go_package.specs.Answer.{answer_with, specifications}
-use Rattle.go_package.specs.Knowledge.{outlines}
-use Rattle.go_package.specs.Sources.{package_of, source_of}
+use Rattle.go_exprs.specs.Expressions.{failure_named}
+use Rattle.go_package_defs.specs.Answer.{answer_with, specifications}
+use Rattle.go_package_defs.specs.Knowledge.{outlines}
+use Rattle.go_package_defs.specs.Sources.{package_of, source_of}
 use Rattle.go_declarations.specs.Views.{seen_all}
 use Rattle.go_needs.specs.Tells.{TellsNeeds}
-use Rattle.go_judging.specs.World.{AreNamed}
-use Rattle.go_judging.proofs.Stays.{named_more}
+use Rattle.go_package_rounds.specs.World.{AreNamed}
+use Rattle.go_package_rounds.proofs.Public.{named_more}
 use Rattle.go_package_types.specs.Answers.{environment_seen}
 use Rattle.go_package_types.specs.Numbers.{open_rights}
 use Rattle.go_package_types.proofs.Read.{specifications_read}

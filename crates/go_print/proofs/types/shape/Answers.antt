@@ -1,4 +1,4 @@
-use Rattle.type_tests.proofs.Calls.{shape_tree}
+use Rattle.go_types_relations.proofs.Public.{shape_tree}
 use Rattle.go_print.proofs.types.shape.Goals as goal
 
 pub returns-clause-tree : goal.returns-clause-tree

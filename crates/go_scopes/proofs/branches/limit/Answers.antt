@@ -4,7 +4,7 @@ use Rattle.go_tree.specs.Failures.{of_files}
 use Rattle.go_tree.specs.Branches.{statements}
 use Rattle.go_base.specs.declared.fault.FaultCode.TheVariants as code
 use Rattle.go_scopes.specs.Noted.{noted}
-use Rattle.go_lookup.specs.Views.{place_of, units_view}
+use Rattle.go_scopes_lookup.specs.Views.{place_of, units_view}
 use Rattle.go_scopes.specs.Views.{failure_of}
 use Rattle.go_scopes.proofs.Statements.{first_found, none_found}
 use Rattle.go_scopes.proofs.branches.limit.Goals as goal

@@ -1,7 +1,7 @@
 use Rattle.std.proofs.Common.{◌≡◌, drop}
 use Rattle.go_tree.specs.Failures.{of_files}
 use Rattle.go_tree.specs.Branches.{statements, first_place}
-use Rattle.go_lookup.specs.Views.{units_view}
+use Rattle.go_scopes_lookup.specs.Views.{units_view}
 use Rattle.go_scopes.proofs.branches.limit.Given as goal
 
 abbrev pub invariant-loop-file : goal.invariant-loop-file

@@ -3,7 +3,7 @@ use Rattle.std.proofs.lemmas.Result.{IfOk-weaker}
 use Rattle.std.specs.Option.{option_map}
 use Rattle.go_base.specs.declared.fault.FaultCode.TheVariants as code
 use Rattle.go_tree.specs.Needs.{cycles}
-use Rattle.go_lookup.specs.Views.{found_view, asked_view}
+use Rattle.go_scopes_lookup.specs.Views.{found_view, asked_view}
 use Rattle.go_scopes.specs.Noted.{noted}
 use Rattle.go_scopes.specs.Views.{failure_of}
 use Rattle.go_scopes.proofs.Sited.{cycles_sited}

@@ -3,8 +3,8 @@ use Rattle.std.specs.Option.{option_map}
 use Rattle.go_base.specs.declared.fault.FaultCode.TheVariants as code
 use Rattle.go_tree.specs.Failures.{place_if}
 use Rattle.go_tree.specs.Needs.{needs_itself, cycles}
-use Rattle.go_lookup.specs.Views.{found_view, asked_view}
-use Rattle.go_cycles.proofs.AllNeeded.{drop_read}
+use Rattle.go_scopes_lookup.specs.Views.{found_view, asked_view}
+use Rattle.go_scopes_cycles.proofs.Public.{drop_read}
 use Rattle.go_scopes.specs.Noted.{noted}
 use Rattle.go_scopes.specs.Views.{failure_of}
 use Rattle.go_scopes.proofs.Least.{noted_place_if}

@@ -1,6 +1,6 @@
 use Rattle.std.proofs.Common.{◌≡◌, ◌++◌, map, drop}
-use Rattle.go_lookup.specs.Views.{asked_view}
-use Rattle.go_lookup.specs.Sited.{sited}
+use Rattle.go_scopes_lookup.specs.Views.{asked_view}
+use Rattle.go_scopes_lookup.specs.Sited.{sited}
 use Rattle.go_scopes.proofs.cycles.sited.Given as goal
 
 abbrev pub invariant-loop-a : goal.invariant-loop-a

@@ -3,7 +3,7 @@ use Rattle.std.specs.Option.{option_map}
 use Rattle.go_base.specs.declared.fault.FaultCode.TheVariants as code
 use Rattle.go_tree.specs.Failures.{of_files}
 use Rattle.go_tree.specs.Duplicates.{second_members, second_defaults}
-use Rattle.go_lookup.specs.Views.{units_view}
+use Rattle.go_scopes_lookup.specs.Views.{units_view}
 use Rattle.go_scopes.specs.Views.{failure_of}
 use Rattle.go_scopes.proofs.Least.{noted_more}
 use Rattle.go_scopes.proofs.duplicates.duplicates.Goals as goal

@@ -1,6 +1,6 @@
 use Rattle.std.proofs.Common.{◌≡◌, ◌∙◌, ◌+◌, ◌∷◌, suc, sym, ap, drop, drop-cons, add-one}
 use Rattle.std.specs.Option.{option_map}
-use Rattle.go_lookup.specs.Views.{unit_view, units_view}
+use Rattle.go_scopes_lookup.specs.Views.{unit_view, units_view}
 use Rattle.go_scopes.specs.Views.{failure_of}
 use Rattle.go_scopes.proofs.Least.{noted_file}
 use Rattle.go_scopes.proofs.file_rule.note_files.Goals as goal

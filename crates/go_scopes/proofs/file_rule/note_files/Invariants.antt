@@ -1,7 +1,7 @@
 use Rattle.std.proofs.Common.{◌≡◌, drop}
 use Rattle.std.specs.Option.{option_map}
 use Rattle.go_tree.specs.Failures.{of_files}
-use Rattle.go_lookup.specs.Views.{units_view}
+use Rattle.go_scopes_lookup.specs.Views.{units_view}
 use Rattle.go_scopes.specs.Noted.{noted}
 use Rattle.go_scopes.specs.Views.{failure_of}
 use Rattle.go_scopes.proofs.file_rule.note_files.Given as goal

@@ -1,8 +1,8 @@
 use Rattle.std.proofs.Common.{◌≡◌, ◌∷◌, ◌+◌, ◌∙◌, [], drop, map, sym, ap}
 use Rattle.std.specs.Option.{option_map}
 use Rattle.go_tree.specs.Failures.{place_if}
-use Rattle.go_lookup.specs.Views.{place_of, asked_view}
-use Rattle.go_cycles.proofs.AllNeeded.{drop_read}
+use Rattle.go_scopes_lookup.specs.Views.{place_of, asked_view}
+use Rattle.go_scopes_cycles.proofs.Public.{drop_read}
 use Rattle.go_scopes.specs.LookupRules.{code_of, fails, place_by, places_by}
 use Rattle.go_scopes.specs.Noted.{noted}
 use Rattle.go_scopes.specs.Views.{failure_of}

@@ -1,6 +1,6 @@
 use Rattle.std.proofs.Common.{◌≡◌, map, drop}
 use Rattle.std.specs.Option.{option_map}
-use Rattle.go_lookup.specs.Views.{asked_view}
+use Rattle.go_scopes_lookup.specs.Views.{asked_view}
 use Rattle.go_scopes.specs.LookupRules.{code_of, places_by}
 use Rattle.go_scopes.specs.Noted.{noted}
 use Rattle.go_scopes.specs.Views.{failure_of}

@@ -1,10 +1,10 @@
 use Rattle.std.proofs.Common.{◌≡◌, ◌∙◌, ◌++◌, sym, ap, subst, map, rules}
 use Rattle.std.proofs.lemmas.Result.{IfOk-weaker}
-use Rattle.go_names.specs.Scopes.{locals_of, AreNested}
-use Rattle.go_names.proofs.Locals.{locals_good}
+use Rattle.go_scopes_events.specs.Scopes.{locals_of, AreNested}
+use Rattle.go_scopes_events.proofs.Public.{locals_good}
 use Rattle.go_tree.specs.Declarations.{declarations}
 use Rattle.go_tree.specs.Meanings.{meanings, imported_from, numbered, first_numbers}
-use Rattle.go_lookup.specs.Views.{units_view, found_view}
+use Rattle.go_scopes_lookup.specs.Views.{units_view, found_view}
 use Rattle.go_scopes.proofs.names.entries_of.Goals as goal
 
 pub returns-clause-entries : goal.returns-clause-entries

@@ -1,7 +1,7 @@
 use Rattle.std.proofs.Common.{◌≡◌, ◌∙◌, true, false, not, Some, None, sym, ap}
 use Rattle.std.specs.HashMap.{get}
-use Rattle.go_lookup.specs.Views.{found_view}
-use Rattle.go_lookup.specs.Keys.{same_key, is_parameter, clashes_by}
+use Rattle.go_scopes_lookup.specs.Views.{found_view}
+use Rattle.go_scopes_lookup.specs.Keys.{same_key, is_parameter, clashes_by}
 use Rattle.go_scopes.proofs.redeclared.has_clash.Goals as goal
 
 pub returns-in-None : goal.returns-in-None

@@ -1,6 +1,6 @@
 use Rattle.std.proofs.Common.{◌≡◌, drop}
 use Rattle.go_tree.specs.Redeclared.{has_import}
-use Rattle.go_lookup.specs.Views.{units_view}
+use Rattle.go_scopes_lookup.specs.Views.{units_view}
 use Rattle.go_scopes.proofs.redeclared.has_import.Given as goal
 
 abbrev pub invariant-loop-unit : goal.invariant-loop-unit

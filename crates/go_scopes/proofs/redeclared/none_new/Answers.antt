@@ -1,7 +1,7 @@
 use Rattle.std.proofs.Common.{◌≡◌, ◌&&◌, not, nat_eq, arith, rules, map}
 use Rattle.std.proofs.lemmas.Grind.{common_steps}
 use Rattle.go_tree.specs.Redeclared.{is_by_define, has_new}
-use Rattle.go_lookup.specs.Views.{found_view}
+use Rattle.go_scopes_lookup.specs.Views.{found_view}
 use Rattle.go_scopes.proofs.redeclared.none_new.Goals as goal
 
 pub loop-all-preserved : goal.loop-all-preserved

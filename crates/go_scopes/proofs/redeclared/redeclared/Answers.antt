@@ -4,7 +4,7 @@ use Rattle.go_base.specs.declared.fault.FaultCode.TheVariants as code
 use Rattle.go_tree.specs.Declarations.{found}
 use Rattle.go_tree.specs.Failures.{of_files}
 use Rattle.go_tree.specs.Redeclared.{second_declarations, has_import, hidden_imports, second_imports, none_new}
-use Rattle.go_lookup.specs.Views.{units_view, found_view}
+use Rattle.go_scopes_lookup.specs.Views.{units_view, found_view}
 use Rattle.go_scopes.specs.Noted.{noted}
 use Rattle.go_scopes.specs.Views.{failure_of}
 use Rattle.go_scopes.proofs.Least.{noted_more, noted_by}

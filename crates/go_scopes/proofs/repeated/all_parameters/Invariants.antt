@@ -1,6 +1,6 @@
 use Rattle.std.proofs.Common.{◌≡◌, ◌++◌, drop, map}
 use Rattle.go_tree.specs.Repeated.{parameters_from}
-use Rattle.go_lookup.specs.Views.{units_view}
+use Rattle.go_scopes_lookup.specs.Views.{units_view}
 use Rattle.go_scopes.specs.Views.{name_view}
 use Rattle.go_scopes.proofs.repeated.all_parameters.Given as goal
 

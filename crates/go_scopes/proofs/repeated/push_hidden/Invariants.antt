@@ -1,6 +1,6 @@
 use Rattle.std.proofs.Common.{◌≡◌, ◌++◌, drop, map}
 use Rattle.go_tree.specs.Repeated.{hidden_names}
-use Rattle.go_lookup.specs.Views.{found_view}
+use Rattle.go_scopes_lookup.specs.Views.{found_view}
 use Rattle.go_scopes.specs.Views.{name_view}
 use Rattle.go_scopes.proofs.repeated.push_hidden.Given as goal
 

@@ -1,7 +1,7 @@
 use Rattle.std.proofs.Common.{◌≡◌, ◌++◌, take, drop, map, []}
 use Rattle.go_tree.specs.Repeated.{second_names}
-use Rattle.go_lookup.specs.Views.{found_view}
-use Rattle.go_lookup.specs.Keys.{KnowsNames}
+use Rattle.go_scopes_lookup.specs.Views.{found_view}
+use Rattle.go_scopes_lookup.specs.Keys.{KnowsNames}
 use Rattle.go_scopes.specs.Views.{name_view}
 use Rattle.go_scopes.proofs.repeated.push_second.Given as goal
 

@@ -3,7 +3,7 @@ use Rattle.std.specs.Option.{option_map}
 use Rattle.go_base.specs.declared.fault.FaultCode.TheVariants as code
 use Rattle.go_tree.specs.Failures.{failing}
 use Rattle.go_tree.specs.Lookups.{undeclared, outside_names, outside_members, not_called, initialisers}
-use Rattle.go_lookup.specs.Views.{asked_view}
+use Rattle.go_scopes_lookup.specs.Views.{asked_view}
 use Rattle.go_scopes.specs.Views.{failure_of}
 use Rattle.go_scopes.proofs.Least.{one_more}
 use Rattle.go_scopes.proofs.resolve.lookup_faults.Goals as goal

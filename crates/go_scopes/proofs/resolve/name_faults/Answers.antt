@@ -6,7 +6,7 @@ use Rattle.go_tree.specs.Failures.{failing, least}
 use Rattle.go_tree.specs.Redeclared.{redeclared}
 use Rattle.go_tree.specs.Needs.{cycles}
 use Rattle.go_tree.specs.Faults.{lookup_faults, unused_faults, placed_faults}
-use Rattle.go_lookup.specs.Views.{units_view, found_view, asked_view}
+use Rattle.go_scopes_lookup.specs.Views.{units_view, found_view, asked_view}
 use Rattle.go_scopes.specs.Views.{failure_of}
 use Rattle.go_scopes.proofs.Least.{one_more}
 use Rattle.go_scopes.proofs.resolve.name_faults.Goals as goal

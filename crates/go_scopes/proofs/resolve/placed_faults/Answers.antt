@@ -4,7 +4,7 @@ use Rattle.go_base.specs.declared.fault.FaultCode.TheVariants as code
 use Rattle.go_tree.specs.Failures.{failing}
 use Rattle.go_tree.specs.Branches.{branches, limit}
 use Rattle.go_tree.specs.Duplicates.{duplicates}
-use Rattle.go_lookup.specs.Views.{units_view}
+use Rattle.go_scopes_lookup.specs.Views.{units_view}
 use Rattle.go_scopes.specs.Views.{failure_of}
 use Rattle.go_scopes.proofs.Least.{one_more}
 use Rattle.go_scopes.proofs.resolve.placed_faults.Goals as goal

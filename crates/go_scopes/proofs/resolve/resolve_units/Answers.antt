@@ -3,8 +3,8 @@ use Rattle.std.proofs.lemmas.Grind.{common_steps}
 use Rattle.go_tree.specs.Declarations.{declarations}
 use Rattle.go_tree.specs.Failures.{least}
 use Rattle.go_tree.specs.Faults.{clause_faults}
-use Rattle.go_lookup.specs.Views.{units_view, found_view}
-use Rattle.go_lookup.proofs.Places.{known_complete}
+use Rattle.go_scopes_lookup.specs.Views.{units_view, found_view}
+use Rattle.go_scopes_lookup.proofs.Public.{known_complete}
 use Rattle.go_scopes.proofs.resolve.resolve_units.Goals as goal
 
 pub uses_of-requires : goal.uses_of-requires

@@ -1,7 +1,7 @@
 use Rattle.std.proofs.Common.{◌≡◌, ◌++◌, drop}
-use Rattle.go_names.specs.Scopes.{AreOrderly}
-use Rattle.go_lookup.specs.Tables.{AreCounted, AreInside}
-use Rattle.go_lookup.specs.Views.{units_view}
+use Rattle.go_scopes_events.specs.Scopes.{AreOrderly}
+use Rattle.go_scopes_lookup.specs.Tables.{AreCounted, AreInside}
+use Rattle.go_scopes_lookup.specs.Views.{units_view}
 use Rattle.go_scopes.specs.Resolve.{units_of}
 use Rattle.go_scopes.proofs.resolve.units_of.Given as goal
 

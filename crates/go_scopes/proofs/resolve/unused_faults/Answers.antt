@@ -3,7 +3,7 @@ use Rattle.std.specs.Option.{option_map}
 use Rattle.go_base.specs.declared.fault.FaultCode.TheVariants as code
 use Rattle.go_tree.specs.Failures.{failing}
 use Rattle.go_tree.specs.Lookups.{unused_variables, unused_imports}
-use Rattle.go_lookup.specs.Views.{units_view, found_view, asked_view}
+use Rattle.go_scopes_lookup.specs.Views.{units_view, found_view, asked_view}
 use Rattle.go_scopes.specs.Views.{failure_of}
 use Rattle.go_scopes.proofs.Least.{one_more}
 use Rattle.go_scopes.proofs.resolve.unused_faults.Goals as goal

@@ -1,7 +1,7 @@
 use Rattle.std.proofs.Common.{◌≡◌, ℕ, ◌||◌, nat_eq, drop, map}
 use Rattle.std.specs.HashSet as set
 use Rattle.go_tree.specs.Lookups.{uses_import}
-use Rattle.go_lookup.specs.Views.{asked_view}
+use Rattle.go_scopes_lookup.specs.Views.{asked_view}
 use Rattle.go_scopes.proofs.unused.files_with_uses.Given as goal
 
 abbrev pub invariant-loop-a : goal.invariant-loop-a

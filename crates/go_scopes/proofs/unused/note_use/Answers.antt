@@ -1,6 +1,6 @@
 use Rattle.std.proofs.Common.{◌≡◌, ◌∙◌, sym, Some, arith}
 use Rattle.go_scopes.specs.Used.{used_spot}
-use Rattle.go_lookup.specs.Views.{asked_view}
+use Rattle.go_scopes_lookup.specs.Views.{asked_view}
 use Rattle.go_scopes.proofs.UsedSpots.{uses-some}
 use Rattle.go_scopes.proofs.unused.note_use.Goals as goal
 

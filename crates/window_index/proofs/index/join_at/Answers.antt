@@ -1,5 +1,5 @@
 use Rattle.std.proofs.Common.{◌≡◌, ◌≤◌, ◌+◌, length, arith}
-use Rattle.clone_same.specs.Bodies.{same_in}
+use Rattle.clone_window.specs.Bodies.{same_in}
 use Rattle.window_index.proofs.Joining.{count-there, joined-there, kept-there}
 use Rattle.window_index.proofs.Tables.{weaker-err, weaker-ok}
 use Rattle.window_index.proofs.index.join_at.Goals as goal

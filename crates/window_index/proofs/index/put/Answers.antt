@@ -3,7 +3,7 @@ use Rattle.std.specs.Prelude.{false, nat_eq}
 use Rattle.std.specs.Map.{keys_of, lookup}
 use Rattle.indexmap.proofs.CallerLemmas.{insert_entry-new}
 use Rattle.go_typed.specs.declared.window.Window.{Window}
-use Rattle.clone_same.specs.Bodies.{same_in}
+use Rattle.clone_window.specs.Bodies.{same_in}
 use Rattle.window_index.proofs.Joining.{entered-new, entered-there, none-there}
 use Rattle.window_index.proofs.Tables.{weaker-ok}
 use Rattle.window_index.proofs.index.put.Goals as goal

@@ -1,7 +1,7 @@
 use Rattle.std.proofs.Common.{◌≡◌, ◌∙◌, ◌+◌, ◌≤◌, ℕ, Some, slice_get, get_or, refl, ap, arith}
 use Rattle.std.proofs.lemmas.Option.{slice_get-get_or}
 use Rattle.go_typed.specs.declared.window.Window.{Window}
-use Rattle.clone_same.specs.Bodies.{same_in}
+use Rattle.clone_window.specs.Bodies.{same_in}
 use Rattle.window_index.specs.Counting.{group_count}
 use Rattle.window_index.proofs.Counting.{put-in-part, put-more}
 use Rattle.window_index.proofs.index.put_all.Goals as goal

@@ -1,4 +1,4 @@
-use Rattle.clone_same.specs.Bodies.{same_in}
+use Rattle.clone_window.specs.Bodies.{same_in}
 use Rattle.window_index.proofs.Counting.{PutSoFar}
 use Rattle.window_index.proofs.index.put_all.Given as goal
 

@@ -2,7 +2,7 @@ use Rattle.std.proofs.Common.{rules, ◌≡◌, map, true}
 use Rattle.std.specs.HashMap as hash
 use Rattle.go_needs.specs.Bounds.{level_under, are_bounded}
 use Rattle.go_needs.specs.Levels.{KnowsNearest}
-use Rattle.go_cycles.specs.Ranks.{same_place}
+use Rattle.go_scopes_cycles.specs.Ranks.{same_place}
 use Rattle.go_needs.proofs.Bounded.{bounded}
 use Rattle.go_needs.proofs.needs.Needs.are_bounds.Goals as goal
 

@@ -2,7 +2,7 @@ use Rattle.std.proofs.Common.{rules, ◌≡◌, ◌∙◌, map, true, ap, sym, s
 use Rattle.std.specs.HashMap as hash
 use Rattle.go_needs.specs.Bounds.{level_under, are_bounded}
 use Rattle.go_needs.specs.Levels.{KnowsNearest}
-use Rattle.go_cycles.specs.Ranks.{same_place}
+use Rattle.go_scopes_cycles.specs.Ranks.{same_place}
 use Rattle.go_needs.specs.Ranks.{own_bound, are_ranked}
 use Rattle.go_needs.proofs.Ranking.{are_ranks}
 use Rattle.go_needs.proofs.needs.Needs.are_ranks.Goals as goal

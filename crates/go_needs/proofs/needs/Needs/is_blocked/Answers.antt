@@ -3,7 +3,7 @@ use Rattle.std.specs.HashMap as hash
 use Rattle.std.specs.Prelude.{slice_get}
 use Rattle.std.specs.Option.{option_map}
 use Rattle.go_needs.specs.Blocked.{flags_from, blocking}
-use Rattle.go_cycles.specs.Ranks.{same_place}
+use Rattle.go_scopes_cycles.specs.Ranks.{same_place}
 use Rattle.go_needs.specs.Passing.{is_faulty, is_misassigned}
 use Rattle.go_needs.proofs.Blocking.{blocked_is}
 use Rattle.go_needs.proofs.Settled.{reach_on}

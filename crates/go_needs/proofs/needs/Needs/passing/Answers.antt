@@ -1,7 +1,7 @@
 use Rattle.std.proofs.Common.{rules, ◌≡◌, ◌∙◌, true, false, length, map, replicate, subst, sym, ap}
 use Rattle.std.specs.Bool.{beq}
 use Rattle.std.specs.List.{list_any}
-use Rattle.go_package.specs.Knowledge.{outlines}
+use Rattle.go_package_defs.specs.Knowledge.{outlines}
 use Rattle.go_needs.specs.Blocked.{not_passing}
 use Rattle.go_needs.specs.Passing.{ArePassing}
 use Rattle.go_needs.proofs.Passes.{none_is}

@@ -1,8 +1,8 @@
 use Rattle.std.proofs.Common.{rules, ◌≡◌, ◌∙◌, map, not, subst, sym, ap}
 use Rattle.std.specs.HashMap as hash
-use Rattle.go_package.specs.Knowledge.{outlines}
+use Rattle.go_package_defs.specs.Knowledge.{outlines}
 use Rattle.go_needs.specs.Blocked.{passings}
-use Rattle.go_cycles.specs.Ranks.{same_place}
+use Rattle.go_scopes_cycles.specs.Ranks.{same_place}
 use Rattle.go_needs.specs.Passing.{ArePassing}
 use Rattle.go_needs.proofs.Passes.{passing_is}
 use Rattle.go_needs.proofs.Settled.{reach_on}

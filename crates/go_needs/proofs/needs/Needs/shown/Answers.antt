@@ -2,7 +2,7 @@ use Rattle.std.proofs.Common.{rules, ◌≡◌, ◌∙◌, ◌+◌, ◌≤◌, m
 use Rattle.std.specs.HashMap as hash
 use Rattle.std.specs.Prelude.{slice_get}
 use Rattle.go_needs.specs.Levels.{KnowsNearest}
-use Rattle.go_cycles.specs.Ranks.{same_place}
+use Rattle.go_scopes_cycles.specs.Ranks.{same_place}
 use Rattle.go_needs.specs.Passing.{is_faulty, is_misassigned}
 use Rattle.go_needs.specs.Ranks.{are_lower, shown}
 use Rattle.go_needs.proofs.Ranking.{shown_blocked}

@@ -1,7 +1,7 @@
 use Rattle.std.proofs.Common.{◌≡◌, ◌∙◌, ◌+◌, ◌++◌, ◌∷◌, [], ℕ, List, Option, None, Some, length, ap, sym, subst, arith}
 use Rattle.std.specs.Prelude.{OnOk}
 use Rattle.go_typed.specs.declared.window.Window.{Window}
-use Rattle.clone_same.specs.Bodies.{same_in}
+use Rattle.clone_window.specs.Bodies.{same_in}
 use Rattle.window_index.specs.Buckets.{joined}
 use Rattle.window_index.specs.Groups.{first_led, rows, with_one}
 use Rattle.window_index.proofs.Joining.{led-none, led-some}

@@ -4,10 +4,10 @@ use Rattle.std.specs.List.{AllByRecursion}
 use Rattle.std.specs.List.Sorted.{IsPermutation}
 use Rattle.go_typed.specs.declared.window.Window.{Window}
 use Rattle.clone_window.specs.declared.bounds.Bounds.{Bounds}
-use Rattle.clone_same.specs.Bodies.{bodies_of, same_in}
+use Rattle.clone_window.specs.Bodies.{bodies_of, same_in}
 use Rattle.clone_window.specs.Fields.{field_text}
 use Rattle.clone_classes.specs.Listing.{windows_of_all}
-use Rattle.clone_classes.proofs.Sameness.{within, numbers}
+use Rattle.clone_classes.proofs.Public.{within, numbers}
 use Rattle.alpha_hash.specs.Sharing.{numbered, windows_of_func}
 use Rattle.window_index.specs.Buckets.{Bucket, all_entered, held, is_of, left}
 use Rattle.window_index.specs.Counting.{rivals}

@@ -2,10 +2,10 @@ use Rattle.std.proofs.Common.{◌≡◌, ℕ, List, sym, subst}
 use Rattle.std.specs.Prelude.{nat_eq}
 use Rattle.go_typed.specs.declared.window.Window.{Window}
 use Rattle.clone_window.specs.declared.bounds.Bounds.{Bounds}
-use Rattle.clone_same.specs.Bodies.{bodies_of, same_in}
+use Rattle.clone_window.specs.Bodies.{bodies_of, same_in}
 use Rattle.clone_window.specs.Fields.{field_text}
 use Rattle.clone_classes.specs.Listing.{windows_of_all}
-use Rattle.clone_classes.proofs.Sameness.{within, numbers}
+use Rattle.clone_classes.proofs.Public.{within, numbers}
 use Rattle.window_index.specs.Buckets.{Bucket}
 use Rattle.window_index.specs.Fitting.{Fits, FitsPackage}
 use Rattle.window_index.proofs.Staying.{fits-left}

@@ -1,4 +1,0 @@
-pub mod Agreement
-pub mod Settled
-pub mod FieldNames
-pub mod Named

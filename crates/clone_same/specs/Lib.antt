@@ -1,4 +1,0 @@
-pub mod Bodies
-pub mod Named
-pub mod Pairing
-pub mod Shown

@@ -1,0 +1,47 @@
+-- The command as clap knows it, and what its faults say.
+use Rattle.std.proofs.Common.{◌≡◌, ℕ, true, List, [], ◌∷◌, codes, Option, Err, inl, inr, refl, sym, ap, ◌∙◌}
+use Rattle.std.specs.Prelude.{Ok}
+use Rattle.clap.specs.Words.{App, Row, Rule, new_app, with_rule, first_of, is_simple, Text, Kinds, HasKind, kind_of, fault_of, matches_of, is_simple_and_free}
+use Rattle.clap.specs.declared.error.Error.{Error}
+use Rattle.clap.specs.declared.error.kind.ErrorKind.TheVariants as kind
+use Rattle.clap.proofs.OnLiterals.{clap_on_literals}
+use Rattle.clone_server.specs.declared.words.WordsError.TheVariants as errors
+use Rattle.clone_server.specs.Words.{goclone, option_rule, folder_rule, found, rows_of_words, number_or, all_said, said_by}
+
+pub simple : is_simple_and_free goclone ≡ true
+unfolding clap_on_literals
+simple = refl
+
+-- clap finds no fault
+pub rows_found : (texts : List Text) (rows : List Row) → fault_of goclone texts ≡ [] → rows ≡ matches_of goclone texts → rows_of_words texts ≡ Ok rows
+unfolding rows_of_words
+rows_found texts rows none is = ap (λ ks. found ks (matches_of goclone texts)) none ∙ ap Ok (sym is)
+
+some_fault : (kinds : Kinds) (rows : List Row) (e : Error) → HasKind kinds e → (kind_of e ≡ kind.OutOfMemory → ⊥) → found kinds rows ≡ Err errors.NotTaken
+some_fault [] rows e (inl h) other = absurd (other h)
+some_fault [] rows e (inr h) other = absurd h
+some_fault (k ∷ ks) rows e h other = refl
+
+-- clap finds one
+pub rows_refused : (texts : List Text) (e : Error) → HasKind (fault_of goclone texts) e → (kind_of e ≡ kind.OutOfMemory → ⊥) → rows_of_words texts ≡ Err errors.NotTaken
+unfolding rows_of_words
+rows_refused texts e h other = some_fault (fault_of goclone texts) (matches_of goclone texts) e h other
+
+pub plain : is_simple goclone ≡ true
+unfolding clap_on_literals
+plain = refl
+
+pub all_said_by : (rows : List Row) (min mass : Option ℕ) (dir min_text mass_text : Option Text) → min ≡ number_or 32 2 min_text → mass ≡ number_or 1000 8 mass_text →
+    min_text ≡ first_of (codes "min") rows → mass_text ≡ first_of (codes "mass") rows → dir ≡ first_of (codes "dir") rows → all_said min mass dir ≡ said_by rows
+all_said_by rows min mass dir min_text mass_text e f g h i =
+    ap (λ n. all_said n mass dir) (e ∙ ap (number_or 32 2) g)
+    ∙ ap (λ n. all_said (number_or 32 2 (first_of (codes "min") rows)) n dir) (f ∙ ap (number_or 1000 8) h)
+    ∙ ap (all_said (number_or 32 2 (first_of (codes "min") rows)) (number_or 1000 8 (first_of (codes "mass") rows))) i
+
+-- the command, one argument after the other
+pub command_is : (a b c d : App) (min mass dir : Rule) → a ≡ (let app = new_app (codes "goclone") in record app { top = record app.top { no_binary_name = true } }) →
+    b ≡ with_rule a min → c ≡ with_rule b mass → d ≡ with_rule c dir →
+    min ≡ option_rule (codes "min") → mass ≡ option_rule (codes "mass") → dir ≡ folder_rule → d ≡ goclone
+command_is a b c d min mass dir ea eb ec ed e f g =
+    ed ∙ ap (λ x. with_rule x dir) (ec ∙ ap (λ x. with_rule x mass) (eb ∙ ap (λ x. with_rule x min) ea))
+    ∙ (rw (e, f, g) refl)

@@ -1,0 +1,9 @@
+use Rattle.std.proofs.Common.{refl}
+use Rattle.clap.proofs.OnLiterals.{clap_on_literals}
+use Rattle.clone_server.specs.Numbers.{next_number, number_from}
+use Rattle.clone_server.specs.Words.{rows_of_words, words_of}
+use Rattle.clone_server.proofs.laws.taken.Goals as goal
+
+pub returns : goal.returns
+unfolding clap_on_literals next_number number_from rows_of_words words_of
+returns c = record { alone = refl; both = refl; behind = refl; dashes = refl }

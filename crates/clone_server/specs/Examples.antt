@@ -1,0 +1,16 @@
+-- Words of the worked command lines.
+use Rattle.std.specs.Prelude.{◌≡◌, ℕ, List, Result, Ok, Err}
+use Rattle.clone_server.specs.declared.words.WordsError.{WordsError}
+use Rattle.clone_server.specs.declared.words.WordsError.TheVariants as errors
+use Rattle.clone_server.specs.Words.{Said, words_of}
+
+abbrev Answer : Type 0
+Answer = Result Said WordsError
+
+-- the words say this
+abbrev pub Says : List (List ℕ) → ℕ → ℕ → List ℕ → Type 0
+Says texts min mass dir = let answer : Answer = Ok (record { min = min; mass = mass; dir = dir }) in words_of texts ≡ answer
+
+-- the words aren't taken
+abbrev pub SaysNothing : List (List ℕ) → Type 0
+SaysNothing texts = let answer : Answer = Err errors.NotTaken in words_of texts ≡ answer

@@ -1,0 +1,110 @@
+//! The words behind the program's own name.
+
+ghost use Rattle.std.specs.Prelude.{◌≡◌, IfOk};
+ghost use Rattle.std.specs.Option.{option_map};
+ghost use Rattle.clap.specs.Words.{app_of, rows_of, found_of};
+ghost use Rattle.go_base.specs.Gives.{Gives};
+ghost use Rattle.clone_server.specs.Words.{goclone, said_of, all_said, said_by, number_or, rows_of_words, words_of, words_refusal, texts_of};
+
+use crate::number::whole_number;
+use clap::error::ErrorKind;
+use clap::{Arg, ArgAction, ArgMatches, Command};
+use std::alloc::{AllocError, Global};
+
+/// What is written where the words are not taken.
+pub const USAGE: &[u8; 40] = b"usage: goclone [--min N] [--mass N] DIR\n";
+/// The most of `--min`: the most statements of a window.
+const MOST_STATEMENTS: u32 = 32;
+/// The most of `--mass`.
+const MOST_MASS: u32 = 1000;
+
+/// What the words say.
+#[derive(Clone, Copy, Debug)]
+pub struct Words<'a> {
+    /// The fewest statements of a window, from 1 to 32, and 2 where nothing is said.
+    pub min: u32,
+    /// The least mass of a window, from 1 to 1000, and 8 where nothing is said.
+    pub mass: u32,
+    /// The folder of the package.
+    pub dir: &'a str,
+}
+
+/// Why words say nothing.
+#[derive(Clone, Copy, Debug, PartialEq, Eq)]
+pub enum WordsError {
+    /// The words are others than those of the usage line.
+    NotTaken,
+    /// Memory ran out.
+    Memory,
+}
+
+impl From<AllocError> for WordsError {
+    ghost use Rattle.clone_server.specs.declared.words.WordsError.TheVariants as errors;
+
+    ghost from_gives = { λ _ e. e ≡ errors.Memory };
+
+    fn from(_error: AllocError) -> WordsError {
+        WordsError::Memory
+    }
+}
+
+/// The number of an option, or the one that stands for none.
+fn number_or(text: Option<&str>, most: u32, fallback: u32) -> Option<u32>
+    ensures { result ≡ number_or most fallback (option_map (λ t. t.now) text.entry) }
+{
+    match text {
+        None => Some(fallback),
+        Some(text) => whole_number(text.as_bytes(), most),
+    }
+}
+
+/// The two numbers and the folder, if all are there.
+fn all_said<'a>(min: Option<u32>, mass: Option<u32>, dir: Option<&'a str>) -> Option<Words<'a>>
+    ensures { option_map said_of result ≡ all_said min mass (option_map (λ t. t.now) dir.entry) }
+{
+    match (min, mass, dir) {
+        (Some(min), Some(mass), Some(dir)) => Some(Words { min, mass, dir }),
+        _ => None,
+    }
+}
+
+/// What the matches say.
+fn said<'a>(matches: &ArgMatches<'a>) -> Option<Words<'a>>
+    ensures { option_map said_of result ≡ said_by (rows_of (found_of matches.now)) }
+{
+    let min = number_or(matches.get_str("min"), MOST_STATEMENTS, 2);
+    let mass = number_or(matches.get_str("mass"), MOST_MASS, 8);
+    all_said(min, mass, matches.get_str("dir"))
+}
+
+/// The command, as `clap` knows it.
+fn command<'a>(alloc: Global) -> Result<Command<'a>, AllocError>
+    ensures { IfOk result (λ c. app_of c ≡ goclone) }
+{
+    let min = Arg::new(alloc, "min").long("min").action(ArgAction::Set);
+    let mass = Arg::new(alloc, "mass").long("mass").action(ArgAction::Set);
+    let dir = Arg::new(alloc, "dir").required(true).action(ArgAction::Set);
+    let named = Command::new(alloc, "goclone").no_binary_name(true);
+    named.arg(min)?.arg(mass)?.arg(dir)
+}
+
+/// The matches of the words, as `clap` finds them.
+fn matches_of<'a>(alloc: Global, words: &'a [String]) -> Result<ArgMatches<'a>, WordsError>
+    ensures { Gives (λ m. rows_of (found_of m)) words_refusal result (rows_of_words (texts_of words.entry.now)) }
+{
+    match command(alloc)?.try_get_matches_from(words) {
+        Ok(matches) => Ok(matches),
+        Err(error) if error.kind() == ErrorKind::OutOfMemory => Err(WordsError::Memory),
+        Err(_) => Err(WordsError::NotTaken),
+    }
+}
+
+/// What the words say, where they are those of the usage line: `--min` with a whole number from 1 to 32, `--mass` with one
+/// from 1 to 1000, and a folder. Numbers are written in digits alone, of which the first is no 0.
+#[tactic(auto, unfolding(crate::specs::Words::words_of))]
+pub fn words_of<'a>(alloc: Global, words: &'a [String]) -> Result<Words<'a>, WordsError>
+    ensures { Gives said_of words_refusal result (words_of (texts_of words.entry.now)) }
+{
+    let matches = matches_of(alloc, words)?;
+    said(&matches).ok_or(WordsError::NotTaken)
+}

@@ -1,0 +1,24 @@
+use Rattle.std.proofs.Common.{◌≡◌, ◌∙◌, ap, subst}
+use Rattle.std.proofs.lemmas.Result.{IfOk-weaker}
+use Rattle.go_scopes.specs.Views.{failure_of}
+use Rattle.go_package_defs.specs.Checked.{IsChecked, IsReported}
+use Rattle.clone_replies.specs.Numbers.{numbers_in, numbers_reply}
+use Rattle.clone_session.specs.Answers.{fault_line, good, faulty}
+use Rattle.clone_session.proofs.answers.stat.Goals as goal
+
+pub returns-in-Some-clause-reply : goal.returns-in-Some-clause-reply
+returns-in-Some-clause-reply g c =
+    let f = c.in-Some.fault in
+    let texts : c.refresh.new.session.texts ≡ c.args.session.now.texts = ap (λ s. s.texts) c.refresh.ensures.kept in
+    let reported = subst (λ ts. IsReported ts (failure_of f)) texts c.in-Some.ensures.reported in
+    IfOk-weaker c.fault_line.result _ _ (λ reply h. faulty f reported (h ∙ ap (λ ts. fault_line ts f) texts)) c.fault_line.ensures
+
+pub returns-in-None-clause-reply : goal.returns-in-None-clause-reply
+returns-in-None-clause-reply g c =
+    let texts : c.refresh.new.session.texts ≡ c.args.session.now.texts = ap (λ s. s.texts) c.refresh.ensures.kept in
+    let bounds : c.refresh.new.session.bounds ≡ c.args.session.now.bounds = ap (λ s. s.bounds) c.refresh.ensures.kept in
+    let whole = c.in-None.ensures.good in
+    let checked = subst (λ ts. IsChecked ts whole.0) texts whole.1 in
+    IfOk-weaker c.numbers_line.result _ _
+    (λ reply h. good whole.0 checked
+    (h whole.0 whole.1 ∙ ap (λ b. numbers_reply (numbers_in b c.refresh.new.session.texts whole.0)) bounds ∙ ap (λ ts. numbers_reply (numbers_in c.args.session.now.bounds ts whole.0)) texts)) c.numbers_line.ensures

@@ -1,5 +1,0 @@
-use Rattle.clone_workspace.proofs.Replies.{one}
-use Rattle.clone_workspace.proofs.laws.one_reply.Goals as goal
-
-pub returns : goal.returns
-returns c = one (record { answer = c.packages_have_one_answer.ensures; listing = c.listings_follow_from_the_texts.ensures.one; numbers = c.numbers_follow_from_the_texts.ensures.one; run = c.runs_follow_from_the_texts.ensures.one })

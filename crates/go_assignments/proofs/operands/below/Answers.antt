@@ -1,5 +1,0 @@
-use Rattle.go_machine.proofs.Values.{take_views}
-use Rattle.go_assignments.proofs.operands.below.Goals as goal
-
-pub returns-then-base-values : goal.returns-then-base-values
-returns-then-base-values c = take_views c.args.base c.args.values.now

@@ -1,5 +1,0 @@
-use Rattle.go_call_rules.proofs.Counts.{shown_not_one}
-use Rattle.go_call_rules.proofs.arguments.one.Goals as goal
-
-pub returns-in-len2-up-clause-none : goal.returns-in-len2-up-clause-none
-returns-in-len2-up-clause-none c = shown_not_one c.args.types.now c.args.nodes.now c.in-len2-up.len_at_least

@@ -1,3 +1,0 @@
-pub mod Calling
-pub mod Entering
-pub mod Leaving

@@ -1,4 +1,0 @@
-pub mod FilesRead
-pub mod Following
-pub mod Parts
-pub mod RightSides

@@ -1,6 +1,0 @@
-use Rattle.std.proofs.Common.{◌≡◌, ◌++◌, drop}
-use Rattle.go_package.specs.Checked.{function_origins, origins}
-use Rattle.go_check.proofs.origins.origins.Given as goal
-
-abbrev pub invariant-loop-number : goal.invariant-loop-number
-invariant-loop-number l = l.origins.items ++ function_origins l.func (drop l.number l.uses.locals) ≡ origins l.uses

@@ -1,2 +1,0 @@
-pub mod Switching
-pub mod Ranging

@@ -1,5 +1,0 @@
-use Rattle.go_contexts.proofs.Final.{final_types}
-use Rattle.go_contexts.proofs.laws.final_types.Goals as goal
-
-pub returns : goal.returns
-returns c = final_types

@@ -1,5 +1,0 @@
-use Rattle.go_contexts.proofs.Literals.{file_reads, part_reads}
-use Rattle.go_contexts.proofs.laws.literals_read.Goals as goal
-
-pub returns : goal.returns
-returns c = record { file = λ file l t lexed. file_reads file l lexed t; part = part_reads }

@@ -1,4 +1,0 @@
-pub mod Contexts
-pub mod Expressions
-pub mod Final
-pub mod Examples

@@ -1,6 +1,0 @@
-pub mod AllNeeded
-pub mod Below
-pub mod Circled
-pub mod Listed
-pub mod Ranked
-pub mod Sorted

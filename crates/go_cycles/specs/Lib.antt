@@ -1,6 +1,0 @@
-pub mod Circles
-pub mod Columns
-pub mod Needs
-pub mod Order
-pub mod Ranks
-pub mod Views

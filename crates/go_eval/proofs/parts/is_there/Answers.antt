@@ -1,6 +1,0 @@
-use Rattle.std.proofs.Common.{◌∙◌}
-use Rattle.go_eval.proofs.Seen.{there_by}
-use Rattle.go_eval.proofs.parts.is_there.Goals as goal
-
-pub returns : goal.returns
-returns c f = c.is_some.ensures ∙ there_by f c.args.parts.now c.args.number (λ x. x.now) c.part.result c.part.ensures

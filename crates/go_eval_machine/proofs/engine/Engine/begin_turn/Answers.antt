@@ -1,0 +1,16 @@
+use Rattle.std.proofs.Common.{ℕ, sym, ap}
+use Rattle.go_values.specs.Views.{views}
+use Rattle.go_eval_machine.specs.declared.task.What.TheVariants as what
+use Rattle.go_eval_machine.specs.Engines.{works, lays}
+use Rattle.go_eval_machine.proofs.Going.{goes_same}
+use Rattle.go_eval_machine.proofs.engine.Engine.begin_turn.Goals as goal
+
+pub returns : goal.returns
+returns c =
+    let p = c.args.checked.now in
+    let x = c.args.node.now in
+    let w = what.Turn c.args.condition in
+    let b = c.top-base.result in
+    let old = c.args.self.now in
+    let vs = views old.values.items in
+    goes_same p (lays p x w) (works p x b w) old c.turn.result c.turn.new.self c.turn.ensures (λ n s d f u t. ap (λ (k : ℕ). works p x k w n s vs d f u t) (sym c.top-base.ensures))

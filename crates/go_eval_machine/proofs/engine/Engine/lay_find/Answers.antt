@@ -1,0 +1,18 @@
+use Rattle.std.proofs.Common.{ℕ, sym, ap}
+use Rattle.go_values.specs.Views.{views}
+use Rattle.go_meaning.specs.Doings.{at}
+use Rattle.go_eval_machine.specs.Rests.{then_rest}
+use Rattle.go_eval_machine.specs.Tasks.{parts_of, task_rest}
+use Rattle.go_eval_machine.specs.Engines.{lays_find, seeks_part}
+use Rattle.go_eval_machine.proofs.Going.{goes_pushed}
+use Rattle.go_eval_machine.proofs.engine.Engine.lay_find.Goals as goal
+
+pub returns : goal.returns
+returns c = λ p h.
+    let x = c.args.node.now in
+    let w = c.args.what in
+    let k = c.args.number in
+    let old = c.args.self.now in
+    let vs = views old.values.items in
+    goes_pushed p (lays_find p x w k) (seeks_part p x k) x c.top-base.result w old c.push.new.self c.seek.result c.seek.new.self h c.in_ok-push.ensures (c.seek.ensures p h.0)
+    (λ n s d f u t. ap (λ (b : ℕ). then_rest (at (parts_of p n x) k).find (task_rest p n x b w s) vs d f u t) (sym c.top-base.ensures))

@@ -1,0 +1,11 @@
+pub mod Seen
+pub mod Grouped
+pub mod Known
+pub mod Steps
+pub mod Lists
+pub mod Nodes
+pub mod Sizes
+pub mod Placing
+pub mod Frames
+pub mod Reaching
+pub mod Public

@@ -1,0 +1,7 @@
+pub mod Views
+pub mod Known
+pub mod Called
+pub mod Machines
+pub mod Places
+pub mod Programs
+pub mod Targets

@@ -1,9 +1,0 @@
-use Rattle.std.proofs.Common.{◌≡◌, map, drop}
-use Rattle.std.specs.Option.{option_map}
-use Rattle.std.specs.List.{list_any}
-use Rattle.go_typed.specs.Views.{seen}
-use Rattle.go_rules.specs.Tables.{calls_in}
-use Rattle.go_exprs.proofs.label.calls.Given as goal
-
-abbrev pub invariant-loop-part : goal.invariant-loop-part
-invariant-loop-part l = list_any calls_in (map (option_map (seen l.types)) (drop l.part-index l.parts)) ≡ list_any calls_in (map (option_map (seen l.types)) l.parts)

@@ -1,0 +1,14 @@
+pub mod Nodes
+pub mod Giving
+pub mod Layouts
+pub mod Answers
+pub mod Rows
+pub mod Building
+pub mod Stays
+pub mod Steps
+pub mod Fields
+pub mod OverParts
+pub mod Results
+pub mod SurveyRows
+pub mod SameNames
+pub mod Public

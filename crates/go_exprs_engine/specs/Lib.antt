@@ -1,0 +1,4 @@
+pub mod Layouts
+pub mod Literals
+pub mod Alike
+pub mod OverParts

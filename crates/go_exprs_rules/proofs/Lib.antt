@@ -1,0 +1,12 @@
+pub mod OperatorExamples
+pub mod ComparisonExamples
+pub mod ShiftExamples
+pub mod IndexExamples
+pub mod CallExamples
+pub mod LiteralExamples
+pub mod TypeExamples
+pub mod Firsts
+pub mod Parts
+pub mod Comparing
+pub mod TypeRows
+pub mod Public

@@ -1,4 +1,0 @@
-pub mod Parts
-pub mod Rules
-pub mod Calls
-pub mod Typings

@@ -1,6 +1,0 @@
-pub mod Answers
-pub mod Literals
-pub mod Plain
-pub mod Portions
-pub mod Rows
-pub mod Standing

@@ -1,0 +1,13 @@
+pub mod Portions
+pub mod Answers
+pub mod Names
+pub mod Needs
+pub mod Outside
+pub mod Packages
+pub mod HeadPortions
+pub mod Renumbered
+pub mod Specifications
+pub mod Same
+pub mod States
+pub mod Typings
+pub mod WindowPackages

@@ -1,6 +1,0 @@
-use Rattle.std.proofs.Common.{ℕ}
-use Rattle.go_judging.specs.World.{KnownStandings}
-use Rattle.go_in_order.proofs.settle.hide_unless.Given as goal
-
-abbrev pub invariant-loop-number : goal.invariant-loop-number
-invariant-loop-number l = (n : ℕ) → KnownStandings n l.initial.standings.items → KnownStandings n l.standings.items

@@ -1,9 +1,0 @@
-use Rattle.std.proofs.Common.{◌∙◌, sym}
-use Rattle.go_names.proofs.Innermost.{meaning_reached}
-use Rattle.go_lookup.specs.Named.{all_meanings}
-use Rattle.go_lookup.proofs.by_name.Named.meaning_at.Goals as goal
-
-pub returns : goal.returns
-returns c =
-    let n = c.args.file in
-    c.reached.ensures ∙ sym (meaning_reached n c.args.token c.args.name.now (all_meanings c.args.self.now) (c.requires.nested n))

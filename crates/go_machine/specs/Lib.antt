@@ -1,5 +1,0 @@
-pub mod Rests
-pub mod Tasks
-pub mod Engines
-pub mod Giving
-pub mod Written

@@ -1,5 +1,0 @@
-use Rattle.go_names.proofs.Outer.{file_behind}
-use Rattle.go_names.proofs.laws.locals_stand_in_functions.Goals as goal
-
-pub returns : goal.returns
-returns c = file_behind

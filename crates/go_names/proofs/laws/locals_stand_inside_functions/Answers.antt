@@ -1,5 +1,0 @@
-use Rattle.go_names.proofs.Inside.{file_inside}
-use Rattle.go_names.proofs.laws.locals_stand_inside_functions.Goals as goal
-
-pub returns : goal.returns
-returns c = file_inside

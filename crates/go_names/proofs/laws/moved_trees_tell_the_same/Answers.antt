@@ -1,5 +1,0 @@
-use Rattle.go_names.proofs.Moved.{events_moved}
-use Rattle.go_names.proofs.laws.moved_trees_tell_the_same.Goals as goal
-
-pub returns : goal.returns
-returns c = events_moved

@@ -1,5 +1,0 @@
-use Rattle.go_names.proofs.Scoped.{file_scoped}
-use Rattle.go_names.proofs.laws.scopes_stand_in_trees.Goals as goal
-
-pub returns : goal.returns
-returns c = file_scoped

@@ -1,6 +1,0 @@
-use Rattle.std.proofs.Common.{sym, ap, ◌∙◌, [], ◌∷◌}
-use Rattle.go_meaning.specs.Operations.{Not, perform}
-use Rattle.go_operations.proofs.numbers.not.Goals as goal
-
-pub returns : goal.returns
-returns c w = ap (λ u. perform Not (u ∷ []) w) (sym c.at.ensures) ∙ c.not.ensures w

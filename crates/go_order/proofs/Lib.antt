@@ -1,3 +1,0 @@
-mod Alike
-mod Each
-mod Enough

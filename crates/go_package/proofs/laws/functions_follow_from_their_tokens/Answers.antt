@@ -1,5 +1,0 @@
-use Rattle.go_package.proofs.Portions.{portions}
-use Rattle.go_package.proofs.laws.functions_follow_from_their_tokens.Goals as goal
-
-pub returns : goal.returns
-returns c = portions

@@ -1,5 +1,0 @@
-use Rattle.go_package.proofs.Single.{single}
-use Rattle.go_package.proofs.laws.packages_have_one_answer.Goals as goal
-
-pub returns : goal.returns
-returns c = single (record { lexing = c.one_lexing.ensures; fault = c.one_fault.ensures.same; none = c.one_fault.ensures.none; tree = c.one_tree_of_a_file.ensures })

@@ -1,5 +1,0 @@
-use Rattle.go_package.proofs.Resolved.{ordered}
-use Rattle.go_package.proofs.laws.resolved_packages_have_an_order.Goals as goal
-
-pub returns : goal.returns
-returns c = ordered c.declarations_bound_rounds.ensures

@@ -1,0 +1,15 @@
+pub mod Declarations
+pub mod Sources
+pub mod Knowledge
+pub mod Verdicts
+pub mod Answer
+pub mod Bodies
+pub mod Checked
+pub mod Sentences
+pub mod DeclarationExamples
+pub mod CheckExamples
+pub mod Resolved
+pub mod Single
+pub mod Portions
+pub mod StatementExamples
+pub mod Kept

@@ -1,0 +1,33 @@
+use Rattle.std.proofs.Common.{◌≡◌, length, ap, sym, subst, ◌∙◌}
+use Rattle.std.proofs.lemmas.Result.{IfOk-weaker}
+use Rattle.go_typed.specs.Scopes.{LocalsView}
+use Rattle.go_exprs_rules.specs.Seen.{AreBasics}
+use Rattle.go_exprs_rules.specs.Faults.{least}
+use Rattle.go_exprs_types.specs.Naming.{names}
+use Rattle.go_package_defs.specs.Knowledge as knowledge
+use Rattle.go_package_defs.specs.Knowledge.{free_scope, told_scope}
+use Rattle.go_package_defs.specs.Verdicts.{own_value, own_faults, value_state, type_faults, typed_type, right_found}
+use Rattle.go_declarations.specs.Judged.{PartRead}
+use Rattle.go_declarations.specs.States.{ShowsState}
+use Rattle.go_declarations.specs.Views.{specification_view}
+use Rattle.go_package_rounds.specs.World.{package_in, outlines_in}
+use Rattle.go_package_rounds.proofs.judge.fault_of.Goals as goal
+
+pub type_fault-requires-clause-scope : goal.type_fault-requires-clause-scope
+type_fault-requires-clause-scope c =
+    c.in_ok-scope.ensures.known c.args.types.now (length c.args.types.now.shapes) c.requires.fits (ap (λ (l : LocalsView). l.sorts) c.in_ok-locals.ensures) c.requires.known
+
+pub type_fault-requires-clause-basics : goal.type_fault-requires-clause-basics
+type_fault-requires-clause-basics c = subst (AreBasics c.args.types.now) (sym c.in_ok-scope.ensures.basics) c.requires.fits.basics
+
+pub type_fault-requires-clause-of : goal.type_fault-requires-clause-of
+type_fault-requires-clause-of c =
+    let d = specification_view c.args.specification.now in
+    subst (λ texts. PartRead texts d.type_tree) (sym c.in_ok-scope.ensures.texts) c.requires.literals.of
+
+pub returns-clause-fault : goal.returns-clause-fault
+returns-clause-fault c = λ ss stands rights.
+    let a = c.args.types.now in
+    let d = specification_view c.args.specification.now in
+    let same = c.in_ok-scope.ensures.is a knowledge.is_sound ss c.requires.fits stands rights c.in_ok-locals.ensures in
+    IfOk-weaker c.type_fault.result _ _ (λ o h. h ∙ ap (λ s. least (type_faults s d)) same) c.type_fault.ensures.fault

@@ -1,0 +1,4 @@
+mod Told
+mod Marks
+mod Objects
+mod Stages

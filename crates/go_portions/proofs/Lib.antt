@@ -1,2 +1,0 @@
-pub mod Specifications
-pub mod Portions

@@ -1,5 +1,0 @@
-use Rattle.go_reading.proofs.Files.{are_reported}
-use Rattle.go_reading.proofs.laws.file_faults_are_reported.Goals as goal
-
-pub returns : goal.returns
-returns c = are_reported

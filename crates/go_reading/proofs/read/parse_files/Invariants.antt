@@ -1,5 +1,0 @@
-use Rattle.go_reading.specs.Reading.{Upto, IsParsed}
-use Rattle.go_reading.proofs.read.parse_files.Given as goal
-
-abbrev pub invariant-loop-tokens : goal.invariant-loop-tokens
-invariant-loop-tokens l = Upto IsParsed l.files l.tokens-index l.trees.items

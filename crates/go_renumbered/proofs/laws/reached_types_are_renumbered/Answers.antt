@@ -1,5 +1,0 @@
-use Rattle.go_renumbered.proofs.Reached.{reached_renamed}
-use Rattle.go_renumbered.proofs.laws.reached_types_are_renumbered.Goals as goal
-
-pub returns : goal.returns
-returns c = reached_renamed

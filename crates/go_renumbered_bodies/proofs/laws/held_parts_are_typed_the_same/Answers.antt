@@ -1,5 +1,0 @@
-use Rattle.go_renumbered_bodies.proofs.Holding.{holding_kept, held_faults_kept}
-use Rattle.go_renumbered_bodies.proofs.laws.held_parts_are_typed_the_same.Goals as goal
-
-pub returns : goal.returns
-returns c = record { typed = holding_kept; failing = held_faults_kept }

@@ -1,7 +1,0 @@
-//! Statements and bodies where the declared types have other numbers.
-//!
-//! The contracts of the laws say it: under a one-to-one renaming of declared types they are read the same, renamed, and the same rules
-//! fail in them.
-#![tactic(auto)]
-
-pub mod laws;

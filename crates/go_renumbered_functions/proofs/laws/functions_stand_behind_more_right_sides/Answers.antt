@@ -1,5 +1,0 @@
-use Rattle.go_renumbered_functions.proofs.Shifted.{behind_more}
-use Rattle.go_renumbered_functions.proofs.laws.functions_stand_behind_more_right_sides.Goals as goal
-
-pub returns : goal.returns
-returns c = behind_more

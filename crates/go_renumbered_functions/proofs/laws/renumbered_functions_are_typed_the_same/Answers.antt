@@ -1,5 +1,0 @@
-use Rattle.go_renumbered_functions.proofs.Functions.{functions_renamed}
-use Rattle.go_renumbered_functions.proofs.laws.renumbered_functions_are_typed_the_same.Goals as goal
-
-pub returns : goal.returns
-returns c name s t number count types others x r = functions_renamed name s t count types others r number x

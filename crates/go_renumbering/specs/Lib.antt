@@ -1,0 +1,4 @@
+pub mod Renumbered
+pub mod Reached
+pub mod Frames
+pub mod Functions

@@ -1,5 +1,0 @@
-use Rattle.go_rewrite.proofs.Settled.{alike_rewrites}
-use Rattle.go_rewrite.proofs.laws.alike_rewrites_agree.Goals as goal
-
-pub returns : goal.returns
-returns c = alike_rewrites

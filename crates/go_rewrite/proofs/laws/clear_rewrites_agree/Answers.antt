@@ -1,5 +1,0 @@
-use Rattle.go_rewrite.proofs.Settled.{clear_rewrites}
-use Rattle.go_rewrite.proofs.laws.clear_rewrites_agree.Goals as goal
-
-pub returns : goal.returns
-returns c = clear_rewrites

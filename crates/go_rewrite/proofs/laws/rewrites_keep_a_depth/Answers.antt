@@ -1,5 +1,0 @@
-use Rattle.go_rewrite.proofs.Settled.{shallow_rewrites}
-use Rattle.go_rewrite.proofs.laws.rewrites_keep_a_depth.Goals as goal
-
-pub returns : goal.returns
-returns c = shallow_rewrites

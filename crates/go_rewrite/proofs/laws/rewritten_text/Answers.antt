@@ -1,5 +1,0 @@
-use Rattle.go_rewrite.proofs.Rewritten.{new_tokens}
-use Rattle.go_rewrite.proofs.laws.rewritten_text.Goals as goal
-
-pub returns : goal.returns
-returns c = λ d w h t. new_tokens w.file d w.tokens w.comments w.tree w.ranges w.rest w.tail w.tail_tokens h t

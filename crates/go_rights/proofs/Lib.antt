@@ -1,9 +1,0 @@
-pub mod Agreeing
-pub mod Values
-pub mod Operators
-pub mod Indexes
-pub mod Calls
-pub mod Nodes
-pub mod Typing
-pub mod Names
-pub mod Types

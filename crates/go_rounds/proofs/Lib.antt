@@ -1,6 +1,0 @@
-pub mod Assigned
-pub mod Judged
-pub mod Needs
-pub mod Rounds
-pub mod Stages
-pub mod Through

@@ -1,5 +1,0 @@
-use Rattle.go_rounds.proofs.Through.{before}
-use Rattle.go_rounds.proofs.laws.needs_come_before.Goals as goal
-
-pub returns : goal.returns
-returns c p f g k x falls bound h = before p f g k falls bound x h

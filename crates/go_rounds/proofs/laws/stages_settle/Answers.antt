@@ -1,5 +1,0 @@
-use Rattle.go_rounds.proofs.Stages.{staged}
-use Rattle.go_rounds.proofs.laws.stages_settle.Goals as goal
-
-pub returns : goal.returns
-returns c p os found s k a m = staged p os found s a k m

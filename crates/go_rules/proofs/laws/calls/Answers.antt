@@ -1,5 +1,0 @@
-use Rattle.go_rules.proofs.CallExamples.{call_examples_hold}
-use Rattle.go_rules.proofs.laws.calls.Goals as goal
-
-pub returns : goal.returns
-returns c = call_examples_hold

@@ -1,5 +1,0 @@
-use Rattle.go_rules.proofs.ComparisonExamples.{comparison_examples_hold}
-use Rattle.go_rules.proofs.laws.comparisons.Goals as goal
-
-pub returns : goal.returns
-returns c = comparison_examples_hold

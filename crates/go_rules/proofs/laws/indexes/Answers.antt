@@ -1,5 +1,0 @@
-use Rattle.go_rules.proofs.IndexExamples.{index_examples_hold}
-use Rattle.go_rules.proofs.laws.indexes.Goals as goal
-
-pub returns : goal.returns
-returns c = index_examples_hold

@@ -1,5 +1,0 @@
-use Rattle.go_rules.proofs.ShiftExamples.{shift_examples_hold}
-use Rattle.go_rules.proofs.laws.shifts.Goals as goal
-
-pub returns : goal.returns
-returns c = shift_examples_hold

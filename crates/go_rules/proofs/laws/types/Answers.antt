@@ -1,5 +1,0 @@
-use Rattle.go_rules.proofs.TypeExamples.{type_examples_hold}
-use Rattle.go_rules.proofs.laws.types.Goals as goal
-
-pub returns : goal.returns
-returns c = type_examples_hold

@@ -1,7 +1,0 @@
-use Rattle.std.proofs.Common.{sym}
-use Rattle.go_types.specs.Tables.{type_of}
-use Rattle.go_rules.proofs.TypeRows.{row_not_empty}
-use Rattle.go_rules.proofs.place.is_empty.Goals as goal
-
-pub returns-in-len1-up : goal.returns-in-len1-up
-returns-in-len1-up c = sym (row_not_empty (type_of c.args._types.now.shapes) c.args.row.now c.in-len1-up.len_at_least)

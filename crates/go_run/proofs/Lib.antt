@@ -1,5 +1,0 @@
-mod Counting
-mod Running
-mod Sequences
-mod Programs
-mod Endings

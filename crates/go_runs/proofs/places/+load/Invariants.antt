@@ -1,6 +1,0 @@
-use Rattle.go_typed.specs.Funcs.{sizes}
-use Rattle.go_typed.specs.Views.{views}
-use Rattle.go_runs.proofs.places.+load.Given as goal
-
-abbrev pub decreases-load : goal.decreases-load
-decreases-load l = sizes (views l.parts.now)

@@ -1,5 +1,0 @@
-pub mod Called
-pub mod Machines
-pub mod Places
-pub mod Programs
-pub mod Targets

@@ -1,0 +1,15 @@
+pub mod Functions
+pub mod Heights
+pub mod Inside
+pub mod Innermost
+pub mod Layers
+pub mod Locals
+pub mod Moved
+pub mod Nesting
+pub mod Rising
+pub mod Scoped
+pub mod Sited
+pub mod Sweeps
+pub mod Told
+pub mod Outer
+pub mod Public

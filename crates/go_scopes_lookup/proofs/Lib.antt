@@ -1,0 +1,13 @@
+pub mod Ascii
+pub mod Behind
+pub mod ByName
+pub mod Housed
+pub mod Named
+pub mod Owned
+pub mod Places
+pub mod Sorting
+pub mod Stacks
+pub mod Tables
+pub mod Told
+pub mod Walks
+pub mod Public

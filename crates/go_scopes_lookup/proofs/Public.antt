@@ -1,0 +1,5 @@
+-- What the proofs of other crates use of this crate's proofs. Declares nothing.
+pub use Rattle.go_scopes_lookup.proofs.Owned.{uses_own}
+pub use Rattle.go_scopes_lookup.proofs.Places.{known_complete}
+pub use Rattle.go_scopes_lookup.proofs.Tables.{drop-back}
+pub use Rattle.go_scopes_lookup.proofs.Told.{get_some}

@@ -1,5 +1,0 @@
-use Rattle.go_specifications.proofs.Places.{keeps_least}
-use Rattle.go_specifications.proofs.laws.least_keeps_its_place.Goals as goal
-
-pub returns : goal.returns
-returns c p n fs rise s = keeps_least p n rise fs s

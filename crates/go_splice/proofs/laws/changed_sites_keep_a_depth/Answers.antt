@@ -1,5 +1,0 @@
-use Rattle.go_splice.proofs.Depths.{sites_depth}
-use Rattle.go_splice.proofs.laws.changed_sites_keep_a_depth.Goals as goal
-
-pub returns : goal.returns
-returns c = sites_depth

@@ -1,5 +1,0 @@
-use Rattle.go_splice.proofs.Texts.{file_sites_changed}
-use Rattle.go_splice.proofs.laws.changed_sites_of_a_file.Goals as goal
-
-pub returns : goal.returns
-returns c = λ ts xs t ss h s low. file_sites_changed ts xs t ss h s.places s.ascend s.sit s.agrees low

@@ -1,5 +1,0 @@
-use Rattle.go_splice.proofs.Operands.{operand_stands}
-use Rattle.go_splice.proofs.laws.operands_stand_for_expressions.Goals as goal
-
-pub returns : goal.returns
-returns c = operand_stands

@@ -1,5 +1,0 @@
-use Rattle.go_splice.proofs.Endings.{tree_ends, run_ends}
-use Rattle.go_splice.proofs.laws.texts_end_well.Goals as goal
-
-pub returns : goal.returns
-returns c = record { text = λ ts d t e h. tree_ends ts t d e h; run = run_ends }

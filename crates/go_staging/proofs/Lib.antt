@@ -1,3 +1,0 @@
-mod Marks
-mod Objects
-mod Stages

@@ -1,6 +1,0 @@
-use Rattle.std.proofs.Common.{◌≡◌, ◌++◌, drop}
-use Rattle.go_staging.specs.Marked.{marks_from}
-use Rattle.go_staging.proofs.marked.marks_of.Given as goal
-
-abbrev pub invariant-loop-number : goal.invariant-loop-number
-invariant-loop-number l = l.marks.items ++ marks_from l.stands l.reaches l.number (drop l.number l.bounds) ≡ marks_from l.stands l.reaches 0 l.bounds

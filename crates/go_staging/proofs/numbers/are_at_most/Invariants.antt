@@ -1,6 +1,0 @@
-use Rattle.std.proofs.Common.{◌≡◌, drop}
-use Rattle.go_staging.specs.Numbers.{at_most}
-use Rattle.go_staging.proofs.numbers.are_at_most.Given as goal
-
-abbrev pub invariant-loop-number : goal.invariant-loop-number
-invariant-loop-number l = at_most l.most (drop l.number-index l.numbers) ≡ at_most l.most l.numbers

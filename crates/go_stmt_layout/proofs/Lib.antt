@@ -1,4 +1,0 @@
-pub mod Written
-pub mod Counting
-pub mod Behind
-pub mod Appending

@@ -1,9 +1,0 @@
-use Rattle.std.proofs.Common.{◌≡◌, drop, map}
-use Rattle.std.specs.List.{list_any}
-use Rattle.std.specs.Option.{option_map}
-use Rattle.go_typed.specs.Views.{seen}
-use Rattle.go_stmts.specs.Ending.{is_default_clause}
-use Rattle.go_stmt_tests.proofs.endings.has_default.Given as goal
-
-abbrev pub invariant-loop-clause : goal.invariant-loop-clause
-invariant-loop-clause l = list_any is_default_clause (map (option_map (seen l.types)) (drop l.clause-index l.clauses)) ≡ list_any is_default_clause (map (option_map (seen l.types)) l.clauses)

@@ -1,0 +1,13 @@
+pub mod Frames
+pub mod Targets
+pub mod Ending
+pub mod Assigning
+pub mod Laying
+pub mod Rules
+pub mod Reading
+pub mod Bodies
+pub mod Moving
+pub mod Sentences
+pub mod Examples
+pub mod BodyExamples
+pub mod BranchExamples

@@ -1,0 +1,9 @@
+pub mod Rows
+pub mod Loops
+pub mod Written
+pub mod Counting
+pub mod Behind
+pub mod Appending
+pub mod Arrays
+pub mod Placing
+pub mod Public

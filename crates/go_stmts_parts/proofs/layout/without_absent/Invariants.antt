@@ -1,0 +1,13 @@
+use Rattle.std.proofs.Common.{◌≡◌, ◌++◌, length, map}
+use Rattle.std.specs.Option.{option_map}
+use Rattle.go_typed.specs.Views.{seen, AllKnown}
+use Rattle.go_stmts_defs.specs.Laying.{without_absent}
+use Rattle.go_stmts_parts.proofs.layout.without_absent.Given as goal
+
+abbrev pub invariant-loop-part : goal.invariant-loop-part
+invariant-loop-part l =
+    (goal.iterator-loop-part).can_next l.part-iterator ×
+    (goal.iterator-loop-part).is_finite l.part-iterator ×
+    AllKnown (length l.types.shapes) l.out.items ×
+    AllKnown (length l.types.shapes) l.part-iterator.rest.items ×
+    (map (option_map (seen l.types)) l.out.items ++ without_absent (map (option_map (seen l.types)) l.part-iterator.rest.items) ≡ without_absent (map (option_map (seen l.types)) l.fn.parts.items))

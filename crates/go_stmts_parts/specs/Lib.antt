@@ -1,0 +1,4 @@
+pub mod Rows
+pub mod Passings
+pub mod Layouts
+pub mod Late

@@ -1,0 +1,17 @@
+use Rattle.std.proofs.Common.{◌<◌, length, refl, arith}
+use Rattle.go_stmts_defs.specs.Assigning.{at_nil}
+use Rattle.go_stmts_defs.specs.Rules.{each}
+use Rattle.go_exprs_calls.proofs.Public.{known_step, fault_step}
+use Rattle.go_stmts_rules.proofs.targets.nils_fault.Goals as goal
+
+pub loop-value-preserved : goal.loop-value-preserved
+loop-value-preserved c =
+    let t = c.args.types.now in
+    let ns = c.args.values.now in
+    let i = c.loop-value.value-index in
+    let n = c.value-item.result in
+    let lt : i < length ns = omega arith in
+    record {
+      known = (known_step t ns i n lt c.value-item.is (length t.shapes) c.loop-value.invariant.known).1;
+      found = fault_step (at_nil) (each at_nil) (λ x xs. refl) t ns i n c.loop-value.first c.at_nil.result c.earlier-first.result _ lt c.value-item.is c.loop-value.invariant.found c.at_nil.ensures c.earlier-first.ensures;
+    }

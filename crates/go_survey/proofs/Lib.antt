@@ -1,4 +1,0 @@
-pub mod OverParts
-pub mod Results
-pub mod Rows
-pub mod SameNames

@@ -1,5 +1,0 @@
-use Rattle.go_survey.proofs.SameNames.{typed_same, faults_same}
-use Rattle.go_survey.proofs.laws.names_alone_tell.Goals as goal
-
-pub returns : goal.returns
-returns c s r h t a = record { typed = typed_same r s h t a; failing = faults_same r s h t a }

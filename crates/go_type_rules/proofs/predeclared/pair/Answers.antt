@@ -1,6 +1,0 @@
-use Rattle.go_type_rules.specs.Types.{basic_tree}
-use Rattle.go_type_rules.proofs.Growing.{kept}
-use Rattle.go_type_rules.proofs.predeclared.pair.Goals as goal
-
-pub returns-clause-are : goal.returns-clause-are
-returns-clause-are c = (kept c.basic.new.types c.basic-2.new.types c.in_ok-first.ensures.grows.table c.in_ok-second.ensures.grows c.in_ok-first.first (basic_tree c.args.one) c.in_ok-first.ensures.is, c.in_ok-second.ensures.is)

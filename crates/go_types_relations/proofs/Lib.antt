@@ -1,0 +1,15 @@
+pub mod Booleans
+pub mod Rounds
+pub mod Identity
+pub mod Underlyings
+pub mod Comparing
+pub mod Assigning
+pub mod Counting
+pub mod Zeros
+pub mod Extending
+pub mod Renaming
+pub mod Interning
+pub mod Settled
+pub mod Examples
+pub mod Calls
+pub mod Public

@@ -1,3 +1,0 @@
-mod Starts
-mod Specified
-mod Answers

@@ -1,5 +1,0 @@
-mod Ends
-mod Bodies
-mod Blocks
-pub mod Fresh
-pub mod Names

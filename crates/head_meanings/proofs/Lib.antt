@@ -1,4 +1,0 @@
-pub mod Scopes
-mod Imports
-pub mod Meanings
-pub mod Lookups

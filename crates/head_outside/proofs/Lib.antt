@@ -1,7 +1,0 @@
-mod Classes
-pub mod Shared
-mod Names
-mod Headers
-mod Params
-mod Bodiless
-mod Outside

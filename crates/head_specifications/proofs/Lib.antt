@@ -1,3 +1,0 @@
-mod Further
-mod Inside
-pub mod Pairs

@@ -1,6 +1,0 @@
-mod Failing
-mod Assigned
-mod Judged
-mod Scopes
-mod States
-mod Answers

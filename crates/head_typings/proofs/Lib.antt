@@ -1,3 +1,0 @@
-pub mod Rights
-pub mod Steps
-pub mod Typings

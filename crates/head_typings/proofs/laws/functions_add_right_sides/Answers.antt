@@ -1,5 +1,0 @@
-use Rattle.head_typings.proofs.Rights.{rights_added}
-use Rattle.head_typings.proofs.laws.functions_add_right_sides.Goals as goal
-
-pub returns : goal.returns
-returns c p a rights n d b e = rights_added p a rights n d b e

@@ -1,6 +1,0 @@
-mod Checked
-mod Texts
-mod Bodies
-mod Locals
-mod Homes
-mod Alike

@@ -1,3 +1,0 @@
-pub mod Ascents
-pub mod Flattened
-pub mod Classified

@@ -1,5 +1,0 @@
-pub mod Folds
-pub mod Declared
-pub mod Rows
-pub mod Runs
-pub mod Last

@@ -1,8 +1,0 @@
-use Rattle.std.specs.Prelude.{nat_eq}
-use Rattle.std.specs.HashMap.{get}
-use Rattle.rolling_hash.specs.Shown.{shown}
-use Rattle.rolling_hash.proofs.Folds.{RolledSoFar}
-use Rattle.rolling_hash.proofs.numbers.numbers_of.Given as goal
-
-abbrev pub invariant-loop-index : goal.invariant-loop-index
-invariant-loop-index l = RolledSoFar (shown l.words) l.index l.fold l.terms (get nat_eq l.places) l.numbers.items

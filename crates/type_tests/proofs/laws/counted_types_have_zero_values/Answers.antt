@@ -1,8 +1,0 @@
-use Rattle.type_tests.proofs.Zeros.{counted_told, zero_counted}
-use Rattle.type_tests.proofs.laws.counted_types_have_zero_values.Goals as goal
-
-pub returns-clause-zero : goal.returns-clause-zero
-returns-clause-zero c = counted_told
-
-pub returns-clause-count : goal.returns-clause-count
-returns-clause-count c = zero_counted

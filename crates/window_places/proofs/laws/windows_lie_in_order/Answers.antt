@@ -1,5 +1,0 @@
-use Rattle.window_places.proofs.Packages.{in-order}
-use Rattle.window_places.proofs.laws.windows_lie_in_order.Goals as goal
-
-pub returns : goal.returns
-returns c = in-order
