@@ -1,0 +1,14 @@
+mod Own
+mod Tokens
+mod Each
+mod Lists
+mod Asks
+mod Pieces
+mod Rules
+mod Clashes
+mod Once
+mod Lying
+mod New
+mod Lookups
+mod Unused
+mod Reported

@@ -1,0 +1,75 @@
+//! Laws, for the crates above. The functions do nothing: their contracts are the laws.
+
+ghost use Rattle.std.specs.Prelude.{◌≡◌, ℕ, [], List, Some, slice_get};
+ghost use Rattle.go_tree.specs.Branches.{branches};
+ghost use Rattle.go_tree.specs.Declarations.{declarations, found};
+ghost use Rattle.go_tree.specs.Duplicates.{second_defaults};
+ghost use Rattle.go_tree.specs.Failures.{of_files};
+ghost use Rattle.go_tree.specs.Lookups.{undeclared, outside_names, outside_members, not_called, unused_variables};
+ghost use Rattle.go_tree.specs.Redeclared.{second_declarations, none_new};
+ghost use Rattle.go_heads.specs.Functions.{Function, AreRead, all_functions, function_alone};
+ghost use Rattle.go_heads.specs.Heads.{File};
+ghost use Rattle.go_heads.specs.Locals.{AreNamed};
+ghost use Rattle.go_heads.specs.Objects.{units_of};
+ghost use Rattle.go_scopes_bodies.specs.Meant.{MeansAt};
+ghost use Rattle.go_scopes_bodies.specs.Outside.{outside_units};
+ghost use Rattle.go_scopes_bodies.specs.Faults.{GoesByFunctions, all_asked, outside_asked, outer_in, own_misplaced, own_second_defaults, own_second_declarations, own_none_new, own_undeclared, own_outside_names, own_outside_members, own_not_called, own_unused, outside_declared, shared};
+
+/// Each token of a function means what it means by itself, and by what names mean outside of functions in its file: a local of the
+/// same number, an object of the package, a predeclared name, fmt, or nothing (Go specification: Declarations and scope).
+pub fn tokens_mean_by_themselves()
+    ensures { (fs : List File) → AreRead fs → AreNamed fs → (k : ℕ) (f : Function) → slice_get (all_functions fs) k ≡ Some f → MeansAt fs k f }
+{}
+
+/// Whether a `break`, `continue` or `fallthrough` is misplaced is judged function by function (Go specification: Break statements,
+/// Continue statements, Fallthrough statements).
+pub fn branches_are_judged_by_functions()
+    ensures { (fs : List File) → AreRead fs → AreNamed fs → GoesByFunctions fs (λ n f. own_misplaced (function_alone f)) (branches (outside_units fs)) (branches (units_of fs)) }
+{}
+
+/// So is whether a switch has two defaults (Go specification: Switch statements).
+pub fn defaults_are_judged_by_functions()
+    ensures { (fs : List File) → AreRead fs → AreNamed fs
+        → GoesByFunctions fs (λ n f. own_second_defaults (function_alone f)) (of_files second_defaults 0 (outside_units fs)) (of_files second_defaults 0 (units_of fs)) }
+{}
+
+/// No name is declared twice in its block where none is in the block of the package, and none in a function by itself (Go
+/// specification: Declarations and scope).
+pub fn names_are_declared_once_by_functions()
+    ensures { (fs : List File) → AreRead fs
+        → GoesByFunctions fs (λ n f. own_second_declarations (function_alone f)) (second_declarations [] (shared (declarations (units_of fs)))) (second_declarations [] (declarations (units_of fs))) }
+{}
+
+/// Whether a `:=` declares a new name is judged function by function (Go specification: Short variable declarations).
+pub fn new_names_are_judged_by_functions()
+    ensures { (fs : List File) → AreRead fs → AreNamed fs
+        → GoesByFunctions fs (λ n f. own_none_new (function_alone f)) (none_new (declarations (units_of fs)) (found (outside_units fs))) (none_new (declarations (units_of fs)) (found (units_of fs))) }
+{}
+
+/// Whether a name means anything is judged function by function (Go specification: Declarations and scope).
+pub fn undeclared_names_are_judged_by_functions()
+    ensures { (fs : List File) → AreRead fs → AreNamed fs → GoesByFunctions fs (λ n f. own_undeclared (function_alone f) (outer_in fs n)) (undeclared (outside_asked fs)) (undeclared (all_asked fs)) }
+{}
+
+/// So is whether a predeclared name is one of the profile.
+pub fn outside_names_are_judged_by_functions()
+    ensures { (fs : List File) → AreRead fs → AreNamed fs
+        → GoesByFunctions fs (λ n f. own_outside_names (function_alone f) (outer_in fs n)) (outside_names (outside_asked fs)) (outside_names (all_asked fs)) }
+{}
+
+/// So is whether a member of an import is one of the profile (Go specification: Qualified identifiers).
+pub fn outside_members_are_judged_by_functions()
+    ensures { (fs : List File) → AreRead fs → AreNamed fs
+        → GoesByFunctions fs (λ n f. own_outside_members (function_alone f) (outer_in fs n)) (outside_members (outside_asked fs)) (outside_members (all_asked fs)) }
+{}
+
+/// So is whether it is called.
+pub fn calls_of_members_are_judged_by_functions()
+    ensures { (fs : List File) → AreRead fs → AreNamed fs → GoesByFunctions fs (λ n f. own_not_called (function_alone f) (outer_in fs n)) (not_called (outside_asked fs)) (not_called (all_asked fs)) }
+{}
+
+/// Whether a local variable is used is judged function by function (Go specification: Variable declarations).
+pub fn unused_variables_are_judged_by_functions()
+    ensures { (fs : List File) → AreRead fs → AreNamed fs
+        → GoesByFunctions fs (λ n f. own_unused (function_alone f) (outer_in fs n)) (unused_variables (all_asked fs) (outside_declared fs)) (unused_variables (all_asked fs) (declarations (units_of fs))) }
+{}
