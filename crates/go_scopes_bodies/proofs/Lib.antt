@@ -11,4 +11,5 @@ mod Lying
 mod New
 mod Lookups
 mod Unused
+mod Initial
 mod Reported

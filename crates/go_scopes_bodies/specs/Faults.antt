@@ -15,7 +15,7 @@ use Rattle.go_tree.specs.Branches.{misplaced}
 use Rattle.go_tree.specs.Contexts.{is_package}
 use Rattle.go_tree.specs.Declarations.{Found, found, new_among}
 use Rattle.go_tree.specs.Duplicates.{second_defaults}
-use Rattle.go_tree.specs.Lookups.{Asked, asked_from, undeclared, outside_names, outside_members, not_called, unused_variables}
+use Rattle.go_tree.specs.Lookups.{Asked, asked_from, undeclared, outside_names, outside_members, not_called, initialisers, unused_variables}
 use Rattle.go_tree.specs.Meanings.{Meaning, meanings}
 use Rattle.go_tree.specs.Redeclared.{second_declarations, none_new}
 use Rattle.go_tree.specs.Units.{Place, is_blank}
@@ -96,6 +96,10 @@ own_outside_members a outer = outside_members (own_asked a outer)
 -- the members of imports that are not called
 abbrev pub own_not_called : Alone → Outer → List Place
 own_not_called a outer = not_called (own_asked a outer)
+
+-- the names of functions and variables in the value of a variable of the package
+abbrev pub own_initialisers : Alone → Outer → List Place
+own_initialisers a outer = initialisers (own_asked a outer)
 
 -- the local variables that are not used
 abbrev pub own_unused : Alone → Outer → List Place

@@ -5,7 +5,7 @@ ghost use Rattle.go_tree.specs.Branches.{branches};
 ghost use Rattle.go_tree.specs.Declarations.{declarations, found};
 ghost use Rattle.go_tree.specs.Duplicates.{second_defaults};
 ghost use Rattle.go_tree.specs.Failures.{of_files};
-ghost use Rattle.go_tree.specs.Lookups.{undeclared, outside_names, outside_members, not_called, unused_variables};
+ghost use Rattle.go_tree.specs.Lookups.{undeclared, outside_names, outside_members, not_called, initialisers, unused_variables};
 ghost use Rattle.go_tree.specs.Redeclared.{second_declarations, none_new};
 ghost use Rattle.go_heads.specs.Functions.{Function, AreRead, all_functions, function_alone};
 ghost use Rattle.go_heads.specs.Heads.{File};
@@ -13,7 +13,7 @@ ghost use Rattle.go_heads.specs.Locals.{AreNamed};
 ghost use Rattle.go_heads.specs.Objects.{units_of};
 ghost use Rattle.go_scopes_bodies.specs.Meant.{MeansAt};
 ghost use Rattle.go_scopes_bodies.specs.Outside.{outside_units};
-ghost use Rattle.go_scopes_bodies.specs.Faults.{GoesByFunctions, all_asked, outside_asked, outer_in, own_misplaced, own_second_defaults, own_second_declarations, own_none_new, own_undeclared, own_outside_names, own_outside_members, own_not_called, own_unused, outside_declared, shared};
+ghost use Rattle.go_scopes_bodies.specs.Faults.{GoesByFunctions, all_asked, outside_asked, outer_in, own_misplaced, own_second_defaults, own_second_declarations, own_none_new, own_undeclared, own_outside_names, own_outside_members, own_not_called, own_initialisers, own_unused, outside_declared, shared};
 
 /// Each token of a function means what it means by itself, and by what names mean outside of functions in its file: a local of the
 /// same number, an object of the package, a predeclared name, fmt, or nothing (Go specification: Declarations and scope).
@@ -66,6 +66,13 @@ pub fn outside_members_are_judged_by_functions()
 /// So is whether it is called.
 pub fn calls_of_members_are_judged_by_functions()
     ensures { (fs : List File) → AreRead fs → AreNamed fs → GoesByFunctions fs (λ n f. own_not_called (function_alone f) (outer_in fs n)) (not_called (outside_asked fs)) (not_called (all_asked fs)) }
+{}
+
+/// Whether the value of a variable of the package names a function or a variable is judged outside of functions (Go specification: Package
+/// initialization): no name in a function stands there.
+pub fn initialisers_are_judged_by_functions()
+    ensures { (fs : List File) → AreRead fs → AreNamed fs
+        → GoesByFunctions fs (λ n f. own_initialisers (function_alone f) (outer_in fs n)) (initialisers (outside_asked fs)) (initialisers (all_asked fs)) }
 {}
 
 /// Whether a local variable is used is judged function by function (Go specification: Variable declarations).
