@@ -3,13 +3,14 @@ mod Tokens
 mod Each
 mod Lists
 mod Asks
-mod Pieces
 mod Rules
 mod Clashes
 mod Once
 mod Lying
+mod Pieces
 mod New
 mod Lookups
 mod Unused
 mod Initial
+mod Members
 mod Reported

@@ -74,6 +74,29 @@ module _ (rule : EventRule) (along : GoesAlong rule) (n : ℕ) (l : TokenList) w
 abbrev pub told_in : File → Tree → List Event
 told_in f t = events (file_context (last f.tree)) t
 
+-- A rule fails nowhere where it fails neither outside of functions nor in one of these by itself, if that holds in each file.
+module _ (all : List File) (rule : EventRule) (Own : ℕ → Function → Type 0) where
+  abbrev pub IsFileRule : Type 0
+  IsFileRule = (n : ℕ) (f : File) → IsRead f → slice_get all n ≡ Some f → HaveNames f.tokens (functions (parts f.tree))
+      → Iff (rule n f.tokens (file_events f) ≡ []) ((rule n f.tokens (outside_events f) ≡ []) × Every (Own n) (functions_in f))
+
+  pub rule_by_files : IsFileRule → (n : ℕ) (fs : List File) → ((k : ℕ) → slice_get all (n + k) ≡ slice_get fs k) → AreRead fs → AreNamed fs
+      → Iff (of_files rule n (units_of fs) ≡ []) ((of_files rule n (outside_units fs) ≡ []) × EachOwn Own n fs)
+  rule_by_files one n [] there h g = record { to = λ e. (refl, tt); from = λ e. refl }
+  rule_by_files one n (f ∷ fs) there h g =
+      let z : n ≡ n + 0 = omega arith in
+      let next : (i : ℕ) → suc n + i ≡ n + suc i = λ i. omega arith in
+      let here = one n f h.0 (ap (slice_get all) z ∙ there 0) g.0 in
+      let rest = rule_by_files one (suc n) fs (λ i. ap (slice_get all) (next i) ∙ there (suc i)) h.1 g.1 in
+      let whole : List Place = rule n f.tokens (file_events f) in
+      let others : List Place = of_files rule (suc n) (units_of fs) in
+      let out : List Place = rule n f.tokens (outside_events f) in
+      let outs : List Place = of_files rule (suc n) (outside_units fs) in
+      record {
+        to = λ e. let x = here.to (none_left whole others e) in let y = rest.to (none_right whole others e) in (none_both out outs x.0 y.0, (x.1, y.1));
+        from = λ e. none_both whole others (here.from (none_left out outs e.0, e.1.0)) (rest.from (none_right out outs e.0, e.1.1));
+      }
+
 module _ (all : List File) (rule : EventRule) (along : GoesAlong rule) (Own : ℕ → Function → Type 0) where
   -- In a function the rule says by itself whether it fails.
   abbrev pub IsOwnRule : Type 0
@@ -110,20 +133,7 @@ module _ (all : List File) (rule : EventRule) (along : GoesAlong rule) (Own : �
     -- A rule that goes along the events fails nowhere where it fails neither outside of functions nor in one of these by itself.
     pub rule_by_functions : (n : ℕ) (fs : List File) → ((k : ℕ) → slice_get all (n + k) ≡ slice_get fs k) → AreRead fs → AreNamed fs
         → Iff (of_files rule n (units_of fs) ≡ []) ((of_files rule n (outside_units fs) ≡ []) × EachOwn Own n fs)
-    rule_by_functions n [] there h g = record { to = λ e. (refl, tt); from = λ e. refl }
-    rule_by_functions n (f ∷ fs) there h g =
-        let z : n ≡ n + 0 = omega arith in
-        let next : (i : ℕ) → suc n + i ≡ n + suc i = λ i. omega arith in
-        let here = one_file n f h.0 (ap (slice_get all) z ∙ there 0) g.0 in
-        let rest = rule_by_functions (suc n) fs (λ i. ap (slice_get all) (next i) ∙ there (suc i)) h.1 g.1 in
-        let whole : List Place = rule n f.tokens (file_events f) in
-        let others : List Place = of_files rule (suc n) (units_of fs) in
-        let out : List Place = rule n f.tokens (outside_events f) in
-        let outs : List Place = of_files rule (suc n) (outside_units fs) in
-        record {
-          to = λ e. let x = here.to (none_left whole others e) in let y = rest.to (none_right whole others e) in (none_both out outs x.0 y.0, (x.1, y.1));
-          from = λ e. none_both whole others (here.from (none_left out outs e.0, e.1.0)) (rest.from (none_right out outs e.0, e.1.1));
-        }
+    rule_by_functions = rule_by_files all rule Own one_file
 
 -- ---- break, continue and fallthrough
 

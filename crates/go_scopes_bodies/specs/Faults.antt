@@ -2,19 +2,23 @@
 --
 -- The rules are those of a package, over what a function declares and looks up by itself. Where they fail doesn't matter here: only
 -- whether they do. So a place is none.
-use Rattle.std.specs.Prelude.{◌≡◌, ℕ, ◌-◌, if◌then◌else◌, List, [], ◌∷◌, Option, Some, None, slice_get}
+use Rattle.std.specs.Prelude.{◌≡◌, ℕ, ◌-◌, Bool, false, ◌&&◌, ◌||◌, not, nat_eq, if◌then◌else◌, List, [], ◌∷◌, ◌++◌, Option, Some, None, slice_get}
+use Rattle.go_tokens.specs.Spellings.{same_text}
 use Rattle.go_tokens.specs.Tokens.{TokenList}
 use Rattle.go_tree.specs.declared.context.Role.{Role}
 use Rattle.go_tree.specs.declared.context.Role.TheVariants as role
 use Rattle.go_tree.specs.declared.event.Event.{Event}
 use Rattle.go_tree.specs.declared.event.Event.TheVariants as event
+use Rattle.go_tree.specs.declared.event.Member.{Member}
+use Rattle.go_tree.specs.declared.event.Member.TheVariants as member
 use Rattle.go_tree.specs.declared.event.Use.{Use}
 use Rattle.go_tree.specs.declared.object.Extent.TheVariants as extent
 use Rattle.go_tree.specs.declared.object.Object.{Object}
 use Rattle.go_tree.specs.Branches.{misplaced}
 use Rattle.go_tree.specs.Contexts.{is_package}
 use Rattle.go_tree.specs.Declarations.{Found, found, new_among}
-use Rattle.go_tree.specs.Duplicates.{second_defaults}
+use Rattle.go_tree.specs.Duplicates.{same_member, second_defaults}
+use Rattle.go_tree.specs.Failures.{place_if}
 use Rattle.go_tree.specs.Lookups.{Asked, asked_from, undeclared, outside_names, outside_members, not_called, initialisers, unused_variables}
 use Rattle.go_tree.specs.Meanings.{Meaning, meanings}
 use Rattle.go_tree.specs.Redeclared.{second_declarations, none_new}
@@ -72,6 +76,27 @@ own_misplaced a = misplaced 0 no_tokens (function_events a)
 -- the second defaults of switches
 abbrev pub own_second_defaults : Alone → List Place
 own_second_defaults a = second_defaults 0 no_tokens (function_events a)
+
+-- whether the events tell of a member of the group with this name, where tokens have these texts
+abbrev pub own_has_member : (ℕ → List ℕ) → Member → ℕ → List ℕ → List Event → Bool
+own_has_member t m g w [] = false
+own_has_member t m g w (event.Member o h x ∷ es) = (same_member m o && nat_eq g h && same_text w (t x)) || own_has_member t m g w es
+own_has_member t m g w (e ∷ es) = own_has_member t m g w es
+
+abbrev pub own_is_duplicate : (ℕ → List ℕ) → Member → ℕ → List ℕ → List Event → Bool
+own_is_duplicate t member.Field g w before = is_blank w || own_has_member t member.Field g w before
+own_is_duplicate t member.Key g w before = own_has_member t member.Key g w before
+own_is_duplicate t member.Parameter g w before = not (is_blank w) && own_has_member t member.Parameter g w before
+
+-- the argument `before` has the events in front
+abbrev pub second_members_by : (ℕ → List ℕ) → List Event → List Event → List Place
+second_members_by t before [] = []
+second_members_by t before (event.Member m g x ∷ es) = place_if (own_is_duplicate t m g (t x) before) no_place (second_members_by t (before ++ event.Member m g x ∷ []) es)
+second_members_by t before (e ∷ es) = second_members_by t (before ++ e ∷ []) es
+
+-- the fields, keys and parameters that stand a second time in their group
+abbrev pub own_second_members : Alone → List Place
+own_second_members a = second_members_by (own_text a) [] (function_events a)
 
 -- the names that are declared a second time in their block
 abbrev pub own_second_declarations : Alone → List Place

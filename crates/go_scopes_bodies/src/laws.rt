@@ -3,7 +3,7 @@
 ghost use Rattle.std.specs.Prelude.{◌≡◌, ℕ, [], List, Some, slice_get};
 ghost use Rattle.go_tree.specs.Branches.{branches};
 ghost use Rattle.go_tree.specs.Declarations.{declarations, found};
-ghost use Rattle.go_tree.specs.Duplicates.{second_defaults};
+ghost use Rattle.go_tree.specs.Duplicates.{second_defaults, second_members};
 ghost use Rattle.go_tree.specs.Failures.{of_files};
 ghost use Rattle.go_tree.specs.Lookups.{undeclared, outside_names, outside_members, not_called, initialisers, unused_variables};
 ghost use Rattle.go_tree.specs.Redeclared.{second_declarations, none_new};
@@ -13,7 +13,7 @@ ghost use Rattle.go_heads.specs.Locals.{AreNamed};
 ghost use Rattle.go_heads.specs.Objects.{units_of};
 ghost use Rattle.go_scopes_bodies.specs.Meant.{MeansAt};
 ghost use Rattle.go_scopes_bodies.specs.Outside.{outside_units};
-ghost use Rattle.go_scopes_bodies.specs.Faults.{GoesByFunctions, all_asked, outside_asked, outer_in, own_misplaced, own_second_defaults, own_second_declarations, own_none_new, own_undeclared, own_outside_names, own_outside_members, own_not_called, own_initialisers, own_unused, outside_declared, shared};
+ghost use Rattle.go_scopes_bodies.specs.Faults.{GoesByFunctions, all_asked, outside_asked, outer_in, own_misplaced, own_second_defaults, own_second_members, own_second_declarations, own_none_new, own_undeclared, own_outside_names, own_outside_members, own_not_called, own_initialisers, own_unused, outside_declared, shared};
 
 /// Each token of a function means what it means by itself, and by what names mean outside of functions in its file: a local of the
 /// same number, an object of the package, a predeclared name, fmt, or nothing (Go specification: Declarations and scope).
@@ -31,6 +31,13 @@ pub fn branches_are_judged_by_functions()
 pub fn defaults_are_judged_by_functions()
     ensures { (fs : List File) → AreRead fs → AreNamed fs
         → GoesByFunctions fs (λ n f. own_second_defaults (function_alone f)) (of_files second_defaults 0 (outside_units fs)) (of_files second_defaults 0 (units_of fs)) }
+{}
+
+/// So is whether a field, a key or a parameter stands twice in its group (Go specification: Struct types, Composite literals, Function
+/// types).
+pub fn members_are_judged_by_functions()
+    ensures { (fs : List File) → AreRead fs → AreNamed fs
+        → GoesByFunctions fs (λ n f. own_second_members (function_alone f)) (of_files (second_members []) 0 (outside_units fs)) (of_files (second_members []) 0 (units_of fs)) }
 {}
 
 /// No name is declared twice in its block where none is in the block of the package, and none in a function by itself (Go
