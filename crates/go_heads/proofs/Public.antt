@@ -1,5 +1,5 @@
 -- What the proofs of other crates use of this crate's proofs. Declares nothing.
-pub use Rattle.go_heads.proofs.Apart.{IsAside}
+pub use Rattle.go_heads.proofs.Apart.{Begins, IsAside, begins, function_it, in_order}
 pub use Rattle.go_heads.proofs.Blocks.{In}
 pub use Rattle.go_heads.proofs.Bodies.{inside, row_before}
 pub use Rattle.go_heads.proofs.Counting.{place_next, place_order, places_stay}
@@ -9,7 +9,7 @@ pub use Rattle.go_heads.proofs.Fresh.{Every, Other, every_append, every_map, oth
 pub use Rattle.go_heads.proofs.Functions.{Framed, alone_same, framed, same_some, some_none}
 pub use Rattle.go_heads.proofs.Lookups.{count_kinds, read_at, token_told}
 pub use Rattle.go_heads.proofs.Meanings.{IsAway, every_new, find, imported_away, local_object, orderly, outer_object, outer_reached}
-pub use Rattle.go_heads.proofs.Names.{AllStand, Among, NamesIn, Stands, all_names, among, around_part, before, behind, declares, each_right, file_stands, found_append, function_there, names_moved, ordered_names, rest, stands_at, tell}
+pub use Rattle.go_heads.proofs.Names.{AllStand, Among, NamesIn, Stands, all_names, among, around_part, before, behind, declares, each_left, each_right, file_stands, found_append, function_there, names_moved, ordered_names, rest, stands_at, tell}
 pub use Rattle.go_heads.proofs.Numbers.{bare_functions}
 pub use Rattle.go_heads.proofs.Objects.{Entry, StandFrom, entries_same, entry, new_append, stand_from}
 pub use Rattle.go_heads.proofs.Outlines.{AllSit, OthersSit, Sits, file_sat, function_kind, plain_none, plain_same}

@@ -1,5 +1,6 @@
 mod Own
 mod Tokens
+mod FunctionNumbers
 mod Each
 mod Lists
 mod Asks

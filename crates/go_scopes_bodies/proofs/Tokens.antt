@@ -1,8 +1,8 @@
 -- The tokens of functions mean what they mean by themselves.
-use Rattle.std.proofs.Common.{◌≡◌, ◌∙◌, ℕ, zero, suc, ◌+◌, ◌-◌, ◌<◌, List, [], ◌∷◌, ◌++◌, map, Option, Some, None, refl, sym, ap, subst, arith}
-use Rattle.std.specs.Prelude.{if◌then◌else◌, slice_get}
-use Rattle.go_tokens.specs.Tokens.{TokenList, kinds}
-use Rattle.go_grammar.specs.Trees.{Tree, first, last, parts}
+use Rattle.std.proofs.Common.{◌≡◌, ◌∙◌, ℕ, ◌+◌, ◌-◌, ◌<◌, List, map, Option, None, refl, sym, ap, arith}
+use Rattle.std.specs.Prelude.{if◌then◌else◌}
+use Rattle.go_tokens.specs.Tokens.{TokenList}
+use Rattle.go_grammar.specs.Trees.{Tree, first, last}
 use Rattle.go_tree.specs.declared.event.Event.{Event}
 use Rattle.go_tree.specs.declared.object.Object.{Object}
 use Rattle.go_tree.specs.Lists.{functions}
@@ -11,17 +11,14 @@ use Rattle.go_tree.specs.Objects.{object_at}
 use Rattle.go_tree.specs.Units.{word, is_blank}
 use Rattle.go_tree.specs.Uses.{uses, object_of}
 use Rattle.go_scopes_events.specs.Scopes.{locals_of, first_by, is_import, inmost}
-use Rattle.go_heads.specs.Functions.{Function, Alone, AreRead, all_functions, function_alone}
-use Rattle.go_heads.specs.Heads.{File, IsRead, in_bodies}
-use Rattle.go_heads.proofs.Public.{some_none, same_some, Entry, entry, AllStand, file_stands, read_at, outer_object, find, local_object, outer_reached, BeginsFunction, behind_entries, numbered_same, Lies, own_by}
+use Rattle.go_heads.specs.Functions.{Function, Alone, AreRead, function_alone}
+use Rattle.go_heads.specs.Heads.{File, IsRead}
+use Rattle.go_heads.proofs.Public.{Entry, entry, read_at, outer_object, find, local_object, outer_reached, BeginsFunction, behind_entries, numbered_same, Lies, own_by}
 use Rattle.go_heads.specs.Objects.{units_of, package_objects}
-use Rattle.go_heads.specs.Told.{file_events}
 use Rattle.go_heads.specs.Bodies.{function_events}
 use Rattle.go_heads.specs.Names.{own_text, own_declarations}
-use Rattle.go_heads.specs.Locals.{HaveNames, AreNamed}
-use Rattle.go_heads.specs.Tokens.{function_files}
 use Rattle.go_heads.proofs.Public as heads
-use Rattle.go_scopes_bodies.specs.Meant.{Meant, Outer, outer_of, own_meanings, own_meant, own_declared, own_object, MeansByItself, MeansAt}
+use Rattle.go_scopes_bodies.specs.Meant.{Meant, Outer, outer_of, own_meanings, own_meant, own_declared, own_object}
 use Rattle.go_scopes_bodies.proofs.Own.{up, function_behind, inmost_up, there, meant_there, declared_there, chosen, chosen_there}
 
 -- ---- a function of a file
@@ -101,43 +98,3 @@ module _ (fs : List File) (h : AreRead fs) (n : ℕ) (f : Function) (lies : Lies
         ∙ ap (λ ms. chosen s k (there s k meant) (own_by (there s k meant) x ms) x es) meanings_up
         ∙ ap (λ o. chosen s k (there s k meant) o x es) (declared_there s k meant x (own_meanings by_itself))
         ∙ chosen_there s k meant (own_declared meant x (own_meanings by_itself)) x es
-
-  pub means : MeansByItself fs n f
-  means = record { objects_before = s; functions_before = k; objects = object_same }
-
--- ---- by number
-
--- The function of a number lies in the file of its number.
-pub record IsNumbered (fs : List File) (k : ℕ) (f : Function) (ns : List ℕ) : Type 0 where
-  pub file : ℕ
-  pub there : slice_get ns k ≡ Some file
-  pub lies : Lies fs file f
-
-module _ (all : List File) where
-  abbrev AllNumbered : List Function → List ℕ → Type 0
-  AllNumbered gs ns = (k : ℕ) (g : Function) → slice_get gs k ≡ Some g → IsNumbered all k g ns
-
-  module _ (n : ℕ) (f : File) (in_all : slice_get all n ≡ Some f) where
-    abbrev in_f : Tree → Function
-    in_f t = record { file = f; tree = t }
-
-    in_file : (ts : List Tree) → AllStand (kinds f.tokens.tokens) (in_bodies (parts f.tree)) (last f.tree) (file_events f) ts → HaveNames f.tokens ts
-        → (gs : List Function) (ns : List ℕ) → AllNumbered gs ns → AllNumbered (map in_f ts ++ gs) (map (λ (t : Tree). n) ts ++ ns)
-    in_file [] x y gs ns go k g e = go k g e
-    in_file (t ∷ ts) x y gs ns go zero g e =
-        subst (λ z. IsNumbered all 0 z (n ∷ (map (λ (t : Tree). n) ts ++ ns))) (same_some (in_f t) g e)
-        (record { file = n; there = refl; lies = record { there = in_all; stands = x.0; named = y.0 } })
-    in_file (t ∷ ts) x y gs ns go (suc k) g e = let z = in_file ts x.1 y.1 gs ns go k g e in record { file = z.file; there = z.there; lies = z.lies }
-
-  pub numbered_from : (n : ℕ) (fs : List File) → ((k : ℕ) → slice_get all (n + k) ≡ slice_get fs k) → AreRead fs → AreNamed fs → AllNumbered (all_functions fs) (function_files n fs)
-  numbered_from n [] there h p k g e = absurd (some_none g (sym e))
-  numbered_from n (f ∷ fs) there h p k g e =
-      let z : n ≡ n + 0 = omega arith in
-      let next : (i : ℕ) → suc n + i ≡ n + suc i = λ i. omega arith in
-      in_file n f (ap (slice_get all) z ∙ there 0) (functions (parts f.tree)) (file_stands (kinds f.tokens.tokens) f.tree h.0.tree) p.0 (all_functions fs) (function_files (suc n) fs)
-      (numbered_from (suc n) fs (λ i. ap (slice_get all) (next i) ∙ there (suc i)) h.1 p.1) k g e
-
-pub tokens_mean_by_themselves : (fs : List File) → AreRead fs → AreNamed fs → (k : ℕ) (f : Function) → slice_get (all_functions fs) k ≡ Some f → MeansAt fs k f
-tokens_mean_by_themselves fs h p k f e =
-    let x = numbered_from fs 0 fs (λ j. let z : 0 + j ≡ j = omega arith in ap (slice_get fs) z) h p k f e in
-    record { file = x.file; there = x.there; means = means fs h x.file f x.lies }

@@ -78,16 +78,11 @@ abbrev pub in_package : ℕ → ℕ → Meant → Object
 in_package s k (own o) = shifted s k o
 in_package s k (outside o) = o
 
--- The tokens of a function of the file n mean what they mean by themselves, and by what names mean outside of functions.
-pub record MeansByItself (fs : List File) (n : ℕ) (f : Function) : Type 0 where
-  -- how many objects of the package, and how many functions, stand in front of it
-  pub objects_before : ℕ
-  pub functions_before : ℕ
-  pub objects : (x : ℕ) → x < last f.tree - first f.tree
-      → object_of (uses (units_of fs)) n (first f.tree + x) ≡ option_map (in_package objects_before functions_before) (own_object (function_alone f) (outer_of (units_of fs) n) x)
-
--- Each of the tokens of a function means what it means by itself, and by what names mean outside of functions in its file.
+-- The function of the number k stands in this file. Each of its tokens means what it means by itself, and by what names mean outside of
+-- functions in that file: the function is the k-th of the package, and so many objects of the package are in front of it.
 pub record MeansAt (fs : List File) (k : ℕ) (f : Function) : Type 0 where
   pub file : ℕ
   pub there : slice_get (function_files 0 fs) k ≡ Some file
-  pub means : MeansByItself fs file f
+  pub objects_before : ℕ
+  pub objects : (x : ℕ) → x < last f.tree - first f.tree
+      → object_of (uses (units_of fs)) file (first f.tree + x) ≡ option_map (in_package objects_before k) (own_object (function_alone f) (outer_of (units_of fs) file) x)

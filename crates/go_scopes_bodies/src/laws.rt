@@ -15,8 +15,9 @@ ghost use Rattle.go_scopes_bodies.specs.Meant.{MeansAt};
 ghost use Rattle.go_scopes_bodies.specs.Outside.{outside_units};
 ghost use Rattle.go_scopes_bodies.specs.Faults.{GoesByFunctions, all_asked, outside_asked, outer_in, own_misplaced, own_second_defaults, own_second_members, own_second_declarations, own_none_new, own_undeclared, own_outside_names, own_outside_members, own_not_called, own_initialisers, own_unused, outside_declared, shared};
 
-/// Each token of a function means what it means by itself, and by what names mean outside of functions in its file: a local of the
-/// same number, an object of the package, a predeclared name, fmt, or nothing (Go specification: Declarations and scope).
+/// Each token of a function means what it means by itself, and by what names mean outside of functions in its file: the local of the
+/// same number of this function, an object of the package, a predeclared name, fmt, or nothing (Go specification: Declarations and
+/// scope).
 pub fn tokens_mean_by_themselves()
     ensures { (fs : List File) → AreRead fs → AreNamed fs → (k : ℕ) (f : Function) → slice_get (all_functions fs) k ≡ Some f → MeansAt fs k f }
 {}
