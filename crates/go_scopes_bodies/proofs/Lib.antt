@@ -15,3 +15,9 @@ mod Unused
 mod Initial
 mod Members
 mod Reported
+mod AllRules
+mod Quiet
+mod Nothing
+mod Carried
+mod Counted
+mod Imported

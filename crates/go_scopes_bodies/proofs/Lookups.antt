@@ -272,7 +272,7 @@ pub outside_names_by_functions : (fs : List File) → AreRead fs → AreNamed fs
 outside_names_by_functions = tested_by_functions (λ a. a.place) (λ r v c w o. is_unknown w o) (λ s k r v c w o. refl) (λ a r v c w o. refl)
 
 -- a declared object is no import
-same_import : (s k : ℕ) (o : Object) → is_import (Some (shifted s k o)) ≡ is_import (Some o)
+pub same_import : (s k : ℕ) (o : Object) → is_import (Some (shifted s k o)) ≡ is_import (Some o)
 same_import s k (object.Package n) = refl
 same_import s k (object.Local f n) = refl
 same_import s k o = refl

@@ -44,15 +44,15 @@ none_both ds (x ∷ xs) ys =
     ap (place_if (is_by_define x.it.manner && nat_eq x.it.column 0 && not (has_new x ds)) x.place) (none_both ds xs ys)
     ∙ place_both (is_by_define x.it.manner && nat_eq x.it.column 0 && not (has_new x ds)) x.place (none_new ds xs) (none_new ds ys)
 
-abbrev new_rule : List Found → EventRule
+abbrev pub new_rule : List Found → EventRule
 new_rule ds n l es = none_new ds (found_in n l es)
 
 new_along : (ds : List Found) → GoesAlong (new_rule ds)
 new_along ds = record { none = λ n l. refl; both = λ n l es fs. ap (none_new ds) (found_append n l es fs) ∙ none_both ds (found_in n l es) (found_in n l fs) }
 
-by_files : (ds : List Found) (n : ℕ) (us : List names.Unit) → none_new ds (found_from n us) ≡ of_files (new_rule ds) n us
-by_files ds n [] = refl
-by_files ds n (u ∷ us) = none_both ds (found_in n u.tokens u.events) (found_from (suc n) us) ∙ ap (λ ps. none_new ds (found_in n u.tokens u.events) ++ ps) (by_files ds (suc n) us)
+pub new_by_files : (ds : List Found) (n : ℕ) (us : List names.Unit) → none_new ds (found_from n us) ≡ of_files (new_rule ds) n us
+new_by_files ds n [] = refl
+new_by_files ds n (u ∷ us) = none_both ds (found_in n u.tokens u.events) (found_from (suc n) us) ∙ ap (λ ps. none_new ds (found_in n u.tokens u.events) ++ ps) (new_by_files ds (suc n) us)
 
 -- ---- names of other statements
 
@@ -282,8 +282,8 @@ none_new_by_functions fs h g =
     let ds : List Found = declarations (units_of fs) in
     let law = rule_by_functions fs (new_rule ds) (new_along ds) HasNew own 0 fs (λ k. let z : 0 + k ≡ k = omega arith in ap (slice_get fs) z) h g in
     record {
-      to = λ e. let x = law.to (sym (by_files ds 0 (units_of fs)) ∙ e) in (by_files ds 0 (outside_units fs) ∙ x.0, x.1);
-      from = λ e. by_files ds 0 (units_of fs) ∙ law.from (sym (by_files ds 0 (outside_units fs)) ∙ e.0, e.1);
+      to = λ e. let x = law.to (sym (new_by_files ds 0 (units_of fs)) ∙ e) in (new_by_files ds 0 (outside_units fs) ∙ x.0, x.1);
+      from = λ e. new_by_files ds 0 (units_of fs) ∙ law.from (sym (new_by_files ds 0 (outside_units fs)) ∙ e.0, e.1);
     }
   where
     own : IsOwnRule fs (new_rule (declarations (units_of fs))) (new_along (declarations (units_of fs))) HasNew

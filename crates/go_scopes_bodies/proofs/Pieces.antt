@@ -17,6 +17,7 @@ use Rattle.go_heads.specs.Heads.{in_bodies}
 use Rattle.go_heads.proofs.Public.{AllSit, file_sat, around_part, function_there, Shared, tree_shared}
 use Rattle.go_scopes_bodies.specs.Outside.{no_functions, without_functions}
 use Rattle.go_scopes_bodies.proofs.Lying.{AllLie, tree_lies}
+use Rattle.go_scopes_bodies.proofs.Quiet.{AllQuiet, tree_quiet}
 
 pub data Piece : Type 0 where
   around : List Event → Piece
@@ -51,6 +52,7 @@ pub record LiesFrom (lo : ℕ) (es : List Event) : Type 0 where
   pub behind : lo ≤ from
   pub grows : from ≤ upto
   pub lie : AllLie from upto es
+  pub quiet : AllQuiet es
 
 -- The pieces lie one behind the other, from the token lo on.
 abbrev pub ArePlaced : ℕ → List Piece → Type 0
@@ -100,7 +102,7 @@ module _ (ts : List TokenKind) (p : ℕ → Bool) (e : ℕ) where
         outside = ap (λ es. events here d ++ es) r.outside;
         trees = r.trees;
         shared = (tree_shared here d (derives_outside ts d category.Declaration refl h.0.derives) inner (record { block = tt; role = tt; parameters = tt }), r.shared);
-        placed = (record { from = a; upto = b; behind = l.0; grows = let lt : a < b = laid_grows d l.1 in omega (arith, lt); lie = tree_lies a b here d l.1 (omega arith) (omega arith) tt tt tt }, r.placed);
+        placed = (record { from = a; upto = b; behind = l.0; grows = let lt : a < b = laid_grows d l.1 in omega (arith, lt); lie = tree_lies a b here d l.1 (omega arith) (omega arith) tt tt tt; quiet = tree_quiet here d (derives_outside ts d category.Declaration refl h.0.derives) inner refl }, r.placed);
       }
   row lo i j ps qs n (more (node x a b rs) ds) h l = absurd (true_false false h.0.derives.0 refl)
 
@@ -126,7 +128,7 @@ file_pieces ts (node kind.File i j (more (node kind.Imports a b rs) ds)) f =
       outside = ap (λ es. events here d ++ es) r.outside;
       trees = r.trees;
       shared = (tree_shared here d (derives_outside ts d category.Imports refl h) inner (record { block = tt; role = tt; parameters = tt }), r.shared);
-      placed = (record { from = a; upto = b; behind = omega arith; grows = let lt : a < b = laid_grows d laid.1.1 in omega (arith, lt); lie = tree_lies a b here d laid.1.1 (omega arith) (omega arith) tt tt tt }, r.placed);
+      placed = (record { from = a; upto = b; behind = omega arith; grows = let lt : a < b = laid_grows d laid.1.1 in omega (arith, lt); lie = tree_lies a b here d laid.1.1 (omega arith) (omega arith) tt tt tt; quiet = tree_quiet here d (derives_outside ts d category.Imports refl h) inner refl }, r.placed);
     }
 file_pieces ts (node kind.File i j (more (node k a b rs) ds)) f = absurd (true_false false f.derives.1.1.0 refl)
 file_pieces ts (node k i j ps) f = absurd (true_false false f.derives.0 refl)

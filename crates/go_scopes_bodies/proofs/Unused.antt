@@ -69,7 +69,7 @@ unused_both asks (d ∷ xs) ys =
     ∙ place_both (is_counted d.it.entity d.it.block && not (is_used d asks)) d.place (unused_variables asks xs) (unused_variables asks ys)
 
 module _ (among : List Found) (asks : List Asked) where
-  abbrev unused_rule : EventRule
+  abbrev pub unused_rule : EventRule
   unused_rule n l es = unused_variables asks (new_among among (found_in n l es))
 
   unused_along : GoesAlong unused_rule
@@ -82,12 +82,12 @@ module _ (among : List Found) (asks : List Asked) where
         ∙ unused_both asks (new_among among (found_in n l es)) (new_among among (found_in n l fs));
   }
 
-  by_files : (n : ℕ) (us : List names.Unit) → unused_variables asks (new_among among (found_from n us)) ≡ of_files unused_rule n us
-  by_files n [] = refl
-  by_files n (u ∷ us) =
+  pub unused_by_files : (n : ℕ) (us : List names.Unit) → unused_variables asks (new_among among (found_from n us)) ≡ of_files unused_rule n us
+  unused_by_files n [] = refl
+  unused_by_files n (u ∷ us) =
       ap (unused_variables asks) (new_append among (found_in n u.tokens u.events) (found_from (suc n) us))
       ∙ unused_both asks (new_among among (found_in n u.tokens u.events)) (new_among among (found_from (suc n) us))
-      ∙ ap (λ ps. unused_variables asks (new_among among (found_in n u.tokens u.events)) ++ ps) (by_files (suc n) us)
+      ∙ ap (λ ps. unused_variables asks (new_among among (found_in n u.tokens u.events)) ++ ps) (unused_by_files (suc n) us)
 
 -- ---- which names use a variable
 
@@ -584,8 +584,8 @@ unused_by_functions fs h g =
     let asks : List Asked = all_asked fs in
     let law = rule_by_functions fs (unused_rule among asks) (unused_along among asks) (UsesAll fs) own_rule 0 fs (λ k. let z : 0 + k ≡ k = omega arith in ap (slice_get fs) z) h g in
     record {
-      to = λ e. let x = law.to (sym (by_files among asks 0 (units_of fs)) ∙ e) in (by_files among asks 0 (outside_units fs) ∙ x.0, x.1);
-      from = λ e. by_files among asks 0 (units_of fs) ∙ law.from (sym (by_files among asks 0 (outside_units fs)) ∙ e.0, e.1);
+      to = λ e. let x = law.to (sym (unused_by_files among asks 0 (units_of fs)) ∙ e) in (unused_by_files among asks 0 (outside_units fs) ∙ x.0, x.1);
+      from = λ e. unused_by_files among asks 0 (units_of fs) ∙ law.from (sym (unused_by_files among asks 0 (outside_units fs)) ∙ e.0, e.1);
     }
   where
     own_rule : IsOwnRule fs (unused_rule (found (units_of fs)) (all_asked fs)) (unused_along (found (units_of fs)) (all_asked fs)) (UsesAll fs)

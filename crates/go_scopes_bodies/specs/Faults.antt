@@ -2,7 +2,8 @@
 --
 -- The rules are those of a package, over what a function declares and looks up by itself. Where they fail doesn't matter here: only
 -- whether they do. So a place is none.
-use Rattle.std.specs.Prelude.{◌≡◌, ℕ, ◌-◌, Bool, false, ◌&&◌, ◌||◌, not, nat_eq, if◌then◌else◌, List, [], ◌∷◌, ◌++◌, Option, Some, None, slice_get}
+use Rattle.std.specs.Prelude.{◌≡◌, ℕ, ◌+◌, ◌-◌, ◌≤◌, Bool, false, ◌&&◌, ◌||◌, not, nat_eq, if◌then◌else◌, List, [], ◌∷◌, ◌++◌, length, Option, Some, None, slice_get}
+use Rattle.go_base.specs.declared.fault.FaultCode.TheVariants as code
 use Rattle.go_tokens.specs.Spellings.{same_text}
 use Rattle.go_tokens.specs.Tokens.{TokenList}
 use Rattle.go_tree.specs.declared.context.Role.{Role}
@@ -14,17 +15,19 @@ use Rattle.go_tree.specs.declared.event.Member.TheVariants as member
 use Rattle.go_tree.specs.declared.event.Use.{Use}
 use Rattle.go_tree.specs.declared.object.Extent.TheVariants as extent
 use Rattle.go_tree.specs.declared.object.Object.{Object}
-use Rattle.go_tree.specs.Branches.{misplaced}
+use Rattle.go_tree.specs.Branches.{misplaced, branches, statements, limit}
 use Rattle.go_tree.specs.Contexts.{is_package}
-use Rattle.go_tree.specs.Declarations.{Found, found, new_among}
-use Rattle.go_tree.specs.Duplicates.{same_member, second_defaults}
-use Rattle.go_tree.specs.Failures.{place_if}
-use Rattle.go_tree.specs.Lookups.{Asked, asked_from, undeclared, outside_names, outside_members, not_called, initialisers, unused_variables}
+use Rattle.go_tree.specs.Declarations.{Found, found, new_among, declarations}
+use Rattle.go_tree.specs.Duplicates.{same_member, second_members, second_defaults}
+use Rattle.go_tree.specs.Failures.{Failure, failing, place_if, of_files}
+use Rattle.go_tree.specs.Faults.{clause_faults, lookup_faults, reported}
+use Rattle.go_tree.specs.Lookups.{Asked, asked_from, undeclared, outside_names, outside_members, not_called, initialisers, unused_variables, uses_import, unused_imports}
 use Rattle.go_tree.specs.Meanings.{Meaning, meanings}
-use Rattle.go_tree.specs.Redeclared.{second_declarations, none_new}
+use Rattle.go_tree.specs.Needs.{cycles}
+use Rattle.go_tree.specs.Redeclared.{second_declarations, has_import, hidden_imports, second_imports, none_new}
 use Rattle.go_tree.specs.Units.{Place, is_blank}
 use Rattle.go_scopes_events.specs.Scopes.{otherwise}
-use Rattle.go_heads.specs.Functions.{Alone, Function, all_functions}
+use Rattle.go_heads.specs.Functions.{Alone, Function, all_functions, function_alone}
 use Rattle.go_heads.specs.Heads.{File}
 use Rattle.go_heads.specs.Objects.{units_of}
 use Rattle.go_heads.specs.Bodies.{function_events}
@@ -163,3 +166,70 @@ FailsInNone fs own = (k n : ℕ) (f : Function) → slice_get (all_functions fs)
 pub record GoesByFunctions (fs : List File) (own : ℕ → Function → List Place) (outside whole : List Place) : Type 0 where
   pub apart : whole ≡ [] → (outside ≡ []) × FailsInNone fs own
   pub together : outside ≡ [] → FailsInNone fs own → whole ≡ []
+
+-- ---- all rules
+
+-- The rules of names that a function fails by itself, where names mean this outside of functions.
+abbrev pub own_faults : Alone → Outer → List Failure
+own_faults a outer =
+    failing code.Redeclared (own_second_declarations a ++ own_none_new a) ++ lookup_faults (own_asked a outer) ++ failing code.UnusedVariable (own_unused a outer)
+    ++ failing code.Branch (own_misplaced a) ++ failing code.Duplicate (own_second_members a ++ own_second_defaults a)
+
+-- Outside of functions there are no statements, no switches, no `:=` and no local variables.
+pub record NothingFailsOutside (fs : List File) : Type 0 where
+  pub branches : branches (outside_units fs) ≡ []
+  pub defaults : of_files second_defaults 0 (outside_units fs) ≡ []
+  pub statements : of_files statements 0 (outside_units fs) ≡ []
+  pub some_new : (ds : List Found) → none_new ds (found (outside_units fs)) ≡ []
+  pub variables : (asks : List Asked) → unused_variables asks (outside_declared fs) ≡ []
+
+-- No rule of names fails outside of functions, but for those on imports that are not used, on many statements, and on declarations that
+-- need themselves.
+pub record IsFaultlessOutside (fs : List File) : Type 0 where
+  pub clauses : clause_faults (units_of fs) ≡ []
+  pub declared_once : second_declarations [] (shared (declarations (units_of fs))) ≡ []
+  pub not_hidden : hidden_imports (has_import (units_of fs)) (declarations (units_of fs)) ≡ []
+  pub imported_once : of_files (second_imports false) 0 (units_of fs) ≡ []
+  pub lookups : lookup_faults (outside_asked fs) ≡ []
+  pub members_once : of_files (second_members []) 0 (outside_units fs) ≡ []
+
+-- What it is that no rule of names fails, function by function. Three rules stay those of the package: that each import is used, that
+-- there are not too many statements, and that no declaration needs itself.
+pub record IsFaultlessByFunctions (fs : List File) : Type 0 where
+  pub outside : IsFaultlessOutside fs
+  pub imports : unused_imports (all_asked fs) (units_of fs) ≡ []
+  pub statements : limit (units_of fs) ≡ []
+  pub needs : cycles (all_asked fs) (length (declarations (units_of fs)) + length (declarations (units_of fs))) (declarations (units_of fs)) ≡ []
+  pub functions : (k n : ℕ) (f : Function) → slice_get (all_functions fs) k ≡ Some f → slice_get (function_files 0 fs) k ≡ Some n → own_faults (function_alone f) (outer_in fs n) ≡ []
+
+-- No fault of names is reported of a package where that holds, and the other way round.
+pub record FaultsAreThoseOfFunctions (fs : List File) : Type 0 where
+  pub apart : reported (units_of fs) ≡ None → IsFaultlessByFunctions fs
+  pub together : IsFaultlessByFunctions fs → reported (units_of fs) ≡ None
+
+-- ---- statements and imports
+
+-- the statements of a function
+abbrev pub own_statements : Alone → List Place
+own_statements a = statements 0 no_tokens (function_events a)
+
+-- how many statements some functions have
+abbrev pub statements_of : List Function → ℕ
+statements_of [] = 0
+statements_of (f ∷ fs) = length (own_statements (function_alone f)) + statements_of fs
+
+-- The statements of a package are those of its functions, and none is too many where there are at most 65,536.
+pub record CountsStatements (fs : List File) : Type 0 where
+  pub counted : length (of_files statements 0 (units_of fs)) ≡ statements_of (all_functions fs)
+  pub within : limit (units_of fs) ≡ [] → length (of_files statements 0 (units_of fs)) ≤ 65536
+  pub enough : length (of_files statements 0 (units_of fs)) ≤ 65536 → limit (units_of fs) ≡ []
+
+-- No function of the file n names its import, by itself.
+abbrev pub NamesNoImport : List File → ℕ → Type 0
+NamesNoImport fs n = (k : ℕ) (f : Function) → slice_get (all_functions fs) k ≡ Some f → slice_get (function_files 0 fs) k ≡ Some n → uses_import 0 (own_asked (function_alone f) (outer_in fs n)) ≡ false
+
+-- The import of the file n is not used where it is used neither outside of functions nor in a function of the file by itself, and the
+-- other way round.
+pub record UsesImportByFunctions (fs : List File) (n : ℕ) : Type 0 where
+  pub apart : uses_import n (all_asked fs) ≡ false → (uses_import n (outside_asked fs) ≡ false) × NamesNoImport fs n
+  pub together : uses_import n (outside_asked fs) ≡ false → NamesNoImport fs n → uses_import n (all_asked fs) ≡ false

@@ -1,3 +1,4 @@
 pub mod Meant
 pub mod Outside
 pub mod Faults
+pub mod Carried

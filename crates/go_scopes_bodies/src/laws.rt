@@ -1,9 +1,13 @@
 //! Laws, for the crates above. The functions do nothing: their contracts are the laws.
 
-ghost use Rattle.std.specs.Prelude.{◌≡◌, ℕ, [], List, Some, slice_get};
+ghost use Rattle.std.specs.Prelude.{◌≡◌, ℕ, [], List, Some, map, slice_get};
+ghost use Rattle.go_grammar.specs.Trees.{Tree};
+ghost use Rattle.go_rewriting.specs.Places.{carry};
 ghost use Rattle.go_tree.specs.Branches.{branches};
+ghost use Rattle.go_tree.specs.declared.context.Context.{Context};
 ghost use Rattle.go_tree.specs.Declarations.{declarations, found};
 ghost use Rattle.go_tree.specs.Duplicates.{second_defaults, second_members};
+ghost use Rattle.go_tree.specs.Events.{events};
 ghost use Rattle.go_tree.specs.Failures.{of_files};
 ghost use Rattle.go_tree.specs.Lookups.{undeclared, outside_names, outside_members, not_called, initialisers, unused_variables};
 ghost use Rattle.go_tree.specs.Redeclared.{second_declarations, none_new};
@@ -11,9 +15,10 @@ ghost use Rattle.go_heads.specs.Functions.{Function, AreRead, all_functions, fun
 ghost use Rattle.go_heads.specs.Heads.{File};
 ghost use Rattle.go_heads.specs.Locals.{AreNamed};
 ghost use Rattle.go_heads.specs.Objects.{units_of};
+ghost use Rattle.go_scopes_bodies.specs.Carried.{KeepsNames, carried_context, carried_event};
 ghost use Rattle.go_scopes_bodies.specs.Meant.{MeansAt};
 ghost use Rattle.go_scopes_bodies.specs.Outside.{outside_units};
-ghost use Rattle.go_scopes_bodies.specs.Faults.{GoesByFunctions, all_asked, outside_asked, outer_in, own_misplaced, own_second_defaults, own_second_members, own_second_declarations, own_none_new, own_undeclared, own_outside_names, own_outside_members, own_not_called, own_initialisers, own_unused, outside_declared, shared};
+ghost use Rattle.go_scopes_bodies.specs.Faults.{CountsStatements, FaultsAreThoseOfFunctions, GoesByFunctions, NothingFailsOutside, UsesImportByFunctions, all_asked, outside_asked, outer_in, own_misplaced, own_second_defaults, own_second_members, own_second_declarations, own_none_new, own_undeclared, own_outside_names, own_outside_members, own_not_called, own_initialisers, own_unused, outside_declared, shared};
 
 /// Each token of a function means what it means by itself, and by what names mean outside of functions in its file: the local of the
 /// same number of this function, an object of the package, a predeclared name, fmt, or nothing (Go specification: Declarations and
@@ -87,4 +92,32 @@ pub fn initialisers_are_judged_by_functions()
 pub fn unused_variables_are_judged_by_functions()
     ensures { (fs : List File) → AreRead fs → AreNamed fs
         → GoesByFunctions fs (λ n f. own_unused (function_alone f) (outer_in fs n)) (unused_variables (all_asked fs) (outside_declared fs)) (unused_variables (all_asked fs) (declarations (units_of fs))) }
+{}
+
+/// Outside of functions no statement is misplaced, no switch has a second default, no `:=` lacks a new name and no local variable is
+/// unused: there are none.
+pub fn nothing_fails_outside_of_functions()
+    ensures { (fs : List File) → AreRead fs → NothingFailsOutside fs }
+{}
+
+/// No fault of names is reported of a package where no rule of names fails outside of functions and none in a function by itself, each
+/// import is used, there are not too many statements, and no declaration needs itself; and the other way round.
+pub fn faults_are_those_of_functions()
+    ensures { (fs : List File) → AreRead fs → AreNamed fs → FaultsAreThoseOfFunctions fs }
+{}
+
+/// The statements of a package are those of its functions, and none is too many where there are at most 65,536.
+pub fn statements_are_counted_by_functions()
+    ensures { (fs : List File) → AreRead fs → CountsStatements fs }
+{}
+
+/// Whether the import of a file is used is judged function by function (Go specification: Import declarations).
+pub fn imports_are_used_by_functions()
+    ensures { (fs : List File) → AreRead fs → AreNamed fs → (n : ℕ) → UsesImportByFunctions fs n }
+{}
+
+/// Where the tokens of a tree stand elsewhere, it tells the same of names, of tokens that stand there. This holds of any tree and any
+/// places, so long as the name of a function stays its second token.
+pub fn carried_trees_tell_the_same()
+    ensures { (v : ℕ → ℕ) (c : Context) (t : Tree) → KeepsNames v t → events (carried_context v c) (carry v t) ≡ map (carried_event v) (events c t) }
 {}
