@@ -241,13 +241,13 @@ falls_carried v c k b = refl
 -- ---- contexts
 
 -- with other values in the places that have numbers of tokens or follow from them
-abbrev with_tokens : Context → Block → ℕ → Role → Site → Option ℕ → Option ℕ → Option ℕ → Option Scope → Context
+abbrev pub with_tokens : Context → Block → ℕ → Role → Site → Option ℕ → Option ℕ → Option ℕ → Option Scope → Context
 with_tokens c b e r s specification source group parameters = record c { block = b; end = e; role = r; site = s; specification = specification; source = source; group = group; parameters = parameters }
 
-abbrev with_tests : Context → Bool → Bool → Bool → Bool → Bool → Context
+abbrev pub with_tests : Context → Bool → Bool → Bool → Bool → Bool → Context
 with_tests c constant initial breaks continues falls = record c { constant = constant; initial = initial; breaks = breaks; continues = continues; falls = falls }
 
-same_tokens : (c : Context) (b b' : Block) (e e' : ℕ) (r r' : Role) (s s' : Site) (p p' q q' g g' : Option ℕ) (o o' : Option Scope) → b ≡ b' → e ≡ e' → r ≡ r' → s ≡ s' → p ≡ p' → q ≡ q' → g ≡ g' → o ≡ o' → with_tokens c b e r s p q g o ≡ with_tokens c b' e' r' s' p' q' g' o'
+pub same_tokens : (c : Context) (b b' : Block) (e e' : ℕ) (r r' : Role) (s s' : Site) (p p' q q' g g' : Option ℕ) (o o' : Option Scope) → b ≡ b' → e ≡ e' → r ≡ r' → s ≡ s' → p ≡ p' → q ≡ q' → g ≡ g' → o ≡ o' → with_tokens c b e r s p q g o ≡ with_tokens c b' e' r' s' p' q' g' o'
 same_tokens c b b' e e' r r' s s' p p' q q' g g' o o' hb he hr hs hp hq hg ho =
     ap (λ x. with_tokens c x e r s p q g o) hb
     ∙ ap (λ x. with_tokens c b' x r s p q g o) he
@@ -258,7 +258,7 @@ same_tokens c b b' e e' r r' s s' p p' q q' g g' o o' hb he hr hs hp hq hg ho =
     ∙ ap (λ x. with_tokens c b' e' r' s' p' q' x o) hg
     ∙ ap (λ x. with_tokens c b' e' r' s' p' q' g' x) ho
 
-same_tests : (c : Context) (a a' b b' d d' e e' f f' : Bool) → a ≡ a' → b ≡ b' → d ≡ d' → e ≡ e' → f ≡ f' → with_tests c a b d e f ≡ with_tests c a' b' d' e' f'
+pub same_tests : (c : Context) (a a' b b' d d' e e' f f' : Bool) → a ≡ a' → b ≡ b' → d ≡ d' → e ≡ e' → f ≡ f' → with_tests c a b d e f ≡ with_tests c a' b' d' e' f'
 same_tests c a a' b b' d d' e e' f f' ha hb hd he hf =
     ap (λ x. with_tests c x b d e f) ha
     ∙ ap (λ x. with_tests c a' x d e f) hb

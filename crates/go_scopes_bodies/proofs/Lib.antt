@@ -19,5 +19,6 @@ mod AllRules
 mod Quiet
 mod Nothing
 mod Carried
+mod Listed
 mod Counted
 mod Imported

@@ -1,13 +1,13 @@
 //! Laws, for the crates above. The functions do nothing: their contracts are the laws.
 
-ghost use Rattle.std.specs.Prelude.{◌≡◌, ℕ, [], List, Some, map, slice_get};
-ghost use Rattle.go_grammar.specs.Trees.{Tree};
+ghost use Rattle.std.specs.Prelude.{◌≡◌, ℕ, Bool, ◌&&◌, not, [], ◌++◌, List, Some, map, slice_get};
+ghost use Rattle.go_grammar.specs.Trees.{Tree, Trees, onto};
 ghost use Rattle.go_rewriting.specs.Places.{carry};
 ghost use Rattle.go_tree.specs.Branches.{branches};
 ghost use Rattle.go_tree.specs.declared.context.Context.{Context};
 ghost use Rattle.go_tree.specs.Declarations.{declarations, found};
 ghost use Rattle.go_tree.specs.Duplicates.{second_defaults, second_members};
-ghost use Rattle.go_tree.specs.Events.{events};
+ghost use Rattle.go_tree.specs.Events.{events, is_more};
 ghost use Rattle.go_tree.specs.Failures.{of_files};
 ghost use Rattle.go_tree.specs.Lookups.{undeclared, outside_names, outside_members, not_called, initialisers, unused_variables};
 ghost use Rattle.go_tree.specs.Redeclared.{second_declarations, none_new};
@@ -16,6 +16,7 @@ ghost use Rattle.go_heads.specs.Heads.{File};
 ghost use Rattle.go_heads.specs.Locals.{AreNamed};
 ghost use Rattle.go_heads.specs.Objects.{units_of};
 ghost use Rattle.go_scopes_bodies.specs.Carried.{KeepsNames, carried_context, carried_event};
+ghost use Rattle.go_scopes_bodies.specs.Listed.{AreStatements, TellsStatements, told_list};
 ghost use Rattle.go_scopes_bodies.specs.Meant.{MeansAt};
 ghost use Rattle.go_scopes_bodies.specs.Outside.{outside_units};
 ghost use Rattle.go_scopes_bodies.specs.Faults.{CountsStatements, FaultsAreThoseOfFunctions, GoesByFunctions, NothingFailsOutside, UsesImportByFunctions, all_asked, outside_asked, outer_in, own_misplaced, own_second_defaults, own_second_members, own_second_declarations, own_none_new, own_undeclared, own_outside_names, own_outside_members, own_not_called, own_initialisers, own_unused, outside_declared, shared};
@@ -120,4 +121,15 @@ pub fn imports_are_used_by_functions()
 /// places, so long as the name of a function stays its second token.
 pub fn carried_trees_tell_the_same()
     ensures { (v : ℕ → ℕ) (c : Context) (t : Tree) → KeepsNames v t → events (carried_context v c) (carry v t) ≡ map (carried_event v) (events c t) }
+{}
+
+/// A block or a clause tells of names what its statements tell, each by itself (Go specification: Blocks).
+pub fn lists_tell_each_statement()
+    ensures { (c : Context) (i j : ℕ) (ps : Trees) → AreStatements ps → TellsStatements c i j ps }
+{}
+
+/// Two lists of statements, one behind the other, tell what each tells; so where statements are put in place of some, what stands in
+/// front of these and behind them tells the same.
+pub fn lists_tell_one_behind_the_other()
+    ensures { (c : Context) (followed : Bool) (xs ys : Trees) → told_list c followed (onto xs ys) ≡ told_list c (followed && not (is_more ys)) xs ++ told_list c followed ys }
 {}
