@@ -30,7 +30,7 @@ pub every_append : {A : Type 0} (Q : A → Type 0) (xs ys : List A) → Every Q 
 every_append Q [] ys h g = g
 every_append Q (x ∷ xs) ys h g = (h.0, every_append Q xs ys h.1 g)
 
-every_map : {A : Type 0} (Q R : A → Type 0) (xs : List A) → ((x : A) → Q x → R x) → Every Q xs → Every R xs
+pub every_map : {A : Type 0} (Q R : A → Type 0) (xs : List A) → ((x : A) → Q x → R x) → Every Q xs → Every R xs
 every_map Q R [] f h = tt
 every_map Q R (x ∷ xs) f h = (f x h.0, every_map Q R xs f h.1)
 

@@ -22,7 +22,7 @@ pub mod Meanings
 pub mod Lookups
 mod Ends
 mod HeadBodies
-mod Blocks
+pub mod Blocks
 pub mod Fresh
 pub mod Names
 mod Locals

@@ -35,19 +35,12 @@ use Rattle.go_heads.proofs.Files.{first_same, others_same, some_not_none}
 use Rattle.go_heads.specs.Meanings.{StandsOutside, meant_at, KeepsMeanings}
 use Rattle.go_heads.specs.Objects.{units_of, package_objects, file_in, text_at, head_place}
 use Rattle.go_heads.specs.Told.{file_events}
+pub use Rattle.go_heads.proofs.Fresh.{Every, every_append}
 use Rattle.go_heads.proofs.Imports.{imports_same}
 use Rattle.go_heads.proofs.Objects.{Entry, entry, head_text, text_there, head_word, StandFrom, stand_from, entries_same}
 use Rattle.go_heads.proofs.Scopes.{IsBodily, locals_bodily}
 
 -- ---- lists
-
-abbrev pub Every : {A : Type 0} → (A → Type 0) → List A → Type 0
-Every Q [] = Unit {0}
-Every Q (x ∷ xs) = Q x × Every Q xs
-
-pub every_append : {A : Type 0} (Q : A → Type 0) (xs ys : List A) → Every Q xs → Every Q ys → Every Q (xs ++ ys)
-every_append Q [] ys h g = g
-every_append Q (x ∷ xs) ys h g = (h.0, every_append Q xs ys h.1 g)
 
 pub every_new : (Q : Found → Type 0) (all ds : List Found) → Every Q ds → Every Q (new_among all ds)
 every_new Q all [] h = tt
@@ -59,7 +52,7 @@ every_new Q all (d ∷ ds) h = by (is_new all d) (every_new Q all ds h.1)
 
 -- ---- what reads a file
 
-orderly : (fs : List File) → AreRead fs → AreOrderly (units_of fs)
+pub orderly : (fs : List File) → AreRead fs → AreOrderly (units_of fs)
 orderly [] h = tt
 orderly (f ∷ fs) h = (one f h.0, orderly fs h.1)
   where
@@ -236,21 +229,21 @@ abbrev pub local_object : Option Meaning → Option Object → Option Object
 local_object None o = o
 local_object (Some m) o = Some m.object
 
-local_reached : (w : List ℕ) (l i p : Option Meaning) → object_by w (reached l i p) ≡ local_object l (outer_object w i (object_in p))
-local_reached w None i p = by_outer w i p
+local_reached : (w : List ℕ) (l i p : Option Meaning) → object_by w (reached l i p) ≡ local_object l (object_by w (otherwise i p))
+local_reached w None i p = refl
 local_reached w (Some m) i p = refl
 
 abbrev pub meant_by : ℕ → List ℕ → Option Meaning → List Meaning → List Entry → Option Object
 meant_by n w local imports objects = if is_blank w then None else local_object local (outer_object w (first_by (scopes.is_import n) w imports) (find 0 w objects))
 
--- a local meaning, else what is imported in the file, else what the package declares
-pub meant_reached : (fs : List File) → AreRead fs → (n t : ℕ) (w : List ℕ)
-    → object_at (meanings (units_of fs)) n t w ≡ meant_by n w (inmost n t w None (locals_of n (meanings (units_of fs)))) (imported_from 0 (units_of fs)) (map (entry fs) (package_objects fs))
-meant_reached fs h n t w =
+-- what a name means where no local does: what is imported in the file, else what the package declares
+pub outer_reached : (fs : List File) (n : ℕ) (w : List ℕ)
+    → object_by w (otherwise (first_by (scopes.is_import n) w (meanings (units_of fs))) (first_by scopes.is_package w (meanings (units_of fs))))
+    ≡ outer_object w (first_by (scopes.is_import n) w (imported_from 0 (units_of fs))) (find 0 w (map (entry fs) (package_objects fs)))
+outer_reached fs n w =
     let us : List names.Unit = units_of fs in
     let ds : List Found = declarations us in
     let ms : List Meaning = meanings us in
-    let local : Option Meaning = inmost n t w None (locals_of n ms) in
     let stand : StandFrom fs 0 fs = stand_from fs 0 fs (λ k. let z : 0 + k ≡ k = omega arith in ap (file_in fs) z) in
     let imported : first_by (scopes.is_import n) w ms ≡ first_by (scopes.is_import n) w (imported_from 0 us) =
     first_append (scopes.is_import n) w (imported_from 0 us) (numbered first_numbers ds)
@@ -259,11 +252,19 @@ meant_reached fs h n t w =
     let shared : object_in (first_by scopes.is_package w ms) ≡ find 0 w (map (entry fs) (declared_in_package ds)) =
     ap object_in (first_append scopes.is_package w (imported_from 0 us) (numbered first_numbers ds) ∙ ap (λ o. otherwise o (first_by scopes.is_package w (numbered first_numbers ds))) (imported_none w 0 us))
     ∙ first_found fs w first_numbers ds (every_new (IsNamed fs) (found_from 0 us) (found_from 0 us) (all_named fs 0 fs stand)) in
+    by_outer w (first_by (scopes.is_import n) w ms) (first_by scopes.is_package w ms)
+    ∙ ap (λ i. outer_object w i (object_in (first_by scopes.is_package w ms))) imported
+    ∙ ap (outer_object w (first_by (scopes.is_import n) w (imported_from 0 us))) shared
+
+-- a local meaning, else what the name means where no local does
+pub meant_reached : (fs : List File) → AreRead fs → (n t : ℕ) (w : List ℕ)
+    → object_at (meanings (units_of fs)) n t w ≡ meant_by n w (inmost n t w None (locals_of n (meanings (units_of fs)))) (imported_from 0 (units_of fs)) (map (entry fs) (package_objects fs))
+meant_reached fs h n t w =
+    let us : List names.Unit = units_of fs in
+    let ms : List Meaning = meanings us in
+    let local : Option Meaning = inmost n t w None (locals_of n ms) in
     ap (λ o. if is_blank w then None else object_by w o) (meaning_reached n t w ms (locals_good us (orderly fs h) n).1)
-    ∙ ap (λ o. if is_blank w then None else o) (
-    local_reached w local (first_by (scopes.is_import n) w ms) (first_by scopes.is_package w ms)
-    ∙ ap (λ i. local_object local (outer_object w i (object_in (first_by scopes.is_package w ms)))) imported
-    ∙ ap (λ p. local_object local (outer_object w (first_by (scopes.is_import n) w (imported_from 0 us)) p)) shared)
+    ∙ ap (λ o. if is_blank w then None else o) (local_reached w local (first_by (scopes.is_import n) w ms) (first_by scopes.is_package w ms) ∙ ap (local_object local) (outer_reached fs n w))
 
 meant_outside : (fs : List File) → AreRead fs → (n t : ℕ) → StandsOutside fs n t → meant_at fs n t ≡ meant_by n (text_at fs n t) None (imported_from 0 (units_of fs)) (map (entry fs) (package_objects fs))
 meant_outside fs h n t out =

@@ -176,7 +176,7 @@ module _ (fs : List File) (h : AreRead fs) (n : ℕ) (f : File) (there : slice_g
   own_split : own ≡ own_function by_itself ∷ own_others by_itself begins_own
   own_split = own_first by_itself begins_own named_own
 
-  begins_function : BeginsFunction own
+  pub begins_function : BeginsFunction own
   begins_function = record { function = own_function by_itself; others = own_others by_itself begins_own; whole = own_split; block = refl; entity = refl }
 
   -- ---- its declarations among those of the package
@@ -218,7 +218,7 @@ module _ (fs : List File) (h : AreRead fs) (n : ℕ) (f : File) (there : slice_g
   abbrev meant_behind : List Meaning
   meant_behind = numbered (behind_all (behind_all first_numbers new_before) (map (in_file n l a) own)) new_behind
 
-  all_meanings : ms ≡ imported_from 0 us ++ (meant_before ++ (map (up_meaning n l a) own_names_mean ++ meant_behind))
+  pub all_meanings : ms ≡ imported_from 0 us ++ (meant_before ++ (map (up_meaning n l a) own_names_mean ++ meant_behind))
   all_meanings =
       let k : Numbers = behind_all first_numbers new_before in
       ap (λ ds. imported_from 0 us ++ numbered first_numbers ds) declared_split
@@ -240,16 +240,16 @@ module _ (fs : List File) (h : AreRead fs) (n : ℕ) (f : File) (there : slice_g
     upto : a + x < last t
     upto = omega (arith, in_it)
 
-    imports_aside : Every (IsAside n (a + x)) (imported_from 0 us)
+    pub imports_aside : Every (IsAside n (a + x)) (imported_from 0 us)
     imports_aside = imported_aside n (a + x) 0 us
 
-    before_aside : Every (IsAside n (a + x)) meant_before
+    pub before_aside : Every (IsAside n (a + x)) meant_before
     before_aside = numbered_aside n a (last t) (a + x) from upto first_numbers new_before apart_before
 
-    behind_aside : Every (IsAside n (a + x)) meant_behind
+    pub behind_aside : Every (IsAside n (a + x)) meant_behind
     behind_aside = numbered_aside n a (last t) (a + x) from upto (behind_all (behind_all first_numbers new_before) (map (in_file n l a) own)) new_behind apart_behind
 
-    local_inmost : (w : List ℕ) → inmost n (a + x) w None (locals_of n ms) ≡ option_map (up_meaning n l a) (inmost 0 x w None (locals_of 0 own_names_mean))
+    pub local_inmost : (w : List ℕ) → inmost n (a + x) w None (locals_of n ms) ≡ option_map (up_meaning n l a) (inmost 0 x w None (locals_of 0 own_names_mean))
     local_inmost w =
         let ups : List Meaning = map (up_meaning n l a) own_names_mean in
         ap (λ xs. inmost n (a + x) w None (locals_of n xs)) all_meanings
@@ -258,13 +258,13 @@ module _ (fs : List File) (h : AreRead fs) (n : ℕ) (f : File) (there : slice_g
         ∙ inmost_before n (a + x) w ups meant_behind None behind_aside
         ∙ inmost_up n l a x w None own_names_mean tt own_are_own
 
-    text_own : own_text by_itself x ≡ word l (a + x)
+    pub text_own : own_text by_itself x ≡ word l (a + x)
     text_own = texts_at l a (last t - a) x in_it
 
     abbrev meant : Option Object
     meant = own_meant n numbers_before by_itself (imported_from 0 us) (map (entry fs) (package_objects fs)) x
 
-    meant_own : object_at ms n (a + x) (word l (a + x)) ≡ meant
+    pub meant_own : object_at ms n (a + x) (word l (a + x)) ≡ meant
     meant_own =
         let w : List ℕ = own_text by_itself x in
         let objects : List Entry = map (entry fs) (package_objects fs) in
