@@ -30,8 +30,8 @@ pub fn declared_names(alloc: Global, package: &Checked) -> Result<Vec<u8>, Memor
 /// Want of memory.
 pub fn last_names(alloc: Global, package: &Checked) -> Result<Vec<u8>, Memory> {
     let mut out = Vec::new(alloc);
-    if let Some((number, file)) = package.files().iter().enumerate().last() {
-        push_file(alloc, package, number, file, &mut out)?;
+    if let Some((file, before)) = package.files().split_last() {
+        push_file(alloc, package, before.len(), file, &mut out)?;
     }
     Ok(out)
 }
