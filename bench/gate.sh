@@ -172,7 +172,7 @@ table() {
                 p += proof[name]; t += tests[name]; e += edits[name]; number += of[name]
                 if (!proof[name]) lacking = lacking " " name; else proved = proved " " name
                 if (tests[name] == 0 && name in has_tests && proof[name]) untested = untested " " name
-                if (edits[name] == 0 && name in of && proof[name]) untried = untried " " name
+                if (edits[name] == 0 && of[name] > 0 && proof[name]) untried = untried " " name
                 if (sum > 0 && dearer < rows) print row("`" name "`", proof[name], tests[name], edits[name], of[name])
                 else if (sum > 0) { smalls = smalls (smalls == "" ? "" : ", ") "`" name "` " minutes(sum); sp += proof[name]; st += tests[name]; se += edits[name]; sn += of[name] }
                 if (chain(name) > longest) { longest = chain(name); ends = name }

@@ -10,7 +10,7 @@ use Rattle.go_print.specs.Names.{name_of}
 use Rattle.clone_window.specs.declared.outline.Outline.{Outline}
 use Rattle.clone_window.specs.Kinds.{referent_outline}
 use Rattle.clone_window.specs.Sameness.{same_outline}
-use Rattle.alpha_hash.specs.Packages.{declared_text}
+use Rattle.alpha_hash_defs.specs.Packages.{declared_text}
 
 pub from-there : {A : Type 0} (xs : List A) (i : ℕ) (x : A) → slice_get xs i ≡ Some x → drop i xs ≡ x ∷ drop (i + 1) xs
 from-there [] i x e = cc

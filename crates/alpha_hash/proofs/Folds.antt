@@ -4,9 +4,9 @@ use Rattle.std.specs.Prelude.{◌⊎◌}
 use Rattle.std.proofs.lemmas.List.{map-append}
 use Rattle.std.proofs.lemmas.Option.{same_Some}
 use Rattle.std.proofs.Math.Nat.{add-mod-mod, mod-mod}
-use Rattle.alpha_hash.specs.Hash.{mix, basis, fold, fold_from, term}
-use Rattle.alpha_hash.specs.Numbers.{place_before, terms_from, words_hash}
-use Rattle.alpha_hash.specs.Words.{Word, number, named, word_value}
+use Rattle.alpha_hash_defs.specs.Hash.{mix, basis, fold, fold_from, term}
+use Rattle.alpha_hash_defs.specs.Numbers.{place_before, terms_from, words_hash}
+use Rattle.alpha_hash_defs.specs.Words.{Word, number, named, word_value}
 use Rattle.alpha_hash.specs.Rolling.{HasPlaces, seen_after, seen_at, term_at}
 
 fold-more : (h : ℕ) (xs : List ℕ) (w : ℕ) → fold_from h (xs ++ w ∷ []) ≡ mix (fold_from h xs) w

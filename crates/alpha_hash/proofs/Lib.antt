@@ -1,11 +1,5 @@
-pub mod Terms
-pub mod Texts
-pub mod Alike
-pub mod Windows
-pub mod Functions
 pub mod Folds
 pub mod Declared
 pub mod Rows
 pub mod Runs
 pub mod Last
-pub mod Public

@@ -13,7 +13,7 @@ use Rattle.clone_window.specs.Kinds.{outline}
 use Rattle.clone_window.specs.Masses.{is_hole, is_inside}
 use Rattle.clone_window.specs.Sameness.{compared}
 use Rattle.clone_window.proofs.Public.{view_out, views-at}
-use Rattle.alpha_hash.specs.Words.{Word, number, all_declared, hole_words, is_defined, lengths_at, own_words, row_length, row_words, window_words, words}
+use Rattle.alpha_hash_defs.specs.Words.{Word, number, all_declared, hole_words, is_defined, lengths_at, own_words, row_length, row_words, window_words, words}
 use Rattle.alpha_hash.specs.declared.names.Names.{Names}
 use Rattle.alpha_hash.specs.declared.word.Word as decl
 use Rattle.alpha_hash.specs.Shown.{knows, knows_part, knows_parts, knows_sort, naming, part_declared, part_words, shown, word_view}

@@ -16,10 +16,10 @@ use Rattle.go_typed.specs.Trees.{Sort, Typed, typed, Typeds, none, more, skip, e
 use Rattle.go_typed.specs.Views.{view, views}
 use Rattle.clone_window.specs.Windows.{row_of, run_at, statements_in, window_statements}
 use Rattle.clone_window.specs.Bodies.{Body, body_of, bodies_of, locals_in, statements_at}
-use Rattle.alpha_hash.specs.Naming.{Naming}
-use Rattle.alpha_hash.specs.Numbers.{hash, words_hash}
-use Rattle.alpha_hash.specs.Packages.{naming_of, window_hash}
-use Rattle.alpha_hash.specs.Words.{Word, window_words}
+use Rattle.alpha_hash_defs.specs.Naming.{Naming}
+use Rattle.alpha_hash_defs.specs.Numbers.{hash, words_hash}
+use Rattle.alpha_hash_defs.specs.Packages.{naming_of, window_hash}
+use Rattle.alpha_hash_defs.specs.Words.{Word, window_words}
 use Rattle.alpha_hash.specs.declared.start.Start.{Start}
 use Rattle.alpha_hash.specs.Starts.{IsStart, covers, ends_from, number_at, number_of, statement_words, with_count}
 use Rattle.alpha_hash.proofs.Folds.{front-within}

@@ -1,11 +1,3 @@
-pub mod Naming
-pub mod Words
-pub mod Numbers
-pub mod Hash
-pub mod Alike
-pub mod Packages
-pub mod Sharing
-pub mod Examples
 pub mod Shown
 pub mod Rolling
 pub mod Starts

@@ -1,8 +1,8 @@
 -- Steps of the rolling number.
 use Rattle.std.specs.Prelude.{◌≡◌, ℕ, suc, List, [], ◌∷◌, Option}
-use Rattle.alpha_hash.specs.Hash.{term}
-use Rattle.alpha_hash.specs.Numbers.{place_before}
-use Rattle.alpha_hash.specs.Words.{Word, number, named}
+use Rattle.alpha_hash_defs.specs.Hash.{term}
+use Rattle.alpha_hash_defs.specs.Numbers.{place_before}
+use Rattle.alpha_hash_defs.specs.Words.{Word, number, named}
 
 -- what one word adds to the sum of terms, by the locals and places so far
 abbrev pub term_at : List (ℕ × ℕ) → ℕ → Word → ℕ

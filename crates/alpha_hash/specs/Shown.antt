@@ -5,10 +5,10 @@ use Rattle.go_typed.specs.declared.node.TypedNode.{TypedNode}
 use Rattle.go_typed.specs.Packages.{is_below}
 use Rattle.go_typed.specs.Trees.{Sort, Typed, Typeds, sort_has, every, every_part}
 use Rattle.go_typed.specs.Views.{sort_view, view}
-use Rattle.alpha_hash.specs.Naming.{Naming}
-use Rattle.alpha_hash.specs.Packages.{naming_of}
-use Rattle.alpha_hash.specs.Words as words
-use Rattle.alpha_hash.specs.Words.{number, named}
+use Rattle.alpha_hash_defs.specs.Naming.{Naming}
+use Rattle.alpha_hash_defs.specs.Packages.{naming_of}
+use Rattle.alpha_hash_defs.specs.Words as words
+use Rattle.alpha_hash_defs.specs.Words.{number, named}
 use Rattle.alpha_hash.specs.declared.names.Names.{Names}
 use Rattle.alpha_hash.specs.declared.word.Word.{Word}
 use Rattle.alpha_hash.specs.declared.word.Word.TheVariants as word

@@ -5,9 +5,9 @@ use Rattle.go_typed.specs.declared.window.Window.{Window}
 use Rattle.go_typed.specs.Packages.{PackageView}
 use Rattle.go_typed.specs.Trees.{Nothing}
 use Rattle.go_typed.specs.Views.{view}
-use Rattle.alpha_hash.specs.Naming.{Naming}
-use Rattle.alpha_hash.specs.Packages.{window_hash}
-use Rattle.alpha_hash.specs.Words.{Word, words}
+use Rattle.alpha_hash_defs.specs.Naming.{Naming}
+use Rattle.alpha_hash_defs.specs.Packages.{window_hash}
+use Rattle.alpha_hash_defs.specs.Words.{Word, words}
 use Rattle.alpha_hash.specs.declared.start.Start.{Start}
 
 -- the run of so many statements from the same start

@@ -1,7 +1,7 @@
 //! The hash that tells names of locals and constants of holes not apart.
 
 use crate::numbered::numbers_of;
-use crate::window_hash::{WindowHash, windows_of_function};
+use alpha_hash_defs::window_hash::{WindowHash, windows_of_function};
 use go_base::Memory;
 use go_typed::checked::Checked;
 use go_typed::window::Window;
@@ -12,8 +12,8 @@ use std::alloc::Global;
 pub struct AlphaHash;
 
 impl WindowHash for AlphaHash {
-    ghost use Rattle.alpha_hash.specs.Packages.{window_hash};
-    ghost use Rattle.alpha_hash.proofs.Windows.{hash-lawful};
+    ghost use Rattle.alpha_hash_defs.specs.Packages.{window_hash};
+    ghost use Rattle.alpha_hash_defs.proofs.Windows.{hash-lawful};
 
     ghost number = { λ h p w. window_hash p w };
 

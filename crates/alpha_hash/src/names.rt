@@ -6,7 +6,7 @@ ghost use Rattle.go_print.specs.Names.{name_of, text_in};
 ghost use Rattle.std.specs.Option.{option_map};
 ghost use Rattle.clone_window.specs.Kinds.{referent_outline};
 ghost use Rattle.clone_window.specs.Sameness as specs;
-ghost use Rattle.alpha_hash.specs.Packages.{declared_text, object_text, predeclared_text};
+ghost use Rattle.alpha_hash_defs.specs.Packages.{declared_text, object_text, predeclared_text};
 
 use clone_window::alike::same_outline;
 use clone_window::outline::{Outline, outline_of};

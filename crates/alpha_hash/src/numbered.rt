@@ -1,8 +1,8 @@
 //! Windows with their numbers.
 
 ghost use Rattle.std.specs.Prelude.{◌≡◌, ◌++◌, ◌∷◌, [], true, IfOk, OnOk};
-ghost use Rattle.alpha_hash.specs.Packages.{window_hash};
-ghost use Rattle.alpha_hash.specs.Sharing.{numbered};
+ghost use Rattle.alpha_hash_defs.specs.Packages.{window_hash};
+ghost use Rattle.alpha_hash_defs.specs.Sharing.{numbered};
 ghost use Rattle.alpha_hash.specs.Starts.{IsStart, covers};
 
 use crate::start::Start;

@@ -2,8 +2,8 @@
 
 ghost use Rattle.std.specs.Prelude.{◌≡◌, ◌≤◌, ℕ, List, Some, length, take, nat_eq, slice_get, IfOk, OnOk};
 ghost use Rattle.std.specs.HashMap.{get};
-ghost use Rattle.alpha_hash.specs.Numbers.{words_hash};
-ghost use Rattle.alpha_hash.specs.Words.{word_value};
+ghost use Rattle.alpha_hash_defs.specs.Numbers.{words_hash};
+ghost use Rattle.alpha_hash_defs.specs.Words.{word_value};
 ghost use Rattle.alpha_hash.specs.Rolling.{HasPlaces, seen_at, term_at};
 ghost use Rattle.alpha_hash.specs.Shown.{shown, word_view};
 

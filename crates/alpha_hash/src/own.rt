@@ -7,8 +7,8 @@ ghost use Rattle.go_typed.specs.Trees.{Unknown};
 ghost use Rattle.go_typed.specs.Views.{sort_view, view, views};
 ghost use Rattle.clone_window.specs.Kinds.{outline};
 ghost use Rattle.clone_window.specs.Sameness.{compared, sort_at};
-ghost use Rattle.alpha_hash.specs.Words as words;
-ghost use Rattle.alpha_hash.specs.Words.{all_declared, blank_words, compared_words, constant_words, constants_words, declared_words, defined_words, field_words, is_one_of, kind_words, lengths_at, local_words, name_words, object_words, operator_words};
+ghost use Rattle.alpha_hash_defs.specs.Words as words;
+ghost use Rattle.alpha_hash_defs.specs.Words.{all_declared, blank_words, compared_words, constant_words, constants_words, declared_words, defined_words, field_words, is_one_of, kind_words, lengths_at, local_words, name_words, object_words, operator_words};
 ghost use Rattle.alpha_hash.specs.Shown.{knows, knows_locals, knows_part, knows_parts, knows_sort, naming, part_declared, shown};
 
 use crate::names::{Names, object_text};

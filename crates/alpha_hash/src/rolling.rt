@@ -1,8 +1,8 @@
 //! The arithmetic of the number, modulo 2^64.
 
 ghost use Rattle.std.specs.Prelude.{◌≡◌};
-ghost use Rattle.alpha_hash.specs.Hash as hash;
-ghost use Rattle.alpha_hash.specs.Hash.{fold_from, gap, term, text_fold};
+ghost use Rattle.alpha_hash_defs.specs.Hash as hash;
+ghost use Rattle.alpha_hash_defs.specs.Hash.{fold_from, gap, term, text_fold};
 
 const PRIME: u64 = 1099511628211;
 /// What each fold begins with.

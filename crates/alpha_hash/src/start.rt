@@ -2,9 +2,9 @@
 
 ghost use Rattle.std.specs.Prelude.{◌≡◌, ◌≤◌, ◌++◌, ℕ, true, length, map, take, IfOk, OnOk};
 ghost use Rattle.go_typed.specs.Views.{views};
-ghost use Rattle.alpha_hash.specs.Numbers.{hash};
-ghost use Rattle.alpha_hash.specs.Packages.{window_hash};
-ghost use Rattle.alpha_hash.specs.Words.{window_words};
+ghost use Rattle.alpha_hash_defs.specs.Numbers.{hash};
+ghost use Rattle.alpha_hash_defs.specs.Packages.{window_hash};
+ghost use Rattle.alpha_hash_defs.specs.Words.{window_words};
 ghost use Rattle.alpha_hash.specs.Shown.{knows_locals, knows_part, knows_parts, naming, shown};
 ghost use Rattle.alpha_hash.specs.Starts.{IsStart, covers, ends_from, number_at, number_of, statement_words, with_count};
 

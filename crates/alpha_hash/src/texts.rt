@@ -5,9 +5,9 @@ ghost use Rattle.go_print.specs.Literals.{literal_text};
 ghost use Rattle.go_print.specs.Printed.{printed};
 ghost use Rattle.go_typed.specs.Views.{sort_view};
 ghost use Rattle.clone_window.specs.Sameness.{const_kind, final, untyped_kind, value_of};
-ghost use Rattle.alpha_hash.specs.Hash.{text_fold};
-ghost use Rattle.alpha_hash.specs.Naming.{final_text, untyped_text};
-ghost use Rattle.alpha_hash.specs.Words.{value_text};
+ghost use Rattle.alpha_hash_defs.specs.Hash.{text_fold};
+ghost use Rattle.alpha_hash_defs.specs.Naming.{final_text, untyped_text};
+ghost use Rattle.alpha_hash_defs.specs.Words.{value_text};
 ghost use Rattle.alpha_hash.specs.Shown.{knows_sort, naming};
 
 use crate::names::Names;

@@ -1,7 +1,7 @@
 //! Words of windows.
 
 ghost use Rattle.std.specs.Prelude.{◌≡◌, ◌++◌, ◌∷◌, [], OnOk};
-ghost use Rattle.alpha_hash.specs.Words.{length_if, named, number, one_if};
+ghost use Rattle.alpha_hash_defs.specs.Words.{length_if, named, number, one_if};
 ghost use Rattle.alpha_hash.specs.Shown.{shown};
 
 use std::alloc::AllocError;

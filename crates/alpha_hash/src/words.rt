@@ -6,7 +6,7 @@ ghost use Rattle.go_typed.specs.Views.{sort_view, view, views};
 ghost use Rattle.go_typed.specs.Forms.{local_of};
 ghost use Rattle.clone_window.specs.Kinds.{outline};
 ghost use Rattle.clone_window.specs.Sameness.{compared};
-ghost use Rattle.alpha_hash.specs.Words.{hole_words, own_words, row_words, words};
+ghost use Rattle.alpha_hash_defs.specs.Words.{hole_words, own_words, row_words, words};
 ghost use Rattle.alpha_hash.specs.Shown.{knows, knows_locals, knows_part, knows_parts, knows_sort, naming, part_words, shown};
 
 use crate::names::Names;

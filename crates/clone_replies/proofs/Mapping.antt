@@ -10,8 +10,8 @@ use Rattle.clone_window.specs.Bodies.{Body, locals_in, statements_at}
 use Rattle.clone_classes.specs.Listing.{windows_of_all}
 use Rattle.clone_replies.proofs.Mapped.{body-mapped, statements-at-mapped, all-windows-mapped}
 use Rattle.clone_replies.proofs.Tested.{sort-at-mapped, locals-in-mapped}
-use Rattle.alpha_hash.specs.Naming.{Naming}
-use Rattle.alpha_hash.specs.Numbers.{hash}
+use Rattle.alpha_hash_defs.specs.Naming.{Naming}
+use Rattle.alpha_hash_defs.specs.Numbers.{hash}
 use Rattle.clone_replies.proofs.Words.{Matches, hash-same}
 
 -- what names a package

@@ -24,8 +24,8 @@ use Rattle.clone_window.specs.declared.outline.Outline.{Outline}
 use Rattle.clone_window.specs.Kinds.{referent_outline}
 use Rattle.clone_window.specs.Sameness.{same_outline}
 use Rattle.clone_window.specs.Fields.{field_by, field_text}
-use Rattle.alpha_hash.specs.Packages as packages
-use Rattle.alpha_hash.specs.Packages.{predeclared_text}
+use Rattle.alpha_hash_defs.specs.Packages as packages
+use Rattle.alpha_hash_defs.specs.Packages.{predeclared_text}
 use Rattle.clone_replies.specs.Names.{name_of, name_at, declared_name, declared_text, object_text}
 use Rattle.clone_replies.proofs.Mapping.{Names, Agree}
 

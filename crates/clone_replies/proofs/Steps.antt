@@ -9,8 +9,8 @@ use Rattle.clone_window.specs.Windows.{windows}
 use Rattle.clone_window.specs.Bodies.{body_of, bodies_of}
 use Rattle.clone_classes.specs.Listing.{windows_of_all}
 use Rattle.clone_classes.proofs.Public.{number-is, functions-step}
-use Rattle.alpha_hash.specs.Sharing.{numbered, windows_of_func}
-use Rattle.alpha_hash.proofs.Public.{own-windows}
+use Rattle.alpha_hash_defs.specs.Sharing.{numbered, windows_of_func}
+use Rattle.alpha_hash_defs.proofs.Public.{own-windows}
 
 numbers-of : (number : Window → ℕ) (ws : List Window) → map (λ x. x.1) (numbered number ws) ≡ map number ws
 numbers-of number [] = refl

@@ -11,10 +11,10 @@ use Rattle.clone_replies.proofs.Mapped.{hole-mapped, inside-mapped}
 use Rattle.clone_replies.proofs.Fields.{field-name, final_mapped, final-mapped}
 use Rattle.clone_replies.proofs.Tested.{value-mapped}
 use Rattle.clone_window.specs.Fields.{names_field}
-use Rattle.alpha_hash.specs.Hash.{text_fold}
-use Rattle.alpha_hash.specs.Naming.{Naming, final_text}
-use Rattle.alpha_hash.specs.Numbers.{hash, words_hash}
-use Rattle.alpha_hash.specs.Words.{Word, number, one_if, row_length, lengths_at, kind_words, operator_words, local_words, object_words, field_words, value_text, compared_words, defined_words, constant_words, blank_words, name_words, declared_words, all_declared, constants_words, own_words, hole_words, is_defined, words, row_words, window_words}
+use Rattle.alpha_hash_defs.specs.Hash.{text_fold}
+use Rattle.alpha_hash_defs.specs.Naming.{Naming, final_text}
+use Rattle.alpha_hash_defs.specs.Numbers.{hash, words_hash}
+use Rattle.alpha_hash_defs.specs.Words.{Word, number, one_if, row_length, lengths_at, kind_words, operator_words, local_words, object_words, field_words, value_text, compared_words, defined_words, constant_words, blank_words, name_words, declared_words, all_declared, constants_words, own_words, hole_words, is_defined, words, row_words, window_words}
 
 -- The second names types by the first's texts, and its fields, objects and locals as the first does.
 pub record Matches {T U : Type 0} (g : T → U) (n : Naming T) (m : Naming U) : Type 0 where

@@ -20,9 +20,9 @@ use Rattle.clone_window.specs.Bodies.{locals_in, statements_at}
 use Rattle.clone_window.specs.Fields.{field_by}
 use Rattle.clone_classes.specs.Listing.{windows_of_all}
 use Rattle.clone_replies.specs.Classes.{listed_content}
-use Rattle.alpha_hash.specs.Naming.{Naming}
-use Rattle.alpha_hash.specs.Numbers.{hash}
-use Rattle.alpha_hash.specs.Packages.{predeclared_text}
+use Rattle.alpha_hash_defs.specs.Naming.{Naming}
+use Rattle.alpha_hash_defs.specs.Numbers.{hash}
+use Rattle.alpha_hash_defs.specs.Packages.{predeclared_text}
 
 -- the name of an object where it is declared
 abbrev pub name_of : List FileTree → Option Declared → List ℕ

@@ -11,7 +11,7 @@ use Rattle.clone_window.specs.Bodies.{bodies_of}
 use Rattle.clone_classes.specs.Listing.{windows_of_all}
 use Rattle.clone_replies.specs.Classes.{classes_in}
 use Rattle.clone_script.specs.Replies.{stat_reply}
-use Rattle.alpha_hash.specs.Packages.{window_hash}
+use Rattle.alpha_hash_defs.specs.Packages.{window_hash}
 use Rattle.clone_replies.specs.declared.numbers.Numbers.{Numbers}
 use Rattle.clone_replies.specs.Names.{hashes_of, windows_of}
 

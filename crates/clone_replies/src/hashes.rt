@@ -5,9 +5,9 @@ ghost use Rattle.std.specs.HashSet as set;
 ghost use Rattle.std.specs.Set.{distinct_count};
 ghost use Rattle.clone_window.specs.Bodies.{bodies_of};
 ghost use Rattle.clone_classes.specs.Listing.{windows_of_all};
-ghost use Rattle.alpha_hash.specs.Sharing.{windows_of_func};
+ghost use Rattle.alpha_hash_defs.specs.Sharing.{windows_of_func};
 
-use alpha_hash::window_hash::WindowHash;
+use alpha_hash_defs::window_hash::WindowHash;
 use go_base::Memory;
 use go_typed::checked::Checked;
 use go_typed::window::Window;

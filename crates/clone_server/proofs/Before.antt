@@ -9,7 +9,7 @@ use Rattle.clone_server.specs.declared.folder.OpenError.{OpenError}
 use Rattle.clone_server.specs.Opening.{opened}
 use Rattle.clone_server.specs.declared.stop.Stop.TheVariants as stop
 use Rattle.clone_server.specs.Session.{Settings, Answering}
-use Rattle.clone_server.specs.Run.{RunsFolder, RunsWords, Untouched}
+use Rattle.clone_server.specs.Run.{EndsBy, RunsFolder, RunsWords, Untouched}
 
 folder_before : (A : Answering) (dir : List ℕ) (x : Result (List FileText) OpenError) (held : Held) (script before : List ℕ) (after : Option Held) (written left : Option (List ℕ)) →
     Untouched held script before after written left → RunsFolder A dir x held script before (Err stop.Memory) after written left
@@ -33,3 +33,7 @@ words_before A (Ok said) held script before after written left u =
     folder_before (A (record { min = said.min; mass = said.mass })) said.dir (opened (held said.dir)) held script before after written left u
 words_before A (Err e) held script before after written left u =
     ((usage, record { front = []; told = u.1 ∙ ap Some (sym (append-nil before)); whole = refl }), u.0, u.2)
+
+pub ends_before : (x : Result Said WordsError) → EndsBy x (Err stop.Memory)
+ends_before (Ok said) = tt
+ends_before (Err e) = tt

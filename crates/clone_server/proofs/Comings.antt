@@ -143,5 +143,5 @@ comes_more old left now middle new after c g = record {
 
 pub comes_none : (old : Taken) (left : List ℕ) (now : Taken) (middle : Option (List ℕ)) (e : IntakeError) (new : Taken) (after : Option (List ℕ)) → (c : Came old left now middle) →
     IsBeginning now.pending → Gets now c.rest (Err e) new after → Comes old left (Err e) new after
-comes_none old left now middle errors.Failed new after c begun g = (c.more, c.rest, c.whole, g.0, subst IsBeginning c.pending begun, ap (λ (t : Taken). t.count) g.1 ∙ c.count)
+comes_none old left now middle errors.Failed new after c begun g = (c.more, c.rest, c.whole, g.0, subst IsBeginning c.pending begun, ap (λ (t : Taken). t.count) g.1 ∙ c.count, ap (λ (t : Taken). t.pending) g.1 ∙ c.pending)
 comes_none old left now middle errors.Memory new after c begun g = tt

@@ -1,9 +1,10 @@
 -- How a run ends.
-use Rattle.std.proofs.Common.{◌≡◌, ℕ, List, [], ◌++◌, Option, Some, Result, Ok, Err, inl, inr, refl, ap, ◌∙◌, append_assoc}
+use Rattle.std.proofs.Common.{◌≡◌, ℕ, List, [], ◌++◌, Option, Some, Result, Ok, Err, IfOk, inl, inr, refl, ap, ◌∙◌, append_assoc}
 use Rattle.go_base.specs.declared.bytes.FileText.{FileText}
 use Rattle.port_io.specs.Held.{Held}
 use Rattle.clone_server.specs.declared.step.End.{End}
 use Rattle.clone_server.specs.Taking.{outcome_of}
+use Rattle.clone_script.specs.Script.{Outcome, done, bad_at, long}
 use Rattle.clone_server.specs.declared.words.WordsError.{WordsError}
 use Rattle.clone_server.specs.Words.{Said, usage}
 use Rattle.clone_server.specs.declared.folder.OpenError.{OpenError}
@@ -12,7 +13,7 @@ use Rattle.clone_server.specs.declared.stop.Stop.{Stop}
 use Rattle.clone_server.specs.declared.stop.Stop.TheVariants as stop
 use Rattle.clone_server.specs.Session.{Settings, Answering, outcome_status, outcome_text}
 use Rattle.clone_server.specs.Serving.{AtEnd, Runs}
-use Rattle.clone_server.specs.Run.{Closes, RunsFiles, Untouched, RunsFolder, RunsWords}
+use Rattle.clone_server.specs.Run.{Closes, CountsEnd, EndsBy, IsEndStatus, RunsFiles, Untouched, RunsFolder, RunsWords}
 use Rattle.clone_server.proofs.Written.{leaves_all}
 use Rattle.clone_server.proofs.Standing.{stands_first}
 
@@ -79,3 +80,27 @@ pub words_memory : (A : Settings → Answering) (x : Result Said WordsError) (he
 words_memory A (Ok said) held script before after written left u =
     folder_memory (A (record { min = said.min; mass = said.mass })) said.dir (opened (held said.dir)) held script before after written left u
 words_memory A (Err e) held script before after written left u = (closes_before usage 2 before written u.1, u.0, u.2)
+
+-- ---- statuses
+
+pub status_ends : (o : Outcome) (r : Result ℕ Stop) → IfOk r (λ n. n ≡ outcome_status o) → IfOk r IsEndStatus
+status_ends done (Ok n) h = inl h
+status_ends (bad_at offset) (Ok n) h = inr (inl h)
+status_ends long (Ok n) h = inr (inr h)
+status_ends o (Err e) h = tt
+
+pub ends_taken : (said : Said) (r : Result ℕ Stop) → IfOk r IsEndStatus → EndsBy (Ok said) r
+ends_taken said (Ok n) h = h
+ends_taken said (Err e) h = tt
+
+pub ends_untaken : (e : WordsError) (r : Result ℕ Stop) (k j : ℕ) → IfOk r (λ n. n ≡ 2) → CountsEnd r k j → EndsBy {X = Said} (Err e) r
+ends_untaken e (Ok n) k j h c = h
+ends_untaken e (Err stop.Sink) k j h c = tt
+ends_untaken e (Err stop.Memory) k j h c = tt
+ends_untaken e (Err stop.Folder) k j h c = c
+ends_untaken e (Err stop.Script) k j h c = c
+ends_untaken e (Err stop.Save) k j h c = c
+
+pub ends_memory : (x : Result Said WordsError) → EndsBy x (Err stop.Memory)
+ends_memory (Ok said) = tt
+ends_memory (Err e) = tt

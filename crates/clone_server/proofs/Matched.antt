@@ -1,12 +1,14 @@
 -- The command as clap knows it, and what its faults say.
-use Rattle.std.proofs.Common.{◌≡◌, ℕ, true, List, [], ◌∷◌, codes, Option, Err, inl, inr, refl, sym, ap, ◌∙◌}
+use Rattle.std.proofs.Common.{◌≡◌, ◌↔◌, ℕ, true, List, [], ◌∷◌, codes, Option, Err, inl, inr, refl, sym, ap, ◌∙◌}
 use Rattle.std.specs.Prelude.{Ok}
 use Rattle.clap.specs.Words.{App, Row, Rule, new_app, with_rule, first_of, is_simple, Text, Kinds, HasKind, kind_of, fault_of, matches_of, is_simple_and_free}
 use Rattle.clap.specs.declared.error.Error.{Error}
 use Rattle.clap.specs.declared.error.kind.ErrorKind.TheVariants as kind
 use Rattle.clap.proofs.OnLiterals.{clap_on_literals}
+use Rattle.go_base.specs.Gives.{Unless}
+use Rattle.clone_server.specs.declared.words.WordsError.{WordsError}
 use Rattle.clone_server.specs.declared.words.WordsError.TheVariants as errors
-use Rattle.clone_server.specs.Words.{goclone, option_rule, folder_rule, found, rows_of_words, number_or, all_said, said_by}
+use Rattle.clone_server.specs.Words.{goclone, option_rule, folder_rule, found, rows_of_words, number_or, all_said, said_by, words_refusal}
 
 pub simple : is_simple_and_free goclone ≡ true
 unfolding clap_on_literals
@@ -26,6 +28,15 @@ some_fault (k ∷ ks) rows e h other = refl
 pub rows_refused : (texts : List Text) (e : Error) → HasKind (fault_of goclone texts) e → (kind_of e ≡ kind.OutOfMemory → ⊥) → rows_of_words texts ≡ Err errors.NotTaken
 unfolding rows_of_words
 rows_refused texts e h other = some_fault (fault_of goclone texts) (matches_of goclone texts) e h other
+
+-- the error that stands for the one of clap
+pub refused_as : (texts : List Text) (e : Error) (told : WordsError) → HasKind (fault_of goclone texts) e → (told ≡ errors.Memory ↔ (kind_of e ≡ kind.OutOfMemory)) →
+    Unless (words_refusal told) (λ f. rows_of_words texts ≡ Err f)
+refused_as texts e errors.Memory h same = tt
+refused_as texts e errors.NotTaken h same = rows_refused texts e h (λ k. no_memory (same.1 k))
+  where
+    no_memory : errors.NotTaken ≡ errors.Memory → ⊥
+    no_memory is = cc
 
 pub plain : is_simple goclone ≡ true
 unfolding clap_on_literals

@@ -19,6 +19,22 @@ abbrev pub status_in : Result ℕ Stop → ℕ
 status_in (Ok status) = status
 status_in (Err e) = status_of e
 
+-- a status of a session that was served to its end, or of a folder that passes a limit
+abbrev pub IsEndStatus : ℕ → Type 0
+IsEndStatus n = (n ≡ 0) ⊎ (n ≡ 3) ⊎ (n ≡ 9)
+
+-- The ends of a run, by what its words say: it has one of the statuses 0, 3 and 9, or stops at an object or for want of memory; where
+-- the words aren't taken it has the status 2, or stops at the sink or for want of memory.
+abbrev pub EndsBy : {X : Type 0} → Result X WordsError → Result ℕ Stop → Type 0
+EndsBy (Ok said) (Ok n) = IsEndStatus n
+EndsBy (Ok said) (Err e) = Unit {0}
+EndsBy (Err e) (Ok n) = n ≡ 2
+EndsBy (Err e) (Err stop.Sink) = Unit {0}
+EndsBy (Err e) (Err stop.Memory) = Unit {0}
+EndsBy (Err e) (Err stop.Folder) = ⊥
+EndsBy (Err e) (Err stop.Script) = ⊥
+EndsBy (Err e) (Err stop.Save) = ⊥
+
 -- ---- counts of faults
 
 -- the sink's count, where only the last bytes are written

@@ -82,5 +82,5 @@ Comes old left (Ok (steps.End end)) new after =
     let front = take (most_script - old.count) left in
     Ends (nat_lt most_script (old.count + length left)) (old.count + length front) (old.pending ++ front) (outcome_of end)
 Comes old left (Err errors.Failed) new after =
-    (more : List ℕ) × (rest : List ℕ) × (left ≡ more ++ rest) × (after ≡ Some rest) × IsBeginning (old.pending ++ more) × (new.count ≡ old.count + length more)
+    (more : List ℕ) × (rest : List ℕ) × (left ≡ more ++ rest) × (after ≡ Some rest) × IsBeginning (old.pending ++ more) × (new.count ≡ old.count + length more) × (new.pending ≡ old.pending ++ more)
 Comes old left (Err errors.Memory) new after = Unit {0}

@@ -64,6 +64,11 @@ abbrev pub or_untaken : Option Said → Result Said WordsError
 or_untaken None = Err errors.NotTaken
 or_untaken (Some s) = Ok s
 
+-- the same of what the matches say
+abbrev pub taken_or_not : Option Words → Result Words WordsError
+taken_or_not None = Err errors.NotTaken
+taken_or_not (Some w) = Ok w
+
 -- the matches, where clap finds no fault
 abbrev pub found : Kinds → List Row → Result (List Row) WordsError
 found [] rows = Ok rows

@@ -6,19 +6,18 @@ ghost use Rattle.std.specs.IoError.{error_kind};
 ghost use Rattle.std.specs.Process.{exit_status};
 ghost use Rattle.port_io.specs.Held.{Held};
 ghost use Rattle.clone_server.specs.Words.{texts_of, words_of};
-ghost use Rattle.clone_server.specs.Run.{CountsAll, RunsWords, status_in};
+ghost use Rattle.clone_server.specs.Run.{CountsAll, EndsBy, RunsWords, status_in};
 ghost use Rattle.clone_server.specs.declared.stop.Stop.{Stop};
 ghost use Rattle.clone_server.specs.Arguments.{words_behind_name};
 
 use crate::Workspace;
 use crate::serve::serve;
-use port_io::{DirFolder, FileSink, FileSource, Folder, Sink, Source};
+use port_io::{Folder, Sink, Source};
 use std::alloc::{AllocError, Global};
 use std::env::Args;
+use std::io;
 use std::io::ErrorKind;
 use std::process::ExitCode;
-use std::rt::{Env, Files};
-use std::{env, io};
 
 /// The status where memory ran out.
 const NO_MEMORY: u8 = 8;
@@ -48,8 +47,8 @@ fn words_of(alloc: Global, args: io::Result<Args>) -> Result<Vec<String>, AllocE
     }
 }
 
-/// Serves the words behind the first argument, and answers the status to end with.
-pub fn serve_arguments<W: Workspace, F: Folder, S: Source, K: Sink>(
+/// Runs the program: serves the words behind the first argument, and answers the status to end with.
+pub fn run<W: Workspace, F: Folder, S: Source, K: Sink>(
     alloc: Global,
     args: io::Result<Args>,
     folder: &mut F,
@@ -57,7 +56,7 @@ pub fn serve_arguments<W: Workspace, F: Folder, S: Source, K: Sink>(
     out: &mut K,
 ) -> ExitCode
     // The contract of `serve`, at the words behind the program's own name.
-    ensures { (r : Result ℕ Stop) × (exit_status result ≡ status_in r)
+    ensures { (r : Result ℕ Stop) × (exit_status result ≡ status_in r) × EndsBy (words_of (texts_of (words_behind_name args))) r
         × CountsAll r (F.reading_faults folder.old) (F.reading_faults folder.new) (F.writing_faults folder.old) (F.writing_faults folder.new) (S.faults script.old) (S.faults script.new) (K.faults out.old) (K.faults out.new)
         × ((held : Held) (before all : List ℕ) → F.held folder.old ≡ Some held → K.written out.old ≡ Some before → S.left script.old ≡ Some all →
         RunsWords W.Answers (words_of (texts_of (words_behind_name args))) held all before r (F.held folder.new) (K.written out.new) (S.left script.new)) }
@@ -66,13 +65,4 @@ pub fn serve_arguments<W: Workspace, F: Folder, S: Source, K: Sink>(
         Ok(words) => ExitCode::from(serve::<W, F, S, K>(alloc, &words, folder, script, out)),
         Err(_) => ExitCode::from(NO_MEMORY),
     }
-}
-
-/// Runs the program over the folders of the file system, standard input and standard output.
-pub fn run<W: Workspace, R: Env + Files + Input + Print + AllocGlobal + Copy>(rt: R) -> ExitCode {
-    let mut folder = DirFolder::new(rt);
-    let mut script = FileSource::new(rt.reader());
-    let mut out = FileSink::new(io::writer(&rt));
-    let args = env::args(&rt);
-    serve_arguments::<W, _, _, _>(rt.alloc(), args, &mut folder, &mut script, &mut out)
 }

@@ -27,7 +27,7 @@ mod stop;
 mod words;
 mod workspace;
 
-pub use arguments::{run, serve_arguments};
+pub use arguments::run;
 pub use folder::{OpenError, open_folder};
 pub use intake::Intake;
 pub use step::{End, IntakeError, Step};

@@ -1,6 +1,6 @@
 //! The whole run: from words, a folder and a script to replies and a status.
 
-ghost use Rattle.std.specs.Prelude.{◌≡◌, List, ℕ, Some, IsSome, Result};
+ghost use Rattle.std.specs.Prelude.{◌≡◌, List, ℕ, Some, IsSome, Result, IfOk};
 ghost use Rattle.go_base.specs.Package.{IsPackage};
 ghost use Rattle.port_io.specs.Held.{Held};
 ghost use Rattle.clone_server.specs.Words.{texts_of, words_of, usage};
@@ -8,7 +8,7 @@ ghost use Rattle.clone_server.specs.Opening.{opened};
 ghost use Rattle.clone_server.specs.Taking.{outcome_of};
 ghost use Rattle.clone_server.specs.Session.{outcome_text, outcome_status};
 ghost use Rattle.clone_server.specs.Serving.{CountsRun};
-ghost use Rattle.clone_server.specs.Run.{CountsAll, CountsEnd, Closes, RunsFiles, RunsFolder, RunsWords, status_in};
+ghost use Rattle.clone_server.specs.Run.{CountsAll, CountsEnd, Closes, RunsFiles, RunsFolder, RunsWords, EndsBy, IsEndStatus, status_in};
 ghost use Rattle.clone_server.specs.declared.stop.Stop.{Stop};
 
 use crate::outside::write_all;
@@ -23,6 +23,7 @@ use std::alloc::Global;
 
 /// Ends a run whose script ended so.
 fn finish<K: Sink>(alloc: Global, end: End, out: &mut K) -> Result<u8, Stop>
+    ensures status { IfOk result (λ n. n ≡ outcome_status (outcome_of end)) }
     ensures count { CountsEnd result (K.faults out.old) (K.faults out.new) }
     ensures told { (before : List ℕ) → K.written out.old ≡ Some before → Closes (outcome_text (outcome_of end)) (outcome_status (outcome_of end)) before result (K.written out.new) }
 {
@@ -39,6 +40,7 @@ fn finish<K: Sink>(alloc: Global, end: End, out: &mut K) -> Result<u8, Stop>
 
 /// Ends a run whose words are not taken.
 fn refuse<K: Sink>(out: &mut K) -> Result<u8, Stop>
+    ensures status { IfOk result (λ n. n ≡ 2) }
     ensures count { CountsEnd result (K.faults out.old) (K.faults out.new) }
     ensures told { (before : List ℕ) → K.written out.old ≡ Some before → Closes usage 2 before result (K.written out.new) }
 {
@@ -57,6 +59,7 @@ fn serve_files<W: Workspace, F: Folder, S: Source, K: Sink>(
 ) -> Result<u8, Stop>
     requires texts { IsPackage texts.items }
     requires chosen { IsSome (F.chosen folder.old) }
+    ensures status { IfOk result IsEndStatus }
     ensures reading { F.reading_faults folder.new ≡ F.reading_faults folder.old }
     ensures counts { CountsRun result (F.writing_faults folder.old) (F.writing_faults folder.new) (S.faults script.old) (S.faults script.new) (K.faults out.old) (K.faults out.new) }
     ensures told { (held : Held) (dir before all : List ℕ) → F.held folder.old ≡ Some held → F.chosen folder.old ≡ Some dir → K.written out.old ≡ Some before → S.left script.old ≡ Some all →
@@ -75,6 +78,7 @@ fn serve_folder<W: Workspace, F: Folder, S: Source, K: Sink>(
     script: &mut S,
     out: &mut K,
 ) -> Result<u8, Stop>
+    ensures status { IfOk result IsEndStatus }
     ensures counts { CountsAll result (F.reading_faults folder.old) (F.reading_faults folder.new) (F.writing_faults folder.old) (F.writing_faults folder.new) (S.faults script.old) (S.faults script.new) (K.faults out.old) (K.faults out.new) }
     ensures told { (held : Held) (before all : List ℕ) → F.held folder.old ≡ Some held → K.written out.old ≡ Some before → S.left script.old ≡ Some all →
         RunsFolder (W.Answers (record { min = said.entry.min; mass = said.entry.mass })) said.entry.dir.now (opened (held said.entry.dir.now)) held all before result (F.held folder.new) (K.written out.new) (S.left script.new) }
@@ -95,6 +99,7 @@ fn run<W: Workspace, F: Folder, S: Source, K: Sink>(
     script: &mut S,
     out: &mut K,
 ) -> Result<u8, Stop>
+    ensures status { EndsBy (words_of (texts_of words.now)) result }
     ensures counts { CountsAll result (F.reading_faults folder.old) (F.reading_faults folder.new) (F.writing_faults folder.old) (F.writing_faults folder.new) (S.faults script.old) (S.faults script.new) (K.faults out.old) (K.faults out.new) }
     ensures told { (held : Held) (before all : List ℕ) → F.held folder.old ≡ Some held → K.written out.old ≡ Some before → S.left script.old ≡ Some all →
         RunsWords W.Answers (words_of (texts_of words.now)) held all before result (F.held folder.new) (K.written out.new) (S.left script.new) }
@@ -118,10 +123,11 @@ pub fn serve<W: Workspace, F: Folder, S: Source, K: Sink>(
     script: &mut S,
     out: &mut K,
 ) -> u8
-    // A run ends with a status, or stops with one of 4 to 8. A count rose exactly where the run stopped at that object.
+    // Whatever the objects tell, a run ends with 0, 3 or 9, or with 2 exactly where the words are not taken, or stops with one
+    // of 4 to 8. A count rose exactly where the run stopped at that object.
     // Where all contents are told, the status, the bytes written and the folders are those of the session that begins at the
     // folder's files, or those up to the stop.
-    ensures { (r : Result ℕ Stop) × (result ≡ status_in r)
+    ensures { (r : Result ℕ Stop) × (result ≡ status_in r) × EndsBy (words_of (texts_of words.now)) r
         × CountsAll r (F.reading_faults folder.old) (F.reading_faults folder.new) (F.writing_faults folder.old) (F.writing_faults folder.new) (S.faults script.old) (S.faults script.new) (K.faults out.old) (K.faults out.new)
         × ((held : Held) (before all : List ℕ) → F.held folder.old ≡ Some held → K.written out.old ≡ Some before → S.left script.old ≡ Some all →
         RunsWords W.Answers (words_of (texts_of words.now)) held all before r (F.held folder.new) (K.written out.new) (S.left script.new)) }

@@ -1,14 +1,14 @@
 //! The words behind the program's own name.
 
-ghost use Rattle.std.specs.Prelude.{◌≡◌, IfOk};
+ghost use Rattle.std.specs.Prelude.{◌≡◌, ◌↔◌, IfOk};
 ghost use Rattle.std.specs.Option.{option_map};
-ghost use Rattle.clap.specs.Words.{app_of, rows_of, found_of};
+ghost use Rattle.clap.specs.Words.{app_of, rows_of, found_of, kind_of};
 ghost use Rattle.go_base.specs.Gives.{Gives};
-ghost use Rattle.clone_server.specs.Words.{goclone, said_of, all_said, said_by, number_or, rows_of_words, words_of, words_refusal, texts_of};
+ghost use Rattle.clone_server.specs.Words.{goclone, said_of, all_said, said_by, number_or, rows_of_words, words_of, words_refusal, taken_or_not, texts_of};
 
 use crate::number::whole_number;
 use clap::error::ErrorKind;
-use clap::{Arg, ArgAction, ArgMatches, Command};
+use clap::{Arg, ArgAction, ArgMatches, Command, Error};
 use std::alloc::{AllocError, Global};
 
 /// What is written where the words are not taken.
@@ -88,14 +88,34 @@ fn command<'a>(alloc: Global) -> Result<Command<'a>, AllocError>
     named.arg(min)?.arg(mass)?.arg(dir)
 }
 
+/// The words are not taken, unless memory ran out.
+fn cause(error: Error) -> WordsError
+    ensures { (result ≡ WordsError.Memory) ↔ (kind_of error ≡ ErrorKind.OutOfMemory) }
+{
+    if error.kind() == ErrorKind::OutOfMemory {
+        WordsError::Memory
+    } else {
+        WordsError::NotTaken
+    }
+}
+
 /// The matches of the words, as `clap` finds them.
 fn matches_of<'a>(alloc: Global, words: &'a [String]) -> Result<ArgMatches<'a>, WordsError>
     ensures { Gives (λ m. rows_of (found_of m)) words_refusal result (rows_of_words (texts_of words.entry.now)) }
 {
     match command(alloc)?.try_get_matches_from(words) {
         Ok(matches) => Ok(matches),
-        Err(error) if error.kind() == ErrorKind::OutOfMemory => Err(WordsError::Memory),
-        Err(_) => Err(WordsError::NotTaken),
+        Err(error) => Err(cause(error)),
+    }
+}
+
+/// Words that say nothing are not taken.
+fn taken_or_not(said: Option<Words>) -> Result<Words, WordsError>
+    ensures { result ≡ taken_or_not said.entry }
+{
+    match said {
+        Some(said) => Ok(said),
+        None => Err(WordsError::NotTaken),
     }
 }
 
@@ -106,5 +126,5 @@ pub fn words_of<'a>(alloc: Global, words: &'a [String]) -> Result<Words<'a>, Wor
     ensures { Gives said_of words_refusal result (words_of (texts_of words.entry.now)) }
 {
     let matches = matches_of(alloc, words)?;
-    said(&matches).ok_or(WordsError::NotTaken)
+    taken_or_not(said(&matches))
 }

@@ -3,4 +3,4 @@ mod Spans
 mod Runs
 mod Placed
 mod Answering
-mod Replies
+mod PackageReplies

@@ -8,7 +8,7 @@ ghost use Rattle.clone_session.specs.Answers.{fault_line, Answers, IsListing, Is
 use crate::numbers::numbers_line;
 use crate::run_answers::ran;
 use crate::{Check, Session};
-use alpha_hash::window_hash::WindowHash;
+use alpha_hash_defs::window_hash::WindowHash;
 use clone_script::{Command, fault_reply};
 use go_base::{Bytes, Fault, Memory, Steps};
 use std::alloc::Global;

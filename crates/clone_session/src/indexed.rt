@@ -10,7 +10,7 @@ ghost use Rattle.clone_session.specs.Session.{IsIndexed, window_count};
 
 use crate::laws::listings_follow_from_the_texts;
 use crate::verdict::Verdict;
-use alpha_hash::window_hash::WindowHash;
+use alpha_hash_defs::window_hash::WindowHash;
 use go_base::{Memory, Steps};
 use go_typed::checked::Checked;
 use go_typed::window::Class;

@@ -7,7 +7,7 @@ ghost use Rattle.clone_session.specs.Session.{IsGoodVerdict};
 ghost use Rattle.clone_replies.specs.Numbers.{numbers_in, numbers_reply};
 
 use crate::{Check, Session};
-use alpha_hash::window_hash::WindowHash;
+use alpha_hash_defs::window_hash::WindowHash;
 use clone_script::stat_reply;
 use go_base::{Bytes, Memory};
 use std::alloc::Global;

@@ -10,7 +10,7 @@ ghost use Rattle.clone_session.specs.Answers.{IsRun, PackageReply};
 
 use crate::answers::{fault_line, refresh};
 use crate::{Check, Session};
-use alpha_hash::window_hash::WindowHash;
+use alpha_hash_defs::window_hash::WindowHash;
 use clone_replies::run_reply::reply_to;
 use go_base::{Bytes, Memory};
 use std::alloc::Global;

@@ -26,7 +26,7 @@ use crate::laws::listings_follow_from_the_texts;
 use crate::run::run_of;
 use crate::verdict::{Verdict, verdict_of};
 use crate::{answer, file_at};
-use alpha_hash::window_hash::WindowHash;
+use alpha_hash_defs::window_hash::WindowHash;
 use clone_replies::{Numbers, class_reply, numbers_of};
 use clone_script::Command;
 use edit_apply::{EditError, Texts};

@@ -5,7 +5,7 @@ ghost use Rattle.clone_session.specs.Answers.{are_bounds, Answers, settings_of};
 
 use crate::answers::answer;
 use crate::{Check, Session};
-use alpha_hash::window_hash::WindowHash;
+use alpha_hash_defs::window_hash::WindowHash;
 use clone_script::Command;
 use clone_server::Workspace;
 use go_base::{Bytes, FileText, Memory};

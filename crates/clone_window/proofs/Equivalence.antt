@@ -17,7 +17,7 @@ use Rattle.go_typed.specs.Forms.{local_of}
 use Rattle.clone_window.specs.Kinds.{outline}
 use Rattle.clone_window.specs.Masses.{is_hole, is_inside}
 use Rattle.clone_window.specs.Sameness.{same_value, const_kind, Final, of_type, of_kind, of_none, final, same_final, standing, value_of, same_values, are_alike, same_literal, same_outline, Compared, by_form, by_sort, by_literal, compared, agree_besides, agree_at, agree, all_agree, locals, all_locals, local_pairs, is_one_to_one, sort_at, is_matched, is_same}
-use Rattle.clone_window.proofs.Pairing.{along-refl, along-sym, along-trans, one-refl, one-sym, one-trans}
+use Rattle.clone_window.proofs.LocalPairs.{along-refl, along-sym, along-trans, one-refl, one-sym, one-trans}
 
 -- ---- tests of identity, of one package with itself and between packages
 

@@ -1,7 +1,7 @@
 pub mod Examples
 pub mod Opened
 pub mod Equivalence
-pub mod Pairing
+pub mod LocalPairs
 pub mod RunParts
 pub mod Runs
 pub mod Sizes

@@ -71,6 +71,8 @@ fn reaches_the_file_system(rt: HostRuntime) -> Result<(), Fail> {
     let mut folder = DirFolder::new(rt.clone()?);
     for dir in ["port_io_files", "port_io_files/"] {
         folder.select(dir)?;
+        folder.write(&name, b"")?;
+        assert!(rt; folder.read(&name)?.as_slice().is_empty());
         folder.write(&name, dir.as_bytes())?;
         let text = fs::read_to_string(&rt, "port_io_files/a.go")?;
         assert_eq!(rt; text.as_str(), dir);

@@ -20,8 +20,8 @@ use Rattle.clone_window.specs.declared.outline.Outline.{Outline}
 use Rattle.clone_window.specs.Kinds.{referent_outline}
 use Rattle.clone_window.specs.Sameness.{same_outline}
 use Rattle.clone_classes.specs.Heads.{Home, in_package, in_function, homes_match, home_of, corresponds}
-use Rattle.alpha_hash.specs.Packages.{predeclared_text, declared_text, object_text}
-use Rattle.alpha_hash.proofs.Public.{name-is}
+use Rattle.alpha_hash_defs.specs.Packages.{predeclared_text, declared_text, object_text}
+use Rattle.alpha_hash_defs.proofs.Public.{name-is}
 use Rattle.go_heads_types.specs.WindowPackages.{package_read, package_files}
 use Rattle.go_heads_types.proofs.Bodies.{LiesIn, same_bodies}
 use Rattle.go_heads_types.proofs.Homes.{IsLocalName, IsNameAt, DeclareByThemselves, LocalsFollow, named_by_home}

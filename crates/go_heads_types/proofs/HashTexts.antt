@@ -13,8 +13,8 @@ use Rattle.go_typed.specs.Packages.{PackageView}
 use Rattle.go_print.specs.Names.{declared_name}
 use Rattle.go_print.specs.Texts.{fields_text, function_text, kind_text, named, row_texts, type_text}
 use Rattle.clone_classes.specs.Heads.{all_match, corresponds, identical_between, matches}
-use Rattle.alpha_hash.specs.Sharing.{ShareNames}
-use Rattle.alpha_hash.proofs.Public.{name-is}
+use Rattle.alpha_hash_defs.specs.Sharing.{ShareNames}
+use Rattle.alpha_hash_defs.proofs.Public.{name-is}
 use Rattle.go_heads_types.specs.Names.{AreNamedAlike}
 
 -- the text of the kind of this number

@@ -13,7 +13,7 @@ ghost use Rattle.go_heads_types.specs.HeadPortions.{IsFaultless, KeepsTypedFunct
 ghost use Rattle.go_heads_types.specs.Answers.{KeepsAnswer};
 ghost use Rattle.go_typed.specs.declared.window.Window.{Window as Run};
 ghost use Rattle.go_typed.specs.Packages.{PackageView};
-ghost use Rattle.alpha_hash.specs.Sharing.{IsLawful, ShareNames};
+ghost use Rattle.alpha_hash_defs.specs.Sharing.{IsLawful, ShareNames};
 ghost use Rattle.clone_classes.specs.Heads.{identical_between, same_between};
 ghost use Rattle.go_heads_types.specs.Names.{AreNamedAlike};
 ghost use Rattle.go_heads_types.specs.Needs.{KeepsNeeds};
@@ -30,10 +30,10 @@ ghost use Rattle.go_heads_types.specs.Same.{SameDeclarations};
 ghost use Rattle.go_heads_types.specs.States.{SameKnowledge};
 ghost use Rattle.go_package_defs.specs.Bodies.{Behind, Surroundings, count_types, typed_function, types_in};
 ghost use Rattle.go_types.specs.Relations.{Rights};
-ghost use Rattle.alpha_hash.specs.Packages.{window_hash};
+ghost use Rattle.alpha_hash_defs.specs.Packages.{window_hash};
 ghost use Rattle.go_heads_types.specs.WindowPackages.{package_read, package_files, package_head};
 
-use alpha_hash::window_hash::WindowHash;
+use alpha_hash_defs::window_hash::WindowHash;
 use go_elsewhere::laws::{moved_expressions_are_typed_the_same, trees_further_on_keep_their_names};
 use go_heads::laws::{
     functions_declare_by_themselves, functions_have_names, functions_keep_their_numbers,

@@ -15,7 +15,7 @@ ghost use Rattle.go_package_rounds.specs.Held.{held_seen, summary, KnownHeld, Kn
 ghost use Rattle.go_package_rounds.specs.World.{package_in, outlines_in, Fits, StandsFor, KnownStandings, specifications_in};
 
 use crate::held::Held;
-use crate::scope::{locals_at, scope_in};
+use crate::scope::{locals_at, scope_in, tokens_of};
 use crate::world::{World, named_type, specification_at, type_number};
 use go_base::Memory;
 use go_declarations::Specification;
@@ -45,8 +45,20 @@ fn judge_value(
     ensures known { IfOk result (KnownHeld (length types.new.shapes)) }
 {
     types.count();
+    let Some(tokens) = tokens_of(world, specification.file) else {
+        return Err(Memory);
+    };
     let locals = locals_at(alloc, specification.iota)?;
-    let scope = scope_in(world, &locals, sound, specification, true)?;
+    let scope = scope_in(
+        world.uses,
+        world.env,
+        tokens,
+        &locals,
+        sound,
+        world.basics,
+        specification.entity,
+        true,
+    );
     let verdict = judge_name(alloc, types, &scope, specification, column)?;
     Ok(Held {
         right: None,
@@ -73,8 +85,20 @@ fn right_of(
     ensures known { IfOk result (KnownRight (length types.new.shapes)) }
 {
     types.count();
+    let Some(tokens) = tokens_of(world, specification.file) else {
+        return Err(Memory);
+    };
     let locals = locals_at(alloc, specification.iota)?;
-    let scope = scope_in(world, &locals, told, specification, false)?;
+    let scope = scope_in(
+        world.uses,
+        world.env,
+        tokens,
+        &locals,
+        told,
+        world.basics,
+        specification.entity,
+        false,
+    );
     right_side(alloc, types, &scope, specification)
 }
 
@@ -94,8 +118,20 @@ fn fault_of(
         → IfOk result (λ o. o ≡ least (type_faults (free_scope (package_in world.now) (outlines_in world.now) ss d) d)) }
 {
     types.count();
+    let Some(tokens) = tokens_of(world, specification.file) else {
+        return Err(Memory);
+    };
     let locals = locals_at(alloc, specification.iota)?;
-    let scope = scope_in(world, &locals, sound, specification, true)?;
+    let scope = scope_in(
+        world.uses,
+        world.env,
+        tokens,
+        &locals,
+        sound,
+        world.basics,
+        specification.entity,
+        true,
+    );
     type_fault(alloc, types, &scope, specification)
 }
 

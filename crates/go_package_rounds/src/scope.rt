@@ -2,20 +2,22 @@
 ghost use Rattle.std.specs.Prelude.{◌≡◌, ℕ, [], Bool, List, IfOk, IfSome};
 ghost use Rattle.go_types.specs.Tables.{Table, rights_of};
 ghost use Rattle.go_exprs_types.specs.Naming.{names, text_in, need_seen, KnownScope};
+ghost use Rattle.go_package_defs.specs.Declarations as declarations;
 ghost use Rattle.go_package_defs.specs.Knowledge as knowledge;
 ghost use Rattle.go_package_defs.specs.Knowledge.{State, need_in, scope_where};
 ghost use Rattle.go_package_defs.specs.Sources.{tokens_in, text_at};
 ghost use Rattle.go_tokens.specs.Tokens.{IsTokenList};
-ghost use Rattle.go_declarations.specs.Views.{specification_view};
+ghost use Rattle.go_package_rounds.specs.declared.world.World.{World};
 ghost use Rattle.go_package_rounds.specs.World.{package_in, outlines_in, Fits, StandsFor, KnownStandings};
 
 use crate::world::World;
 use go_base::Memory;
-use go_declarations::Specification;
+use go_exprs_rules::Basics;
 use go_exprs_types::{Needed, Scope, Standing};
 use go_tokens::tokens::Tokens;
 use go_tree::context::Entity;
-use go_typed::Locals;
+use go_tree::uses::Uses;
+use go_typed::{Env, Locals};
 use std::alloc::Global;
 
 /// The tokens of the file of this number, if there are so many and it has this number itself.
@@ -58,36 +60,33 @@ fn need_in(entity: Entity) -> Needed
 }
 
 /// The scope of a specification, in which the objects stand for this.
-///
-/// # Errors
-///
-/// Want of memory, also where its file isn't there.
 pub fn scope_in<'b>(
-    world: &World<'b>,
+    uses: &'b Uses,
+    env: &'b Env,
+    tokens: &'b Tokens,
     locals: &'b Locals,
     told: &'b [Standing],
-    specification: &Specification<'_>,
+    basics: Basics,
+    entity: Entity,
     limits: bool,
-) -> Result<Scope<'b>, Memory>
-    ensures is { let p = package_in world.now in let d = specification_view specification.now in
-        (t : Table) (test : State → Bool) (ss : List State) → Fits t world.now → StandsFor t world.now test told.now ss → rights_of t ≡ knowledge.rights_of p ss
-        → locals.now ≡ record { sorts = []; iota = d.iota } → IfOk result (λ s. names t s ≡ scope_where test limits p (outlines_in world.now) ss d) }
-    ensures known { (t : Table) (n : ℕ) → Fits t world.now → locals.now.sorts ≡ [] → KnownStandings n told.now → IfOk result (KnownScope n) }
-    ensures texts { IfOk result (λ s. text_in s ≡ text_at (package_in world.now) specification.now.file) }
-    ensures basics { IfOk result (λ s. s.basics ≡ world.now.basics) }
+) -> Scope<'b>
+    ensures is { (w : World) (t : Table) (test : State → Bool) (ss : List State) (d : declarations.Specification) → uses.now ≡ w.uses.now → env.now ≡ w.env.now → Fits t w → StandsFor t w test told.now ss
+        → rights_of t ≡ knowledge.rights_of (package_in w) ss → tokens.now ≡ tokens_in (package_in w) d.file → tokens.now.file ≡ d.file
+        → locals.now ≡ record { sorts = []; iota = d.iota } → entity ≡ d.entity
+        → names t result ≡ scope_where test limits (package_in w) (outlines_in w) ss d }
+    ensures known { (w : World) (t : Table) (n : ℕ) → env.now ≡ w.env.now → Fits t w → locals.now.sorts ≡ [] → KnownStandings n told.now → KnownScope n result }
+    ensures texts { (w : World) (file : ℕ) → tokens.now ≡ tokens_in (package_in w) file → text_in result ≡ text_at (package_in w) file }
+    ensures basics { result.basics ≡ basics }
 {
-    let Some(tokens) = tokens_of(world, specification.file) else {
-        return Err(Memory);
-    };
-    Ok(Scope {
+    Scope {
         tokens,
-        uses: world.uses,
-        env: world.env,
+        uses,
+        env,
         locals,
-        basics: world.basics,
+        basics,
         told,
-        needed: need_in(specification.entity),
+        needed: need_in(entity),
         limits,
         base: 0,
-    })
+    }
 }

@@ -1,4 +1,4 @@
 mod Told
-mod Marks
+mod StageMarks
 mod Objects
 mod Stages

@@ -18,7 +18,7 @@ use Rattle.go_package_stages.specs.Marks.{known_from, mark_before, is_before}
 use Rattle.go_package_stages.specs.declared.numbers.Numbers.{Numbers}
 use Rattle.go_package_stages.specs.Numbers.{number_at, ranks_in}
 use Rattle.go_package_stages.specs.Marked.{is_reached, AreReached, mark_at, marks_from}
-use Rattle.go_package_stages.proofs.Marks.{all_before, mark_is}
+use Rattle.go_package_stages.proofs.StageMarks.{all_before, mark_is}
 
 pub item_at : {A : Type 0} (xs : List A) (n : ℕ) → n < length xs → (x : A) × (slice_get xs n ≡ Some x)
 item_at [] n h = absurd (omega (arith, h))

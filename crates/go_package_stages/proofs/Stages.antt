@@ -20,7 +20,7 @@ use Rattle.go_package_stages.specs.declared.marked.Trial.{Trial}
 use Rattle.go_package_stages.specs.declared.numbers.Numbers.{Numbers}
 use Rattle.go_package_stages.specs.Numbers.{ranks_in, at_most, types_told}
 use Rattle.go_package_stages.specs.Marked.{AreReached, AreClosed, marks_from, NamesMarked, TypeMarked, IsMarkedAs}
-use Rattle.go_package_stages.proofs.Marks.{number_most, type_told}
+use Rattle.go_package_stages.proofs.StageMarks.{number_most, type_told}
 use Rattle.go_package_stages.proofs.Objects.{need_before, types_before}
 
 pub outlines_many : (p : Package) (ds : List Specification) → length (outlines p ds) ≡ length p.uses.package_level

@@ -29,7 +29,7 @@ use Rattle.go_package_types.specs.Merged.{merged, failure_in}
 use Rattle.go_package_types.specs.Places.{SpecificationStands}
 use Rattle.go_package_types.proofs.Merged.{least_from_append}
 use Rattle.go_package_types.proofs.Noted.{nothing_fails, inner_fails, own_fails, blocked_fails}
-use Rattle.go_package_types.proofs.Whole.{whole_at}
+use Rattle.go_package_types.proofs.WholeAnswers.{whole_at}
 
 -- what is known stays known
 pub tells_more : (old new : Table) → IsTable old → Grows old new → (w : World) (k : Known) (ss : List State) → KnownStandings (length old.shapes) k.sound.now → Tells old w k ss → Tells new w k ss

@@ -1,4 +1,4 @@
-pub mod Whole
+pub mod WholeAnswers
 pub mod Kept
 pub mod Merged
 pub mod Read

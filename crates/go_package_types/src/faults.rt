@@ -62,8 +62,20 @@ fn fault_as(
         → IfOk result (λ o. o ≡ faults.least (failing_as_whole blocked (free_scope (package_in world.now) (outlines_in world.now) ss d) d)) }
 {
     types.count();
+    let Some(tokens) = tokens_of(world, specification.file) else {
+        return Err(Memory);
+    };
     let locals = locals_at(alloc, specification.iota)?;
-    let scope = scope_in(world, &locals, known.sound, specification, true)?;
+    let scope = scope_in(
+        world.uses,
+        world.env,
+        tokens,
+        &locals,
+        known.sound,
+        world.basics,
+        specification.entity,
+        true,
+    );
     specification_fault(alloc, types, &scope, specification, blocked)
 }
 

@@ -23,7 +23,7 @@ use Rattle.go_rewriting.specs.Sites.{Site, whole, items, patch_of, Sits}
 use Rattle.go_rewriting.proofs.Operands.{operand_stands}
 use Rattle.go_rewriting.proofs.Words.{run_fits}
 use Rattle.go_rewriting.proofs.Texts.{sites_changed, file_sites_changed, with_one_more}
-use Rattle.go_rewriting.specs.DerivationExamples.{Examples, name, call_words, call, new_sum_tokens, new_sum, expression, signature, count_up, count_down, called, result_tokens, result}
+use Rattle.go_rewriting.specs.DerivationExamples.{DerivationExamples, name, call_words, call, new_sum_tokens, new_sum, expression, signature, count_up, count_down, called, result_tokens, result}
 
 abbrev change : ℕ → ℕ → Change
 change i j = record { from = i; upto = j; words = call_words }

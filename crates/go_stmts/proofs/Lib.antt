@@ -8,8 +8,8 @@ pub mod Names
 pub mod Declared
 pub mod Showing
 pub mod Sources
-pub mod Parameters
-pub mod Statements
+pub mod FrameParameters
+pub mod FrameStatements
 pub mod Readings
 pub mod Steps
 pub mod Closing

@@ -5,7 +5,7 @@
 ghost use Rattle.std.specs.Prelude.{◌≡◌, ◌≤◌};
 
 use crate::packages::package_of;
-use alpha_hash::window_hash::ConstantHash;
+use alpha_hash_defs::window_hash::ConstantHash;
 use case_tables::table::Table;
 use clone_classes::pairwise::pairwise;
 use clone_replies::class_reply;

@@ -23,6 +23,19 @@ pub fn declared_names(alloc: Global, package: &Checked) -> Result<Vec<u8>, Memor
     Ok(out)
 }
 
+/// The same of the last file alone.
+///
+/// # Errors
+///
+/// Want of memory.
+pub fn last_names(alloc: Global, package: &Checked) -> Result<Vec<u8>, Memory> {
+    let mut out = Vec::new(alloc);
+    if let Some((number, file)) = package.files().iter().enumerate().last() {
+        push_file(alloc, package, number, file, &mut out)?;
+    }
+    Ok(out)
+}
+
 /// Puts the lines of the names that a file declares behind the others.
 fn push_file(
     alloc: Global,

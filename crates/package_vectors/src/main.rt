@@ -2,7 +2,8 @@
 //! the clone classes that are listed under a hash that tells no windows apart.
 //!
 //! The answers of `types_of` come from another reading of the language, made apart from these crates. The rows of `worked_types` and
-//! `collisions` were worked out by hand.
+//! `collisions` were worked out by hand. In `read_back` the texts that such answers print stand in a further file of their package, as
+//! the type of a variable or as a constant: lexed, parsed and typed, they are printed as they were.
 //!
 //! The tables lie in the folder that the program is run in, each as a file `NAME.tsv`. A table that is not there is passed over.
 //! Each difference is printed, and for each table a line, as `types_of 522 of 522`: how many of its cases agree.
@@ -22,8 +23,22 @@ fn main(rt: HostRuntime) -> anyhow::Result<()> {
         &rt,
         &TypesOf {
             name: "worked_types",
+            of_last: false,
         },
     )?;
-    run(&rt, &TypesOf { name: "types_of" })?;
+    run(
+        &rt,
+        &TypesOf {
+            name: "types_of",
+            of_last: false,
+        },
+    )?;
+    run(
+        &rt,
+        &TypesOf {
+            name: "read_back",
+            of_last: true,
+        },
+    )?;
     run(&rt, &Collisions)
 }

@@ -1,7 +1,7 @@
 //! The tables of types: a number, the files in hexadecimal digits, divided by blanks, and a field for each variable and constant that is
 //! not blank and no parameter, in the order of files and places: `var NAME TYPE` or `const NAME TYPE = VALUE`, with `local `
-//! before it in a function.
-use crate::declared_names::declared_names;
+//! before it in a function. In some of them the fields tell of the last file alone.
+use crate::declared_names::{declared_names, last_names};
 use crate::packages::package_of;
 use case_tables::folders::numbered;
 use case_tables::table::Table;
@@ -12,6 +12,8 @@ use std::alloc::Global;
 pub struct TypesOf {
     /// Its name.
     pub name: &'static str,
+    /// Whether its fields tell of the last file alone.
+    pub of_last: bool,
 }
 
 impl Table for TypesOf {
@@ -27,7 +29,11 @@ impl Table for TypesOf {
         let Some(package) = package_of(alloc, folder.as_str())? else {
             return Ok(Some(String::from_str(alloc, "a fault")?));
         };
-        let names = declared_names(alloc, package.package())?;
+        let names = if self.of_last {
+            last_names(alloc, package.package())?
+        } else {
+            declared_names(alloc, package.package())?
+        };
         compared(alloc, &names, wanted)
     }
 }

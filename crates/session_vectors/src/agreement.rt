@@ -5,7 +5,7 @@ ghost use Rattle.std.specs.Prelude.{◌≡◌, ◌≤◌, IfOk};
 ghost use Rattle.go_base.specs.Package.{IsPackage};
 
 use alpha_hash::alpha::AlphaHash;
-use alpha_hash::window_hash::{ConstantHash, WindowHash};
+use alpha_hash_defs::window_hash::{ConstantHash, WindowHash};
 use clone_classes::pairwise::pairwise;
 use clone_program::PackageCheck;
 use clone_replies::class_reply;

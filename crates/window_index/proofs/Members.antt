@@ -3,7 +3,7 @@ use Rattle.std.proofs.Common.{◌≡◌, ℕ, List, [], ◌∷◌, map, refl, ap
 use Rattle.std.specs.List.Sorted.{IsPermutation}
 use Rattle.std.proofs.lemmas.List.Sorted.{IsPermutation-map}
 use Rattle.go_typed.specs.declared.window.Window.{Window}
-use Rattle.alpha_hash.specs.Sharing.{numbered}
+use Rattle.alpha_hash_defs.specs.Sharing.{numbered}
 
 unnumbered : (number : Window → ℕ) (ws : List Window) → map (λ (x : Window × ℕ). x.0) (numbered number ws) ≡ ws
 unnumbered number [] = refl

@@ -13,7 +13,7 @@ use Rattle.clone_window.specs.Windows.{is_heavy, list_count, run_at, windows, wi
 use Rattle.clone_window.specs.Bodies.{Body}
 use Rattle.clone_classes.specs.Classes.{Among}
 use Rattle.clone_classes.specs.Listing.{windows_of_all}
-use Rattle.alpha_hash.specs.Sharing.{numbered, windows_of_func, windows_there}
+use Rattle.alpha_hash_defs.specs.Sharing.{numbered, windows_of_func, windows_there}
 use Rattle.window_index.specs.Buckets.{is_of}
 
 -- ---- each is of the function

@@ -16,8 +16,8 @@ use Rattle.clone_window.specs.Windows.{windows}
 use Rattle.clone_window.specs.Bodies.{Body, bodies_of, body_of}
 use Rattle.clone_classes.specs.Listing.{windows_of_all}
 use Rattle.clone_classes.proofs.Public.{functions-step, number-is}
-use Rattle.alpha_hash.specs.Sharing.{numbered, windows_of_func}
-use Rattle.alpha_hash.proofs.Public as functions
+use Rattle.alpha_hash_defs.specs.Sharing.{numbered, windows_of_func}
+use Rattle.alpha_hash_defs.proofs.Public as functions
 use Rattle.window_index.specs.Buckets.{Bucket, held, is_of}
 use Rattle.window_index.specs.Fitting.{FitsPackage, IndexView}
 use Rattle.window_index.proofs.Owners.{own-windows}

@@ -5,7 +5,7 @@ use Rattle.go_typed.specs.declared.window.Window.{Window}
 use Rattle.go_typed.specs.Packages.{PackageView}
 use Rattle.clone_window.specs.Bodies.{bodies_of}
 use Rattle.clone_classes.specs.Listing.{windows_of_all}
-use Rattle.alpha_hash.specs.Sharing.{numbered}
+use Rattle.alpha_hash_defs.specs.Sharing.{numbered}
 use Rattle.window_index.specs.Buckets.{held}
 use Rattle.window_index.specs.Fitting.{FitsPackage, IndexView}
 

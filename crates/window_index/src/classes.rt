@@ -7,7 +7,7 @@ ghost use Rattle.window_index.specs.Holding.{HoldsPackage};
 
 use crate::index::Index;
 use crate::laws::{groups_are_the_classes, windows_lie_in_order};
-use alpha_hash::window_hash::WindowHash;
+use alpha_hash_defs::window_hash::WindowHash;
 use clone_classes::listed::listed;
 use go_base::Memory;
 use go_typed::checked::Checked;

@@ -6,14 +6,14 @@ ghost use Rattle.std.specs.List.Sorted.{IsPermutation};
 ghost use Rattle.go_typed.specs.Packages.{PackageView as Package};
 ghost use Rattle.clone_window.specs.Bodies.{bodies_of, same_in};
 ghost use Rattle.clone_classes.specs.Listing.{members_of};
-ghost use Rattle.alpha_hash.specs.Sharing.{numbered, windows_of_func};
+ghost use Rattle.alpha_hash_defs.specs.Sharing.{numbered, windows_of_func};
 ghost use Rattle.window_index.specs.Buckets.{all_entered, entered, groups_in, held, is_of, is_some_left, is_two, left, without};
 ghost use Rattle.window_index.specs.Counting.{group_count, rivals};
 ghost use Rattle.window_index.specs.Fitting.{AreBounds, FitsPackage};
 ghost use Rattle.window_index.specs.Groups.{count_at, groups_there, joined_at};
 
 use crate::groups::Groups;
-use alpha_hash::window_hash::WindowHash;
+use alpha_hash_defs::window_hash::WindowHash;
 use clone_window::bounds::Bounds;
 use go_base::{Memory, Steps};
 use go_typed::checked::Checked;

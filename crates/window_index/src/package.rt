@@ -6,7 +6,7 @@ ghost use Rattle.clone_classes.specs.Listing.{windows_of_all};
 ghost use Rattle.window_index.specs.Holding.{HoldsPackage};
 
 use crate::index::Index;
-use alpha_hash::window_hash::WindowHash;
+use alpha_hash_defs::window_hash::WindowHash;
 use go_base::{Memory, Steps};
 use go_typed::checked::Checked;
 use std::alloc::Global;

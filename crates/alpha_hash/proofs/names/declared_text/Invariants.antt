@@ -1,5 +1,5 @@
 use Rattle.std.proofs.Common.{◌≡◌, drop}
-use Rattle.alpha_hash.specs.Packages.{declared_text}
+use Rattle.alpha_hash_defs.specs.Packages.{declared_text}
 use Rattle.alpha_hash.proofs.names.declared_text.Given as goal
 
 abbrev pub invariant-loop-number : goal.invariant-loop-number

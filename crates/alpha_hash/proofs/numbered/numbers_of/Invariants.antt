@@ -1,6 +1,6 @@
 use Rattle.std.proofs.Common.{◌≡◌, ◌++◌, drop}
-use Rattle.alpha_hash.specs.Sharing.{numbered}
-use Rattle.alpha_hash.specs.Packages.{window_hash}
+use Rattle.alpha_hash_defs.specs.Sharing.{numbered}
+use Rattle.alpha_hash_defs.specs.Packages.{window_hash}
 use Rattle.alpha_hash.specs.Starts.{IsStart}
 use Rattle.alpha_hash.proofs.numbered.numbers_of.Given as goal
 

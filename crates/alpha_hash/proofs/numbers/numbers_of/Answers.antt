@@ -1,7 +1,7 @@
 use Rattle.std.proofs.Common.{◌∙◌, ◌+◌, ◌++◌, ◌∷◌, [], refl, ap}
 use Rattle.std.specs.Prelude.{◌%◌, ◌^◌, nat_eq}
 use Rattle.std.specs.HashMap.{get}
-use Rattle.alpha_hash.specs.Hash.{mix}
+use Rattle.alpha_hash_defs.specs.Hash.{mix}
 use Rattle.alpha_hash.specs.Shown.{shown}
 use Rattle.alpha_hash.proofs.Folds.{rolled-more}
 use Rattle.alpha_hash.proofs.Rows.{word-at}

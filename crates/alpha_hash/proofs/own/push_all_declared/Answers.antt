@@ -2,7 +2,7 @@ use Rattle.alpha_hash.specs.Shown.{shown}
 use Rattle.alpha_hash.proofs.Rows.{declared-more, row-known}
 use Rattle.std.proofs.Common.{◌++◌}
 use Rattle.go_typed.specs.Views.{views}
-use Rattle.alpha_hash.specs.Words.{all_declared}
+use Rattle.alpha_hash_defs.specs.Words.{all_declared}
 use Rattle.alpha_hash.specs.Shown.{naming}
 use Rattle.alpha_hash.proofs.own.push_all_declared.Goals as goal
 

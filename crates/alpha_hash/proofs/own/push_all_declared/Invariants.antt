@@ -1,6 +1,6 @@
 use Rattle.std.proofs.Common.{◌≡◌, ◌++◌, drop, true}
 use Rattle.go_typed.specs.Views.{views}
-use Rattle.alpha_hash.specs.Words.{all_declared}
+use Rattle.alpha_hash_defs.specs.Words.{all_declared}
 use Rattle.alpha_hash.specs.Shown.{knows_parts, naming, shown}
 use Rattle.alpha_hash.proofs.own.push_all_declared.Given as goal
 

@@ -1,5 +1,5 @@
 use Rattle.std.proofs.Common.{◌≡◌, drop}
-use Rattle.alpha_hash.specs.Hash.{fold_from, text_fold}
+use Rattle.alpha_hash_defs.specs.Hash.{fold_from, text_fold}
 use Rattle.alpha_hash.proofs.rolling.text_fold.Given as goal
 
 abbrev pub invariant-loop-byte : goal.invariant-loop-byte

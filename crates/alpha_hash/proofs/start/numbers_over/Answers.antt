@@ -1,6 +1,6 @@
 use Rattle.std.proofs.Common.{◌≡◌, ◌∙◌, ◌++◌, [], length, map, ap, arith}
 use Rattle.go_typed.specs.Views.{views}
-use Rattle.alpha_hash.specs.Words.{window_words}
+use Rattle.alpha_hash_defs.specs.Words.{window_words}
 use Rattle.alpha_hash.specs.Shown.{naming, shown}
 use Rattle.alpha_hash.specs.Starts.{ends_from, number_at, number_of}
 use Rattle.alpha_hash.proofs.Rows.{shown-count}

@@ -1,6 +1,6 @@
 use Rattle.std.proofs.Common.{◌≡◌, ◌∙◌, ◌++◌, ◌∷◌, [], length, ap, arith}
 use Rattle.go_typed.specs.Views.{views}
-use Rattle.alpha_hash.specs.Words.{window_words}
+use Rattle.alpha_hash_defs.specs.Words.{window_words}
 use Rattle.alpha_hash.specs.Shown.{naming, shown}
 use Rattle.alpha_hash.specs.Starts.{ends_from}
 use Rattle.alpha_hash.proofs.Rows.{ends-more, row-known, statements-more}

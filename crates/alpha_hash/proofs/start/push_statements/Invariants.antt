@@ -1,6 +1,6 @@
 use Rattle.std.proofs.Common.{◌≡◌, ◌++◌, drop, length, true}
 use Rattle.go_typed.specs.Views.{views}
-use Rattle.alpha_hash.specs.Words.{window_words}
+use Rattle.alpha_hash_defs.specs.Words.{window_words}
 use Rattle.alpha_hash.specs.Shown.{knows_parts, naming, shown}
 use Rattle.alpha_hash.specs.Starts.{ends_from}
 use Rattle.alpha_hash.proofs.start.push_statements.Given as goal

@@ -6,7 +6,7 @@ use Rattle.go_typed.specs.Views.{label_at, sort_view, view, views}
 use Rattle.clone_window.specs.Kinds.{outline}
 use Rattle.clone_window.specs.Masses.{is_inside}
 use Rattle.clone_window.specs.Sameness.{compared}
-use Rattle.alpha_hash.specs.Words.{Word, compared_words, constants_words, defined_words, field_words, kind_words, local_words, object_words, operator_words, own_words, row_words}
+use Rattle.alpha_hash_defs.specs.Words.{Word, compared_words, constants_words, defined_words, field_words, kind_words, local_words, object_words, operator_words, own_words, row_words}
 use Rattle.alpha_hash.specs.Shown.{knows_part, knows_parts, naming, part_words, shown}
 use Rattle.alpha_hash.proofs.Rows.{opened-known, opened-size, opened-words, own-joined, part-size, part-small, row-known, row-more, weaker-ok}
 use Rattle.alpha_hash.proofs.words.+words.Goals as goal

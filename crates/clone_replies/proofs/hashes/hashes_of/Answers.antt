@@ -2,7 +2,7 @@ use Rattle.std.proofs.Common.{◌≡◌, ◌∙◌, ◌++◌, Some, length, map,
 use Rattle.std.proofs.lemmas.Option.{slice_get_read}
 use Rattle.clone_window.specs.Bodies.{bodies_of}
 use Rattle.clone_classes.specs.Listing.{windows_of_all}
-use Rattle.alpha_hash.specs.Sharing.{numbered, windows_of_func}
+use Rattle.alpha_hash_defs.specs.Sharing.{numbered, windows_of_func}
 use Rattle.clone_replies.proofs.Steps.{hashes-step}
 use Rattle.clone_replies.proofs.hashes.hashes_of.Goals as goal
 

@@ -1,9 +1,9 @@
 use Rattle.std.proofs.Common.{◌≡◌, Err, sym, subst}
 use Rattle.go_base.specs.Gives.{Unless}
 use Rattle.clone_server.specs.declared.words.WordsError.TheVariants as errors
-use Rattle.clone_server.specs.Words.{texts_of, words_of, words_refusal}
-use Rattle.clone_server.specs.Run.{RunsWords}
-use Rattle.clone_server.proofs.Ending.{words_memory}
+use Rattle.clone_server.specs.Words.{said_of, texts_of, words_of, words_refusal}
+use Rattle.clone_server.specs.Run.{RunsWords, EndsBy}
+use Rattle.clone_server.proofs.Ending.{words_memory, ends_taken, ends_untaken, ends_memory}
 use Rattle.clone_server.proofs.serve.run.Goals as goal
 
 pub returns-in-Ok-clause-told : goal.returns-in-Ok-clause-told
@@ -20,3 +20,15 @@ returns-in-Err-NotTaken-clause-told g c held before all eh ew el =
 pub returns-in-Err-Memory-clause-told : goal.returns-in-Err-Memory-clause-told
 returns-in-Err-Memory-clause-told g c held before all eh ew el =
     words_memory g.W.Workspace.Answers (words_of (texts_of c.args.words.now)) held all before (g.F.Folder.held c.args.folder.now) (g.K.Sink.written c.args.out.now) (g.S.Source.left c.args.script.now) (eh, ew, el)
+
+pub returns-in-Ok-clause-status : goal.returns-in-Ok-clause-status
+returns-in-Ok-clause-status g c =
+    subst (λ x. EndsBy x c.serve_folder.result) (sym c.in-Ok.ensures) (ends_taken (said_of c.in-Ok.said) c.serve_folder.result c.serve_folder.ensures.status)
+
+pub returns-in-Err-NotTaken-clause-status : goal.returns-in-Err-NotTaken-clause-status
+returns-in-Err-NotTaken-clause-status g c =
+    let untaken : words_of (texts_of c.args.words.now) ≡ Err errors.NotTaken = subst (λ e. Unless (words_refusal e) (λ f. words_of (texts_of c.args.words.now) ≡ Err f)) c.in-Err-NotTaken.field-0-is c.in-Err-NotTaken.ensures in
+    subst (λ x. EndsBy x c.refuse.result) (sym untaken) (ends_untaken errors.NotTaken c.refuse.result (g.K.Sink.faults c.args.out.now) (g.K.Sink.faults c.refuse.new.out) c.refuse.ensures.status c.refuse.ensures.count)
+
+pub returns-in-Err-Memory-clause-status : goal.returns-in-Err-Memory-clause-status
+returns-in-Err-Memory-clause-status g c = ends_memory (words_of (texts_of c.args.words.now))

@@ -1,7 +1,8 @@
 use Rattle.std.proofs.Common.{◌++◌, Ok, Err, subst}
 use Rattle.std.proofs.lemmas.Result.{err_from_is_err_and}
+use Rattle.clone_server.specs.Taking.{outcome_of}
 use Rattle.clone_server.specs.Serving.{Runs}
-use Rattle.clone_server.proofs.Ending.{files_stop, files_first, files_end}
+use Rattle.clone_server.proofs.Ending.{files_stop, files_first, files_end, status_ends}
 use Rattle.clone_server.proofs.serve.serve_files.Goals as goal
 
 pub returns-in_err-workspace-clause-told : goal.returns-in_err-workspace-clause-told
@@ -24,3 +25,6 @@ returns-clause-told g c held dir before all eh ec ew el =
     (c.in_ok-end.ensures.told held dir before all eh ec ew el))) in
     files_end (g.W.Workspace.Answers (record { min = c.args.said.min; mass = c.args.said.mass })) dir c.args.texts.items held all before c.in_ok-end.end c.finish.result (g.F.Folder.held c.serve_commands.new.folder) (g.K.Sink.written c.serve_commands.new.out) (g.K.Sink.written c.finish.new.out) (g.S.Source.left c.serve_commands.new.script)
     a (c.finish.ensures.told (before ++ a.bytes) a.written_is)
+
+pub returns-clause-status : goal.returns-clause-status
+returns-clause-status g c = status_ends (outcome_of c.in_ok-end.end) c.finish.result c.finish.ensures.status

@@ -1,4 +1,4 @@
-use Rattle.clone_session.proofs.Replies.{one}
+use Rattle.clone_session.proofs.PackageReplies.{one}
 use Rattle.clone_session.proofs.laws.one_reply.Goals as goal
 
 pub returns : goal.returns

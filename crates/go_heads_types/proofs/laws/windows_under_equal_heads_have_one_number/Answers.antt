@@ -1,5 +1,5 @@
-use Rattle.alpha_hash.specs.Packages.{window_hash}
-use Rattle.alpha_hash.proofs.Public.{hash-lawful}
+use Rattle.alpha_hash_defs.specs.Packages.{window_hash}
+use Rattle.alpha_hash_defs.proofs.Public.{hash-lawful}
 use Rattle.go_heads_types.proofs.laws.windows_under_equal_heads_have_one_number.Goals as goal
 
 pub returns-clause-lawful : goal.returns-clause-lawful

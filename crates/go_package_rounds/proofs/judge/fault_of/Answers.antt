@@ -1,4 +1,4 @@
-use Rattle.std.proofs.Common.{◌≡◌, length, ap, sym, subst, ◌∙◌}
+use Rattle.std.proofs.Common.{◌≡◌, length, refl, ap, sym, subst, ◌∙◌}
 use Rattle.std.proofs.lemmas.Result.{IfOk-weaker}
 use Rattle.go_typed.specs.Scopes.{LocalsView}
 use Rattle.go_exprs_rules.specs.Seen.{AreBasics}
@@ -15,19 +15,20 @@ use Rattle.go_package_rounds.proofs.judge.fault_of.Goals as goal
 
 pub type_fault-requires-clause-scope : goal.type_fault-requires-clause-scope
 type_fault-requires-clause-scope c =
-    c.in_ok-scope.ensures.known c.args.types.now (length c.args.types.now.shapes) c.requires.fits (ap (λ (l : LocalsView). l.sorts) c.in_ok-locals.ensures) c.requires.known
+    c.scope_in-scope.ensures.known c.args.world.now c.args.types.now (length c.args.types.now.shapes) refl c.requires.fits (ap (λ (l : LocalsView). l.sorts) c.in_ok-locals.ensures) c.requires.known
 
 pub type_fault-requires-clause-basics : goal.type_fault-requires-clause-basics
-type_fault-requires-clause-basics c = subst (AreBasics c.args.types.now) (sym c.in_ok-scope.ensures.basics) c.requires.fits.basics
+type_fault-requires-clause-basics c = subst (AreBasics c.args.types.now) (sym c.scope_in-scope.ensures.basics) c.requires.fits.basics
 
 pub type_fault-requires-clause-of : goal.type_fault-requires-clause-of
 type_fault-requires-clause-of c =
     let d = specification_view c.args.specification.now in
-    subst (λ texts. PartRead texts d.type_tree) (sym c.in_ok-scope.ensures.texts) c.requires.literals.of
+    subst (λ texts. PartRead texts d.type_tree) (sym (c.scope_in-scope.ensures.texts c.args.world.now d.file c.in-Some.ensures.tokens)) c.requires.literals.of
 
 pub returns-clause-fault : goal.returns-clause-fault
 returns-clause-fault c = λ ss stands rights.
+    let w = c.args.world.now in
     let a = c.args.types.now in
     let d = specification_view c.args.specification.now in
-    let same = c.in_ok-scope.ensures.is a knowledge.is_sound ss c.requires.fits stands rights c.in_ok-locals.ensures in
+    let same = c.scope_in-scope.ensures.is w a knowledge.is_sound ss d refl refl c.requires.fits stands rights c.in-Some.ensures.tokens c.in-Some.ensures.number c.in_ok-locals.ensures refl in
     IfOk-weaker c.type_fault.result _ _ (λ o h. h ∙ ap (λ s. least (type_faults s d)) same) c.type_fault.ensures.fault

@@ -1,4 +1,4 @@
-use Rattle.std.proofs.Common.{◌≡◌, length, ap, sym, subst, ◌∙◌}
+use Rattle.std.proofs.Common.{◌≡◌, length, refl, ap, sym, subst, ◌∙◌}
 use Rattle.go_typed.specs.Scopes.{LocalsView}
 use Rattle.go_exprs_rules.specs.Seen.{AreBasics}
 use Rattle.go_exprs_rules.specs.Faults.{least}
@@ -15,20 +15,20 @@ use Rattle.go_package_rounds.proofs.judge.judge_value.Goals as goal
 
 pub judge_name-requires-clause-scope : goal.judge_name-requires-clause-scope
 judge_name-requires-clause-scope c =
-    c.in_ok-scope.ensures.known c.args.types.now (length c.args.types.now.shapes) c.requires.fits (ap (λ (l : LocalsView). l.sorts) c.in_ok-locals.ensures) c.requires.known
+    c.scope_in-scope.ensures.known c.args.world.now c.args.types.now (length c.args.types.now.shapes) refl c.requires.fits (ap (λ (l : LocalsView). l.sorts) c.in_ok-locals.ensures) c.requires.known
 
 pub judge_name-requires-clause-basics : goal.judge_name-requires-clause-basics
-judge_name-requires-clause-basics c = subst (AreBasics c.args.types.now) (sym c.in_ok-scope.ensures.basics) c.requires.fits.basics
+judge_name-requires-clause-basics c = subst (AreBasics c.args.types.now) (sym c.scope_in-scope.ensures.basics) c.requires.fits.basics
 
 pub judge_name-requires-clause-of : goal.judge_name-requires-clause-of
 judge_name-requires-clause-of c =
     let d = specification_view c.args.specification.now in
-    subst (λ texts. PartRead texts d.type_tree) (sym c.in_ok-scope.ensures.texts) c.requires.literals.of
+    subst (λ texts. PartRead texts d.type_tree) (sym (c.scope_in-scope.ensures.texts c.args.world.now d.file c.in-Some.ensures.tokens)) c.requires.literals.of
 
 pub judge_name-requires-clause-value : goal.judge_name-requires-clause-value
 judge_name-requires-clause-value c =
     let d = specification_view c.args.specification.now in
-    let texts = c.in_ok-scope.ensures.texts in
+    let texts = c.scope_in-scope.ensures.texts c.args.world.now d.file c.in-Some.ensures.tokens in
     subst (λ ts. PartRead ts (own_value d c.args.column)) (sym texts) (own_read _ d c.args.column c.requires.literals)
 
 pub returns-clause-shows : goal.returns-clause-shows
@@ -40,7 +40,7 @@ returns-clause-shows c = λ ss stands rights.
     let d = specification_view c.args.specification.now in
     let n = c.args.column in
     let free = free_scope (package_in w) (outlines_in w) ss d in
-    let same = c.in_ok-scope.ensures.is a knowledge.is_sound ss c.requires.fits stands rights c.in_ok-locals.ensures in
+    let same = c.scope_in-scope.ensures.is w a knowledge.is_sound ss d refl refl c.requires.fits stands rights c.in-Some.ensures.tokens c.in-Some.ensures.number c.in_ok-locals.ensures refl in
     value_shown z v free d n (subst (λ s. ShowsState z v (value_state s d n (own_faults s d n))) same c.in_ok-verdict.ensures.shows)
 
 pub returns-clause-known : goal.returns-clause-known

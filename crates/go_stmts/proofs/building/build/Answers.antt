@@ -5,7 +5,7 @@ use Rattle.go_typed.specs.Views.{seen}
 use Rattle.go_exprs_rules.specs.Faults.{refusal_of}
 use Rattle.go_exprs_rules.specs.Scopes.{Scope}
 use Rattle.go_stmts_defs.specs.Laying.{form_by}
-use Rattle.go_stmts.proofs.Statements.{laid_is, statement_over}
+use Rattle.go_stmts.proofs.FrameStatements.{laid_is, statement_over}
 use Rattle.go_stmts.proofs.building.build.Goals as goal
 
 pub returns-clause-exact : goal.returns-clause-exact

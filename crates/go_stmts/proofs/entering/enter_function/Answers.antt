@@ -10,7 +10,7 @@ use Rattle.go_stmts_defs.specs.Reading.{first_parts, entry_names, signature_resu
 use Rattle.go_stmts_rules.specs.Seen.{locals_in, types_seen}
 use Rattle.go_stmts.specs.Signatures.{entries_seen}
 use Rattle.go_stmts.specs.State.{Shows}
-use Rattle.go_stmts.proofs.Parameters.{alone}
+use Rattle.go_stmts.proofs.FrameParameters.{alone}
 use Rattle.go_stmts.proofs.Showing.{shows_declared}
 use Rattle.go_stmts.proofs.entering.enter_function.Goals as goal
 

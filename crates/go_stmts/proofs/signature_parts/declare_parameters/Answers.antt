@@ -1,7 +1,7 @@
 use Rattle.std.proofs.Common.{◌∙◌, refl, arith}
 use Rattle.go_stmts_defs.specs.Frames.{Frame}
 use Rattle.go_stmts_rules.specs.Seen.{locals_in}
-use Rattle.go_stmts.proofs.Parameters.{parameter_at, parameters_end}
+use Rattle.go_stmts.proofs.FrameParameters.{parameter_at, parameters_end}
 use Rattle.go_stmts.proofs.signature_parts.declare_parameters.Goals as goal
 
 pub loop-number-preserved : goal.loop-number-preserved

@@ -1,7 +1,7 @@
 use Rattle.std.proofs.lemmas.Result.{IfOk-weaker}
 use Rattle.clone_window.specs.Bodies.{bodies_of}
 use Rattle.clone_classes.specs.Listing.{windows_of_all}
-use Rattle.alpha_hash.proofs.Public.{lawful-alone}
+use Rattle.alpha_hash_defs.proofs.Public.{lawful-alone}
 use Rattle.window_index.proofs.Members.{windows-held}
 use Rattle.window_index.proofs.classes.classes.Goals as goal
 

@@ -8,7 +8,7 @@ use Rattle.clone_window.specs.Bodies.{bodies_of, same_in}
 use Rattle.clone_window.specs.Fields.{field_text}
 use Rattle.clone_classes.specs.Listing.{windows_of_all}
 use Rattle.clone_classes.proofs.Public.{within, numbers}
-use Rattle.alpha_hash.specs.Sharing.{numbered, windows_of_func}
+use Rattle.alpha_hash_defs.specs.Sharing.{numbered, windows_of_func}
 use Rattle.window_index.specs.Buckets.{Bucket, all_entered, held, is_of, left}
 use Rattle.window_index.specs.Counting.{rivals}
 use Rattle.window_index.specs.Fitting.{Fits, FitsPackage, IndexView}

@@ -1,4 +1,0 @@
--- What the proofs of other crates use of this crate's proofs. Declares nothing.
-pub use Rattle.alpha_hash.proofs.Functions.{own-windows}
-pub use Rattle.alpha_hash.proofs.Texts.{name-is}
-pub use Rattle.alpha_hash.proofs.Windows.{hash-lawful, lawful-alone}

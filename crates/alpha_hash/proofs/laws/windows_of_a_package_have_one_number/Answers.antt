@@ -1,5 +1,0 @@
-use Rattle.alpha_hash.proofs.Windows.{lawful-alone}
-use Rattle.alpha_hash.proofs.laws.windows_of_a_package_have_one_number.Goals as goal
-
-pub returns : goal.returns
-returns c = lawful-alone

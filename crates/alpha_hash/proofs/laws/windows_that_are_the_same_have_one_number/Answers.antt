@@ -1,5 +1,0 @@
-use Rattle.alpha_hash.proofs.Windows.{same-windows}
-use Rattle.alpha_hash.proofs.laws.windows_that_are_the_same_have_one_number.Goals as goal
-
-pub returns : goal.returns
-returns c = λ identical n m here there names left right ps qs h fields. same-windows identical n m here there names left right ps qs h fields

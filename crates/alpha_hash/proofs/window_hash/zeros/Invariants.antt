@@ -1,6 +1,0 @@
-use Rattle.std.proofs.Common.{◌≡◌, ◌++◌, drop}
-use Rattle.alpha_hash.specs.Sharing.{numbered}
-use Rattle.alpha_hash.proofs.window_hash.zeros.Given as goal
-
-abbrev pub invariant-loop-window : goal.invariant-loop-window
-invariant-loop-window l = numbered (λ w. 0) l.windows ≡ l.out.items ++ numbered (λ w. 0) (drop l.window-index l.windows)

@@ -1,0 +1,10 @@
+use Rattle.std.proofs.Common.{ℕ, ◌<◌, ◌-◌, Some, length}
+use Rattle.go_typed.specs.Trees.{Sort, SortHas}
+use Rattle.examples.proofs.Rows.{Below}
+use Rattle.examples.proofs.known.objects_known.Given as goal
+
+abbrev pub invariant-loop-number : goal.invariant-loop-number
+invariant-loop-number l = Below {B = Sort ℕ} l.env.objects (λ x. x) (SortHas (λ t. t < length l.types.shapes)) l.number
+
+abbrev pub decreases-loop-number : goal.decreases-loop-number
+decreases-loop-number l = length l.env.objects - l.number

@@ -1,0 +1,9 @@
+pub mod Lexemes
+pub mod Types
+pub mod Trees
+pub mod Standing
+pub mod Literals
+pub mod Reading
+pub mod Calls
+pub mod Headers
+pub mod Examples
