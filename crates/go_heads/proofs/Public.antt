@@ -8,7 +8,7 @@ pub use Rattle.go_heads.proofs.Files.{first_same, one_outline, others_same, some
 pub use Rattle.go_heads.proofs.Fresh.{Every, Other, every_append, every_map, other_found, texts_at}
 pub use Rattle.go_heads.proofs.Functions.{Framed, alone_same, framed, same_some, some_none}
 pub use Rattle.go_heads.proofs.Lookups.{count_kinds, read_at, token_told}
-pub use Rattle.go_heads.proofs.Meanings.{IsAway, every_new, find, imported_away, local_object, orderly, outer_object, outer_reached}
+pub use Rattle.go_heads.proofs.Meanings.{IsAway, every_new, find, imported_away, imports_told, local_object, orderly, outer_object, outer_reached}
 pub use Rattle.go_heads.proofs.Names.{AllStand, Among, NamesIn, Stands, all_names, among, around_part, before, behind, declares, each_left, each_right, file_stands, found_append, function_there, names_moved, ordered_names, rest, stands_at, tell}
 pub use Rattle.go_heads.proofs.Numbers.{bare_functions}
 pub use Rattle.go_heads.proofs.Objects.{Entry, StandFrom, entries_same, entry, new_append, stand_from}

@@ -20,5 +20,7 @@ mod Quiet
 mod Nothing
 mod Carried
 mod Listed
+mod Derived
+mod Stays
 mod Counted
 mod Imported

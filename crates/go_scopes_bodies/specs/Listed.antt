@@ -31,6 +31,13 @@ AreStatements none = Unit {0}
 AreStatements (more p ps) = (is_specification (kind_of p) ≡ false) × AreStatements ps
 AreStatements (skip ps) = AreStatements ps
 
+-- the kinds that hold lists of statements
+abbrev pub holds_statements : Kind → Bool
+holds_statements kind.Block = true
+holds_statements kind.Case = true
+holds_statements kind.Default = true
+holds_statements k = false
+
 -- A block tells what its statements tell, each by itself, and so do clauses.
 pub record TellsStatements (c : Context) (i j : ℕ) (ps : Trees) : Type 0 where
   pub block : events c (node kind.Block i j ps) ≡ statement_events c.listed i j ++ told_list (list_context c i j) false ps

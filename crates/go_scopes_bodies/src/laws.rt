@@ -1,7 +1,11 @@
 //! Laws, for the crates above. The functions do nothing: their contracts are the laws.
 
-ghost use Rattle.std.specs.Prelude.{◌≡◌, ℕ, Bool, ◌&&◌, not, [], ◌++◌, List, Some, map, slice_get};
-ghost use Rattle.go_grammar.specs.Trees.{Tree, Trees, onto};
+ghost use Rattle.std.specs.Prelude.{◌≡◌, ℕ, Bool, true, ◌&&◌, not, [], ◌++◌, List, Some, map, slice_get};
+ghost use Rattle.go_tokens.specs.declared.token.TokenKind.{TokenKind};
+ghost use Rattle.go_grammar.specs.declared.kind.Category.{Category};
+ghost use Rattle.go_grammar.specs.declared.kind.Kind.{Kind};
+ghost use Rattle.go_grammar.specs.Grammar.{Derives};
+ghost use Rattle.go_grammar.specs.Trees.{Tree, node, Trees, onto};
 ghost use Rattle.go_rewriting.specs.Places.{carry};
 ghost use Rattle.go_tree.specs.Branches.{branches};
 ghost use Rattle.go_tree.specs.declared.context.Context.{Context};
@@ -12,14 +16,16 @@ ghost use Rattle.go_tree.specs.Failures.{of_files};
 ghost use Rattle.go_tree.specs.Lookups.{undeclared, outside_names, outside_members, not_called, initialisers, unused_variables};
 ghost use Rattle.go_tree.specs.Redeclared.{second_declarations, none_new};
 ghost use Rattle.go_heads.specs.Functions.{Function, AreRead, all_functions, function_alone};
-ghost use Rattle.go_heads.specs.Heads.{File};
+ghost use Rattle.go_heads.specs.Heads.{File, heads};
 ghost use Rattle.go_heads.specs.Locals.{AreNamed};
 ghost use Rattle.go_heads.specs.Objects.{units_of};
 ghost use Rattle.go_scopes_bodies.specs.Carried.{KeepsNames, carried_context, carried_event};
-ghost use Rattle.go_scopes_bodies.specs.Listed.{AreStatements, TellsStatements, told_list};
+ghost use Rattle.go_scopes_bodies.specs.Listed.{AreStatements, TellsStatements, holds_statements, told_list};
 ghost use Rattle.go_scopes_bodies.specs.Meant.{MeansAt};
 ghost use Rattle.go_scopes_bodies.specs.Outside.{outside_units};
-ghost use Rattle.go_scopes_bodies.specs.Faults.{CountsStatements, FaultsAreThoseOfFunctions, GoesByFunctions, NothingFailsOutside, UsesImportByFunctions, all_asked, outside_asked, outer_in, own_misplaced, own_second_defaults, own_second_members, own_second_declarations, own_none_new, own_undeclared, own_outside_names, own_outside_members, own_not_called, own_initialisers, own_unused, outside_declared, shared};
+ghost use Rattle.go_scopes_bodies.specs.Faults.{CountsStatements, FaultsAreThoseOfFunctions, GoesByFunctions, NothingFailsOutside, UsesImportByFunctions};
+ghost use Rattle.go_scopes_bodies.specs.Faults.{all_asked, outside_asked, outer_in, outside_declared, shared, own_misplaced, own_second_defaults, own_second_members, own_second_declarations};
+ghost use Rattle.go_scopes_bodies.specs.Faults.{own_none_new, own_undeclared, own_outside_names, own_outside_members, own_not_called, own_initialisers, own_unused};
 
 /// Each token of a function means what it means by itself, and by what names mean outside of functions in its file: the local of the
 /// same number of this function, an object of the package, a predeclared name, fmt, or nothing (Go specification: Declarations and
@@ -95,6 +101,11 @@ pub fn unused_variables_are_judged_by_functions()
         → GoesByFunctions fs (λ n f. own_unused (function_alone f) (outer_in fs n)) (unused_variables (all_asked fs) (outside_declared fs)) (unused_variables (all_asked fs) (declarations (units_of fs))) }
 {}
 
+/// In packages with equal heads each name means the same outside of functions (Go specification: Declarations and scope).
+pub fn names_outside_of_functions_stay()
+    ensures { (old new : List File) → AreRead old → AreRead new → heads old ≡ heads new → (n : ℕ) (w : List ℕ) → outer_in new n w ≡ outer_in old n w }
+{}
+
 /// Outside of functions no statement is misplaced, no switch has a second default, no `:=` lacks a new name and no local variable is
 /// unused: there are none.
 pub fn nothing_fails_outside_of_functions()
@@ -126,6 +137,11 @@ pub fn carried_trees_tell_the_same()
 /// A block or a clause tells of names what its statements tell, each by itself (Go specification: Blocks).
 pub fn lists_tell_each_statement()
     ensures { (c : Context) (i j : ℕ) (ps : Trees) → AreStatements ps → TellsStatements c i j ps }
+{}
+
+/// The parts of a derived block or clause are such statements, with the list of expressions in front of those of a `case`.
+pub fn lists_hold_statements()
+    ensures { (ts : List TokenKind) (x : Category) (k : Kind) (i j : ℕ) (ps : Trees) → holds_statements k ≡ true → Derives ts x (node k i j ps) → AreStatements ps }
 {}
 
 /// Two lists of statements, one behind the other, tell what each tells; so where statements are put in place of some, what stands in

@@ -2,9 +2,10 @@
 //! functions.
 //!
 //! The contracts of the laws say it. Each token of a function in a package means what it means by itself, its objects numbered behind
-//! those in front. A rule fails nowhere in a package where it fails neither outside of functions nor in one of them by itself, and the
-//! other way round: of statements that branch, defaults of switches, names declared twice, names that mean nothing, predeclared names
-//! outside the profile, and members of imports.
+//! those in front. No fault of names is reported of a package where no rule fails outside of functions and none in a function by itself,
+//! and the other way round; three rules stay those of the whole package: that each import is used, that there are not too many
+//! statements, and that no declaration needs itself. Statements and the use of imports are told function by function too. What a tree
+//! tells of names stays the same wherever its tokens stand, and a list of statements tells what its statements tell, each by itself.
 #![tactic(auto)]
 
 pub mod laws;
