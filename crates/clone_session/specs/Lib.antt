@@ -1,3 +1,4 @@
 pub mod Session
 pub mod Replies
 pub mod Answers
+pub mod After

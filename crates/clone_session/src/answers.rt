@@ -3,6 +3,7 @@
 ghost use Rattle.std.specs.Prelude.{◌≡◌, ◌<◌, ◌≤◌, length, IfOk, IfSome, IsSome, OnOk, OnErr};
 ghost use Rattle.clone_session.specs.Session.{IsGoodVerdict};
 ghost use Rattle.clone_session.specs.Replies.{TextReply};
+ghost use Rattle.clone_session.specs.After.{after_command};
 ghost use Rattle.clone_session.specs.Answers.{fault_line, Answers, IsListing, IsNumbers, PackageReply, settings_of};
 
 use crate::numbers::numbers_line;
@@ -24,6 +25,7 @@ pub fn refresh<C: Check, H: WindowHash + Copy + Drop, L: Ledger>(
     requires parts { blank.parts ≡ L.parts }
     requires room { 3 ≤ blank.parts }
     ensures kept { session.new ≡ record session.old { verdict = session.new.verdict } }
+    ensures known { IsSome session.old.verdict → session.new ≡ session.old }
     ensures fresh { OnOk result (IsSome session.new.verdict) }
 {
     let mut steps = Steps::<L>::new(blank);
@@ -52,6 +54,7 @@ fn classes<C: Check, H: WindowHash + Copy + Drop>(
 ) -> Result<Bytes, Memory>
     ensures reply { IfOk result (λ reply. PackageReply (IsListing session.old.bounds) session.old.texts reply) }
     ensures kept { session.new ≡ record session.old { verdict = session.new.verdict } }
+    ensures known { IsSome session.old.verdict → session.new ≡ session.old }
 {
     refresh::<C, H, Brand>(session, Blank::new(3))?;
     match session.fault() {
@@ -67,6 +70,7 @@ fn stat<C: Check, H: WindowHash + Copy + Drop>(
 ) -> Result<Bytes, Memory>
     ensures reply { IfOk result (λ reply. PackageReply (IsNumbers session.old.bounds session.old.texts) session.old.texts reply) }
     ensures kept { session.new ≡ record session.old { verdict = session.new.verdict } }
+    ensures known { IsSome session.old.verdict → session.new ≡ session.old }
 {
     refresh::<C, H, Brand>(session, Blank::new(3))?;
     match session.fault() {
@@ -82,12 +86,13 @@ fn text<C: Check, H: WindowHash + Copy + Drop>(
 ) -> Result<Bytes, Memory>
     ensures reply { IfOk result (λ reply. TextReply session.old.texts command.now reply session.new.texts) }
     ensures bounds { session.new.bounds ≡ session.old.bounds }
+    ensures after { OnOk result (session.new ≡ after_command session.old command.now) }
     ensures err { OnErr result (session.new.texts ≡ session.old.texts) }
 {
     session.answer(command)?.ok_or(Memory)
 }
 
-/// The reply to a command that is neither `save` nor `quit`.
+/// The reply to a command that is neither `save` nor `quit`. What is known of the texts is dropped only where they were changed.
 pub fn answer<C: Check, H: WindowHash + Copy + Drop>(
     alloc: Global,
     session: &mut Session<C, H>,
@@ -95,6 +100,7 @@ pub fn answer<C: Check, H: WindowHash + Copy + Drop>(
 ) -> Result<Bytes, Memory>
     ensures reply { IfOk result (λ reply. Answers (settings_of session.old.bounds) session.old.texts command.now reply session.new.texts) }
     ensures bounds { session.new.bounds ≡ session.old.bounds }
+    ensures known { IsSome session.old.verdict → OnOk result (session.new ≡ after_command session.old command.now) }
 {
     match command {
         Command::Classes => classes(alloc, session),

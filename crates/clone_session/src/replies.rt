@@ -1,14 +1,16 @@
 //! Answers to commands.
 
-ghost use Rattle.std.specs.Prelude.{◌≡◌, IfOk, OnErr, IfSome, IfNone};
+ghost use Rattle.std.specs.Prelude.{◌≡◌, IfOk, OnOk, OnErr, IfSome, IfNone};
 ghost use Rattle.edit_apply.specs.Edited.{bytes_under};
 ghost use Rattle.edit_apply.specs.Answers.{edit_answer, add_answer, remove_answer};
 ghost use Rattle.clone_script.specs.Replies.{show_reply};
 ghost use Rattle.clone_session.specs.Replies.{told_of, IsRefusal, Changes, TextReply, IsOther};
+ghost use Rattle.clone_session.specs.After.{after_command, changed};
 
-use crate::copy::copy_under;
+use crate::{Check, Session};
+use alpha_hash_defs::window_hash::WindowHash;
 use clone_script::{Command, EditAnswer, EditKind, edit_reply, show_reply};
-use edit_apply::{EditError, Texts};
+use edit_apply::EditError;
 use go_base::{Bytes, Memory, Name};
 use std::alloc::Global;
 
@@ -37,64 +39,85 @@ fn refused(alloc: Global, kind: EditKind, error: EditError) -> Result<Bytes, Mem
 }
 
 /// `edit`.
-fn edit(
+fn edit<C: Check, H: WindowHash + Copy + Drop>(
     alloc: Global,
-    texts: &mut Texts,
+    session: &mut Session<C, H>,
     name: &Name,
     start: u32,
     end: u32,
     bytes: &[u8],
 ) -> Result<Bytes, Memory>
-    ensures reply { IfOk result (λ reply. Changes EditKind.Edit texts.old (edit_answer texts.old name.now start end bytes.now) reply texts.new) }
-    ensures err { OnErr result (texts.new ≡ texts.old) }
+    ensures reply { IfOk result (λ reply. Changes EditKind.Edit session.old.texts (edit_answer session.old.texts name.now start end bytes.now) reply session.new.texts) }
+    ensures after { OnOk result (session.new ≡ changed session.old (edit_answer session.old.texts name.now start end bytes.now)) }
+    ensures err { OnErr result (session.new ≡ session.old) }
 {
     let done = edit_reply(alloc, EditKind::Edit, EditAnswer::Done)?;
-    match texts.edit(name, start, end, bytes) {
+    match session.edit(name, start, end, bytes) {
         Ok(()) => Ok(done),
         Err(error) => refused(alloc, EditKind::Edit, error),
     }
 }
 
 /// `add`.
-fn add(alloc: Global, texts: &mut Texts, name: &Name, bytes: &[u8]) -> Result<Bytes, Memory>
-    ensures reply { IfOk result (λ reply. Changes EditKind.Add texts.old (add_answer texts.old name.now bytes.now) reply texts.new) }
-    ensures err { OnErr result (texts.new ≡ texts.old) }
+fn add<C: Check, H: WindowHash + Copy + Drop>(
+    alloc: Global,
+    session: &mut Session<C, H>,
+    name: &Name,
+    bytes: &[u8],
+) -> Result<Bytes, Memory>
+    ensures reply { IfOk result (λ reply. Changes EditKind.Add session.old.texts (add_answer session.old.texts name.now bytes.now) reply session.new.texts) }
+    ensures after { OnOk result (session.new ≡ changed session.old (add_answer session.old.texts name.now bytes.now)) }
+    ensures err { OnErr result (session.new ≡ session.old) }
 {
     let done = edit_reply(alloc, EditKind::Add, EditAnswer::Done)?;
-    match texts.add(name, bytes) {
+    match session.add(name, bytes) {
         Ok(()) => Ok(done),
         Err(error) => refused(alloc, EditKind::Add, error),
     }
 }
 
 /// `drop`.
-fn remove(alloc: Global, texts: &mut Texts, name: &Name) -> Result<Bytes, Memory>
-    ensures reply { IfOk result (λ reply. Changes EditKind.Drop texts.old (remove_answer texts.old name.now) reply texts.new) }
-    ensures err { OnErr result (texts.new ≡ texts.old) }
+fn remove<C: Check, H: WindowHash + Copy + Drop>(
+    alloc: Global,
+    session: &mut Session<C, H>,
+    name: &Name,
+) -> Result<Bytes, Memory>
+    ensures reply { IfOk result (λ reply. Changes EditKind.Drop session.old.texts (remove_answer session.old.texts name.now) reply session.new.texts) }
+    ensures after { OnOk result (session.new ≡ changed session.old (remove_answer session.old.texts name.now)) }
+    ensures err { OnErr result (session.new ≡ session.old) }
 {
     let done = edit_reply(alloc, EditKind::Drop, EditAnswer::Done)?;
-    match texts.remove(name) {
+    match session.remove(name) {
         Ok(()) => Ok(done),
         Err(error) => refused(alloc, EditKind::Drop, error),
     }
 }
 
 /// `show`.
-fn show(alloc: Global, texts: &Texts, name: &Name) -> Result<Bytes, Memory>
-    ensures { IfOk result (λ reply. reply ≡ show_reply (bytes_under texts.now name.now)) }
+fn show<C: Check, H: WindowHash + Copy + Drop>(
+    alloc: Global,
+    session: &Session<C, H>,
+    name: &Name,
+) -> Result<Bytes, Memory>
+    ensures { IfOk result (λ reply. reply ≡ show_reply (bytes_under session.now.texts name.now)) }
 {
-    match copy_under(alloc, texts, name)? {
+    match session.bytes_of(name)? {
         Some(bytes) => show_reply(alloc, Some(bytes.as_slice())),
         None => show_reply(alloc, None),
     }
 }
 
-/// The reply to a command that reads or changes the texts, and none to a command of another sort. After want of memory the
-/// texts are as they were.
-pub fn answer(alloc: Global, texts: &mut Texts, command: &Command) -> Result<Option<Bytes>, Memory>
-    ensures reply { IfOk result (λ answer. IfSome answer (λ reply. TextReply texts.old command.now reply texts.new)) }
-    ensures other { IfOk result (λ answer. IfNone answer (IsOther command.now × (texts.new ≡ texts.old))) }
-    ensures err { OnErr result (texts.new ≡ texts.old) }
+/// The reply to a command that reads or changes the texts, and none to a command of another sort. What is known of the texts goes
+/// where they were changed, and stays else. After want of memory all is as it was.
+pub fn answer<C: Check, H: WindowHash + Copy + Drop>(
+    alloc: Global,
+    session: &mut Session<C, H>,
+    command: &Command,
+) -> Result<Option<Bytes>, Memory>
+    ensures reply { IfOk result (λ answer. IfSome answer (λ reply. TextReply session.old.texts command.now reply session.new.texts)) }
+    ensures other { IfOk result (λ answer. IfNone answer (IsOther command.now × (session.new.texts ≡ session.old.texts))) }
+    ensures after { OnOk result (session.new ≡ after_command session.old command.now) }
+    ensures err { OnErr result (session.new ≡ session.old) }
 {
     let reply = match command {
         Command::Edit {
@@ -102,10 +125,10 @@ pub fn answer(alloc: Global, texts: &mut Texts, command: &Command) -> Result<Opt
             start,
             end,
             bytes,
-        } => edit(alloc, texts, name, *start, *end, bytes.as_slice())?,
-        Command::Add { name, bytes } => add(alloc, texts, name, bytes.as_slice())?,
-        Command::Remove { name } => remove(alloc, texts, name)?,
-        Command::Show { name } => show(alloc, texts, name)?,
+        } => edit(alloc, session, name, *start, *end, bytes.as_slice())?,
+        Command::Add { name, bytes } => add(alloc, session, name, bytes.as_slice())?,
+        Command::Remove { name } => remove(alloc, session, name)?,
+        Command::Show { name } => show(alloc, session, name)?,
         Command::Classes | Command::Stat | Command::Run { .. } | Command::Save | Command::Quit =>
             return Ok(None),
     };

@@ -1,6 +1,6 @@
 //! The reply to `run`.
 
-ghost use Rattle.std.specs.Prelude.{◌≡◌, IfOk};
+ghost use Rattle.std.specs.Prelude.{◌≡◌, IfOk, IsSome};
 ghost use Rattle.go_typed.specs.Contents.{Content as Whole};
 ghost use Rattle.go_package_defs.specs.Checked.{IsChecked};
 ghost use Rattle.clone_session.specs.Session.{IsGoodVerdict};
@@ -40,6 +40,7 @@ pub fn ran<C: Check, H: WindowHash + Copy + Drop>(
 ) -> Result<Bytes, Memory>
     ensures reply { IfOk result (λ reply. PackageReply (IsRun turns input.now) session.old.texts reply) }
     ensures kept { session.new ≡ record session.old { verdict = session.new.verdict } }
+    ensures known { IsSome session.old.verdict → session.new ≡ session.old }
 {
     refresh::<C, H, Brand>(session, Blank::new(3))?;
     match session.fault() {

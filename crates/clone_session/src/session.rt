@@ -17,6 +17,7 @@ ghost use Rattle.clone_replies.specs.Listing.{listing_reply};
 ghost use Rattle.go_eval.specs.Runs.{outcome_view, refusal};
 ghost use Rattle.clone_replies.specs.ReplyContents.{run_in};
 ghost use Rattle.clone_replies.specs.Numbers.{numbers_in};
+ghost use Rattle.clone_session.specs.After.{after_command};
 ghost use Rattle.clone_session.specs.Session.{IsGoodVerdict, fault_in, windows_entered};
 ghost use Rattle.clone_session.specs.declared.verdict.Verdict.TheVariants as verdict;
 
@@ -25,7 +26,7 @@ use crate::indexed::{classes_of, indexed};
 use crate::laws::listings_follow_from_the_texts;
 use crate::run::run_of;
 use crate::verdict::{Verdict, verdict_of};
-use crate::{answer, file_at};
+use crate::{answer, copy_under, file_at};
 use alpha_hash_defs::window_hash::WindowHash;
 use clone_replies::{Numbers, class_reply, numbers_of};
 use clone_script::Command;
@@ -153,7 +154,7 @@ impl<C: Check, H: WindowHash + Copy + Drop> Session<C, H> {
     }
 
     /// Brings what is known up to the present texts: they are checked, and the windows of a package that type-checks are put into a
-    /// new index, each once.
+    /// new index, each once. Where they were known already nothing is done.
     ///
     /// # Errors
     ///
@@ -161,6 +162,7 @@ impl<C: Check, H: WindowHash + Copy + Drop> Session<C, H> {
     pub fn refresh<L: Ledger>(&mut self, steps: &mut Steps<L>) -> Result<(), Memory>
         ensures kept { self.new ≡ record self.old { verdict = self.new.verdict } }
         ensures fresh { OnOk result (IsSome self.new.verdict) }
+        ensures known { IsSome self.old.verdict → self.new ≡ self.old }
         ensures anew { OnErr result (self.new.verdict ≡ None) }
         ensures entered { OnOk result (steps.new.entered ≡ steps.old.entered + windows_entered self.old.bounds self.old.verdict self.new.verdict) }
     {
@@ -262,20 +264,31 @@ impl<C: Check, H: WindowHash + Copy + Drop> Session<C, H> {
         numbers_of(self.alloc, self.checked(), self.min, self.mass, &classes)
     }
 
-    /// The reply to a command that reads or changes the texts, and none to a command of another sort.
+    /// The reply to a command that reads or changes the texts, and none to a command of another sort. What is known of the texts goes
+    /// where an `edit`, `add` or `drop` was done, and stays else: after `show`, and after a command that was refused.
     ///
     /// # Errors
     ///
-    /// Want of memory. Then the texts are as they were.
+    /// Want of memory. Then all is as it was.
     pub fn answer(&mut self, command: &Command) -> Result<Option<Bytes>, Memory>
         ensures reply { IfOk result (λ answer. IfSome answer (λ reply. TextReply self.old.texts command.now reply self.new.texts)) }
         ensures other { IfOk result (λ answer. IfNone answer (IsOther command.now × (self.new.texts ≡ self.old.texts))) }
         ensures bounds { self.new.bounds ≡ self.old.bounds }
-        ensures err { OnErr result (self.new.texts ≡ self.old.texts) }
+        ensures after { OnOk result (self.new ≡ after_command self.old command.now) }
+        ensures err { OnErr result (self.new ≡ self.old) }
     {
-        self.verdict = None;
-        self.index = None;
-        answer(self.alloc, &mut self.texts, command)
+        answer(self.alloc, self, command)
+    }
+
+    /// A copy of the bytes of the file of a name, if there is one.
+    ///
+    /// # Errors
+    ///
+    /// Want of memory.
+    pub fn bytes_of(&self, name: &Name) -> Result<Option<Bytes>, Memory>
+        ensures { IfOk result (λ bytes. bytes ≡ bytes_under self.now.texts name.now) }
+    {
+        copy_under(self.alloc, &self.texts, name)
     }
 
     /// A copy of the file with this number, in the order of the names.
