@@ -3,7 +3,7 @@ use Rattle.std.proofs.Common.{◌≡◌, ◌<◌, ℕ, zero, suc, List, [], ◌�
 use Rattle.std.specs.Prelude.{Bool, true, false, ◌&&◌, nat_lt, map, slice_get}
 use Rattle.std.specs.List.{list_all}
 use Rattle.std.proofs.lemmas.Bool.{ltb-true}
-use Rattle.std.specs.Option.{option_map}
+use Rattle.std.specs.Option.{option_map, is_some, IsNone}
 use Rattle.go_types.specs.Trees.{TypeTree}
 use Rattle.go_typed.specs.Funcs.{FuncView, tree_of}
 use Rattle.go_typed.specs.Packages.{PackageView, IsPackage, Counts, counts, is_below, is_known_tree, is_known_func, refers_to}
@@ -32,7 +32,7 @@ use Rattle.go_eval_plans.specs.declared.machine.Machine.{Machine}
 use Rattle.go_eval_plans.specs.declared.exit.Exit.{Exit}
 use Rattle.go_eval_plans.specs.declared.exit.Exit.TheVariants as exit
 use Rattle.go_eval_machine.proofs.Public.{goes_written, Same, begins_body, same_before}
-use Rattle.go_eval.specs.Called.{IsKnownBody, calls_it, enters}
+use Rattle.go_eval.specs.Called.{IsKnownBody, calls_it, enters, function_in}
 
 pub get_map : {A B : Type 0} (f : A → B) (xs : List A) (k : ℕ) → slice_get (map f xs) k ≡ option_map f (slice_get xs k)
 get_map f [] k = refl
@@ -82,6 +82,12 @@ module _ (p : PackageView) (n : ℕ) (r : Rest) (vs : List Value) where
         ∙ same_before (bounded (program_of p 0) n (seen p.types g.root)) (doing p n g.root).value (leaving b f r) vs d fr w t (bound_does_not_show (program_of p 0) n (suc n) (seen p.types g.root) d fr w t lt (omega (arith, lt))))
 
 -- ---- a nil function
+
+pub there_or_not : {A : Type 0} (o : Option A) (x : A) → o ≡ Some x → IsNone o → ⊥
+there_or_not o x e h = let there : is_some o ≡ true = ap is_some e in cc
+
+pub no_number : (v : Value) (g : ℕ) → v ≡ Function g → function_in v ≡ None → ⊥
+no_number v g e h = let there : function_in v ≡ Some g = ap function_in e in cc
 
 module _ (p : PackageView) (x : TypedNode) (b : ℕ) (m m1 : Engine) (us : List Value) where
   called_nothing : (n d : ℕ) → us ≡ drop b (views m.values.items) → IsKept m m1 → ((call : ℕ → List Value → Comp) (ws : List Value) → applied call (nth us 0) ws ≡ end_by (Panics NilCall)) →

@@ -4,7 +4,7 @@ use Rattle.std.specs.Option.{option_map}
 use Rattle.go_typed.specs.Funcs.{FuncView}
 use Rattle.go_typed.specs.Packages.{PackageView}
 use Rattle.go_typed.specs.Views.{Known, seen}
-use Rattle.go_meaning.specs.Values.{Value}
+use Rattle.go_meaning.specs.Values.{Value, Function}
 use Rattle.go_meaning.specs.Computations.{enter}
 use Rattle.go_meaning.specs.Meaning.{frame_of, called, bounded}
 use Rattle.go_eval_plans.specs.Programs.{code_of, program_of}
@@ -15,6 +15,11 @@ use Rattle.go_eval_machine.specs.Engines.{Work}
 abbrev pub IsKnownBody : PackageView → Option FuncView → Type 0
 IsKnownBody p None = Unit {0}
 IsKnownBody p (Some f) = Known (length p.types.shapes) f.root
+
+-- the number of the function that a value is; a nil function has none
+abbrev pub function_in : Value → Option ℕ
+function_in (Function g) = Some g
+function_in v = None
 
 -- the call with these arguments
 abbrev pub calls_it : PackageView → Option FuncView → List Value → Work

@@ -1,39 +1,31 @@
-use Rattle.std.proofs.Common.{◌≡◌, ℕ, List, [], ◌∷◌, Option, drop, take, length, refl, sym, ap, ◌∙◌, subst, Ok, Err}
-use Rattle.std.specs.Option.{option_map}
-use Rattle.std.proofs.lemmas.Result.{err_from_is_err_and}
-use Rattle.go_meaning.specs.Values as meant
-use Rattle.go_meaning.specs.Values.{nth}
-use Rattle.go_values.specs.declared.value.Value.{Value}
+use Rattle.std.proofs.Common.{◌≡◌, ◌∙◌, ℕ, List, None, Some, Err, drop, sym, ap}
+use Rattle.go_meaning.specs.Values.{Value, Function, nth}
 use Rattle.go_values.specs.Views.{views}
-use Rattle.go_eval_plans.specs.Called.{IsCallee}
-use Rattle.go_eval_machine.specs.declared.task.What.TheVariants as what
-use Rattle.go_eval_machine.specs.Engines.{works}
-use Rattle.go_eval_machine.proofs.Public.{goes_kept}
-use Rattle.go_eval.specs.Called.{calls_it}
-use Rattle.go_eval.proofs.Calling.{applies, known_body, goes_to_nothing}
+use Rattle.go_eval_machine.specs.Tasks.{first_above}
+use Rattle.go_eval.specs.Called.{function_in}
+use Rattle.go_eval.proofs.Calling.{goes_to_nothing, no_number}
 use Rattle.go_eval.proofs.apply.apply.Goals as goal
 
-pub returns : goal.returns
-returns c =
-    let p = c.args.checked.now in
-    let x = c.args.node.now in
+pub returns-in-Ok-clause-goes : goal.returns-in-Ok-clause-goes
+returns-in-Ok-clause-goes c =
     let b = c.args.base in
-    let m = c.args.engine.now in
-    let vs = views m.values.items in
-    let us = views c.in_ok-operands.operands.items in
-    let F = option_map (λ f. f.now) c.function.result in
-    let callee : nth us 0 ≡ meant.Function c.in_ok-number.number = ap (λ (ws : List Value). nth (views ws) 0) (sym c.deref.ensures.value) ∙ c.in_ok-number.ensures in
-    goes_kept p (works p x b what.Apply) (calls_it p F (drop 1 us)) m c.take.new.self c.call.result c.call.new.engine (take b vs) c.in_ok-operands.ensures.kept c.in_ok-operands.ensures.values
-    (c.call.ensures p (known_body p c.in_ok-number.number F c.types-types.ensures.stands c.function.ensures))
-    (λ n s. applies p n s vs x b c.in_ok-number.number F us (ap (λ (ws : List meant.Value). nth ws 0) (sym c.in_ok-operands.ensures.taken) ∙ callee) c.function.ensures c.in_ok-operands.ensures.taken)
+    let us = views c.above.result.now in
+    let behind : us ≡ drop b (views c.args.engine.now.values.items) = c.above.ensures ∙ ap (λ ws. drop b (views ws)) c.deref.ensures.value in
+    c.apply_function.ensures c.args.node.now (ap (λ (ws : List Value). nth ws 0) (sym behind) ∙ c.in-Ok.ensures)
 
-pub returns-in_err-number : goal.returns-in_err-number
-returns-in_err-number c =
-    let p = c.args.checked.now in
-    let x = c.args.node.now in
+pub returns-in-Ok-clause-nil : goal.returns-in-Ok-clause-nil
+returns-in-Ok-clause-nil c = λ h.
     let b = c.args.base in
-    let m = c.args.engine.now in
-    let us = views c.in_ok-operands.operands.items in
-    let q = err_from_is_err_and c.from_residual-in_err-number.result c.from_residual-in_err-number.ensures.1 in
-    let callee : IsCallee us (Err c.in_err-number.field-0.0) = subst (λ (ws : List Value). IsCallee (views ws) (Err c.in_err-number.field-0.0)) c.deref.ensures.value c.in_err-number.ensures in
-    rw (q.1, q.2) (goes_to_nothing p x b m c.take.new.self us c.in_err-number.field-0.0 c.in_ok-operands.ensures.taken c.in_ok-operands.ensures.values c.in_ok-operands.ensures.kept callee)
+    let us = views c.above.result.now in
+    let behind : us ≡ drop b (views c.args.engine.now.values.items) = c.above.ensures ∙ ap (λ ws. drop b (views ws)) c.deref.ensures.value in
+    absurd (no_number (first_above b (views c.args.engine.now.values.items)) c.in-Ok.number (ap (λ (ws : List Value). nth ws 0) (sym behind) ∙ c.in-Ok.ensures) h)
+
+pub returns-in-Err-clause-goes : goal.returns-in-Err-clause-goes
+returns-in-Err-clause-goes c =
+    let b = c.args.base in
+    let us = views c.above.result.now in
+    let behind : us ≡ drop b (views c.args.engine.now.values.items) = c.above.ensures ∙ ap (λ ws. drop b (views ws)) c.deref.ensures.value in
+    goes_to_nothing c.args.checked.now c.args.node.now b c.args.engine.now c.cut.new.self us c.in-Err.exit behind c.cut.ensures.values c.cut.ensures.kept c.in-Err.ensures
+
+pub returns-in-Err-clause-nil : goal.returns-in-Err-clause-nil
+returns-in-Err-clause-nil c = λ h. ap Err c.in-Err.ensures.0

@@ -44,7 +44,7 @@ returns-in-Either c =
 
 pub returns-in-Apply : goal.returns-in-Apply
 returns-in-Apply c =
-    rw c.in-Apply.is c.apply.ensures
+    rw c.in-Apply.is c.apply.ensures.goes
 
 pub returns-in-Return : goal.returns-in-Return
 returns-in-Return c =

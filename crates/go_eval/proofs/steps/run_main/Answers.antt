@@ -16,7 +16,7 @@ run_tasks-requires-clause-fit c =
     let F = option_map (λ f. f.now) c.function_at-function.result in
     let us = drop 1 (views c.new-operands.result.items) in
     main_fits p old m z c.args.main F c.function_at-function.ensures us (ap (λ (vs : List Value). drop 1 (views vs)) c.new-operands.ensures.items) c.call-answer.result c.call-answer.new.engine
-    (c.call-answer.ensures p (known_body p c.args.main F c.types-types.ensures.stands c.function_at-function.ensures)) (sym c.wants_memory.ensures ∙ c.if-wants_memory.false)
+    (c.call-answer.ensures.goes p (known_body p c.args.main F c.types-types.ensures.stands c.function_at-function.ensures)) (sym c.wants_memory.ensures ∙ c.if-wants_memory.false)
 
 pub returns : goal.returns
 returns c =
@@ -27,7 +27,7 @@ returns c =
     let F = option_map (λ f. f.now) c.function_at-function.result in
     let us = drop 1 (views c.new-operands.result.items) in
     main_ran p old m z c.args.main F c.function_at-function.ensures us (ap (λ (vs : List Value). drop 1 (views vs)) c.new-operands.ensures.items) c.call-answer.result c.run_tasks.result c.call-answer.new.engine c.run_tasks.new.engine
-    (c.call-answer.ensures p (known_body p c.args.main F c.types-types.ensures.stands c.function_at-function.ensures)) (sym c.wants_memory.ensures ∙ c.if-wants_memory.false) c.run_tasks.ensures
+    (c.call-answer.ensures.goes p (known_body p c.args.main F c.types-types.ensures.stands c.function_at-function.ensures)) (sym c.wants_memory.ensures ∙ c.if-wants_memory.false) c.run_tasks.ensures
 
 pub returns-then-wants_memory : goal.returns-then-wants_memory
 returns-then-wants_memory c = ran_wanting (main_run c.args.checked.now c.args.main) c.args.engine.now.machine c.call-answer.result c.call-answer.new.engine.machine (sym c.wants_memory.ensures ∙ c.if-wants_memory.true)
