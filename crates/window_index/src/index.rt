@@ -76,6 +76,8 @@ impl<H: WindowHash + Drop> Index<H> {
         requires absent { AllByRecursion (λ x. is_of func x.0 ≡ false) (held self.old.buckets) }
         ensures fits { OnOk result (FitsPackage H.number checked.now self.new) }
         ensures held { OnOk result (IsPermutation (held self.old.buckets ++ numbered (H.number self.old.hash checked.now) (windows_of_func self.old.bounds (bodies_of checked.now.functions) func)) (held self.new.buckets)) }
+        ensures buckets { OnOk result (self.new.buckets
+            ≡ all_entered (same_in checked.now) (numbered (H.number self.old.hash checked.now) (windows_of_func self.old.bounds (bodies_of checked.now.functions) func)) self.old.buckets) }
         ensures kept { self.new ≡ record self.old { buckets = self.new.buckets } }
         ensures err { OnErr result (self.new ≡ self.old) }
         ensures entered { OnOk result (steps.new.entered ≡ steps.old.entered + length (windows_of_func self.old.bounds (bodies_of checked.now.functions) func)) }

@@ -1,8 +1,10 @@
 //! The index of a package.
 
-ghost use Rattle.std.specs.Prelude.{◌≡◌, ◌≤◌, ◌+◌, length, IfOk, OnOk};
-ghost use Rattle.clone_window.specs.Bodies.{bodies_of};
+ghost use Rattle.std.specs.Prelude.{◌≡◌, ◌≤◌, ◌+◌, [], length, IfOk, OnOk};
+ghost use Rattle.clone_window.specs.Bodies.{bodies_of, same_in};
 ghost use Rattle.clone_classes.specs.Listing.{windows_of_all};
+ghost use Rattle.alpha_hash_defs.specs.Sharing.{numbered};
+ghost use Rattle.window_index.specs.Counting.{rivals};
 ghost use Rattle.window_index.specs.Holding.{HoldsPackage};
 
 use crate::index::Index;
@@ -12,7 +14,8 @@ use go_typed::checked::Checked;
 use std::alloc::Global;
 use std::sync::ledger::Ledger;
 
-/// An index that holds the windows of a package of `min` to 32 statements whose mass is at least `mass`, each once.
+/// An index that holds the windows of a package of `min` to 32 statements whose mass is at least `mass`, each once. A window is
+/// compared with one window of each group under its hash and with no other.
 ///
 /// # Errors
 ///
@@ -33,6 +36,8 @@ pub fn index_of<H: WindowHash + Drop, L: Ledger>(
     ensures asked { IfOk result (λ i. (i.hash ≡ hash) × (i.bounds ≡ record { fewest = min; least = mass })) }
     ensures entered { OnOk result (steps.new.entered ≡ steps.old.entered + length (windows_of_all (record { fewest = min; least = mass }) 0 (bodies_of checked.now.functions))) }
     ensures at_most { steps.new.entered ≤ steps.old.entered + length (windows_of_all (record { fewest = min; least = mass }) 0 (bodies_of checked.now.functions)) }
+    ensures compared { steps.new.compared ≤ steps.old.compared
+        + rivals (same_in checked.now) (numbered (H.number hash checked.now) (windows_of_all (record { fewest = min; least = mass }) 0 (bodies_of checked.now.functions))) [] }
     ensures checked { steps.new.checked ≡ steps.old.checked }
 {
     let _types = checked.types();

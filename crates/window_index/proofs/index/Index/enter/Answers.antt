@@ -44,6 +44,14 @@ returns-in-Ok-clause-held g c =
     (subst (λ (es : List Bucket). IsPermutation (held bs ++ numbered number ws) (held es)) (sym (c.in-Ok.ensures.ok ∙ ap (λ l. all_entered (same_in p) l bs) hs))
     (held-all-entered (same_in p) (numbered number ws) bs))
 
+pub returns-in-Ok-clause-buckets : goal.returns-in-Ok-clause-buckets
+returns-in-Ok-clause-buckets g c =
+    let p = c.args.checked.now in
+    let bodies = bodies_of p.functions in
+    let bs = c.self.inside.buckets.entries in
+    subst (λ (i : IndexView _). c.put_all.new.buckets.entries ≡ all_entered (same_in p) (numbered (g.H.WindowHash.number i.hash p) (windows_of_func i.bounds bodies c.args.func)) i.buckets) c.self.view_is
+    (c.in-Ok.ensures.ok ∙ ap (λ l. all_entered (same_in p) l bs) (c.deref.ensures.value ∙ c.in_ok-hashes.ensures))
+
 pub returns-in-Ok-clause-compared : goal.returns-in-Ok-clause-compared
 returns-in-Ok-clause-compared g c =
     let p = c.args.checked.now in
