@@ -1,0 +1,9 @@
+pub mod Lists
+pub mod Windows
+pub mod Table
+pub mod Subsumed
+pub mod Within
+pub mod Furthest
+pub mod Counted
+pub mod Examples
+pub mod Steps
