@@ -1,4 +1,4 @@
-# Read by the scripts goclone, goclone-list and install.sh: proves and builds a program of this repository where its sources are not
+# Read by the scripts goclone and install.sh: proves and builds a program of this repository where its sources are not
 # those that it was built from.
 #   ensure_built CRATE WORDS..    the program of CRATE; WORDS are those that it is tried with, once it is built
 # What it has to say goes to standard error. Its callers set `top`, the folder of the repository.
