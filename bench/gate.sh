@@ -1,8 +1,8 @@
 #!/usr/bin/env bash
 # What the gate costs. It watches a run of `rt ci` of the repository in whose top it is called, and prints a table: for each crate
 # the processor minutes of its proof, its tests and its wrong bodies, then the longest chain of crates by crates.txt, and what both
-# sums are against the proof of go_grammar in the same run. A run of the whole repository that ended has its table put into
-# docs/GATE.md too, in place of the one between the two marks there.
+# sums are against the proof of go_grammar in the same run. A run of the whole repository that ended and proved something has its
+# table put into docs/GATE.md too, in place of the one between the two marks there.
 #   bench/gate.sh [WORD ..]           starts `rt ci WORD ..`, watches it, and ends with its status
 #   bench/gate.sh --log LOG [PID]     watches the run that is going on and writes LOG, or that of the process PID, as far as it is left
 #   bench/gate.sh --table FOLDER      makes the table of an earlier watch again, from what it left in its folder
@@ -237,7 +237,7 @@ else
     status=$?
 fi
 table | tee "$room/table"
-if [[ ${words[*]} != *[a-z]* || ${words[*]} == --anew ]] && grep -qE '^[0-9]+ passed, [0-9]+ failed$' "$room/log"; then
+if [[ ${words[*]} != *[a-z]* || ${words[*]} == --anew ]] && grep -q '^proof ' "$room/times" && grep -qE '^[0-9]+ passed, [0-9]+ failed$' "$room/log"; then
     put
 fi
 exit "$status"

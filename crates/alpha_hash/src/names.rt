@@ -65,7 +65,9 @@ fn predeclared_text(number: u32) -> &'static [u8]
         20 => b"copy",
         21 => b"len",
         22 => b"make",
-        23 => b"panic",
+        23 => b"max",
+        24 => b"min",
+        25 => b"panic",
         _ => b"",
     }
 }

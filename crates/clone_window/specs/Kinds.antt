@@ -94,7 +94,9 @@ predeclared_number predeclared.Cap = 19
 predeclared_number predeclared.Copy = 20
 predeclared_number predeclared.Len = 21
 predeclared_number predeclared.Make = 22
-predeclared_number predeclared.Panic = 23
+predeclared_number predeclared.Max = 23
+predeclared_number predeclared.Min = 24
+predeclared_number predeclared.Panic = 25
 
 abbrev pub outlined : ℕ → ℕ → ℕ → Outline
 outlined kind operator count = record { kind = kind; operator = operator; count = count }

@@ -2,3 +2,4 @@ mod Order
 mod Lists
 mod AtPlace
 pub mod Applied
+pub mod Public

@@ -8,7 +8,7 @@ use Rattle.edit_apply.specs.declared.edits.Edit.{Edit}
 use Rattle.go_base.specs.Package.{most_bytes, total_bytes}
 use Rattle.edit_apply.specs.Edited.{bytes_under, file_of, spliced}
 use Rattle.edit_apply.specs.Applied.{AreApplicable, edited_by}
-use Rattle.edit_apply.proofs.Applied.{by_number}
+use Rattle.edit_apply.proofs.Public.{by_number}
 
 abbrev pub behind : List ℕ → Edit
 behind x = record { file = 0; start = 125; end = 125; text = x }

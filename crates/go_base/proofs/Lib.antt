@@ -1,2 +1,3 @@
 pub mod Gives
 mod NameLemmas
+pub mod Public

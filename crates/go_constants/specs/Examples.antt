@@ -1,6 +1,6 @@
 -- Values of operations on constants, worked out by hand from the Go specification.
 use Rattle.std.specs.Prelude.{◌≡◌, ◌^◌, true, false, Ok, Err, pos, neg_ℤ, codes}
-use Rattle.go_ints.specs.declared.operators.Op.TheVariants.{Add, Sub, Div, Xor, Shl, Shr}
+use Rattle.go_ints.specs.declared.operators.Op.TheVariants.{Add, Sub, Div, Xor, Shl, Shr, Min, Max}
 use Rattle.go_constants.specs.declared.values.Const.TheVariants.{Bool, Int, Text}
 use Rattle.go_constants.specs.declared.values.ConstOp.TheVariants.{Arith, Eq, Lt}
 use Rattle.go_constants.specs.declared.values.ConstFault.TheVariants.{TooWide, DivideZero, Operands}
@@ -34,6 +34,9 @@ pub record Examples : Type 0 where
   pub joined : folded (Arith Add) (Text (codes "ab")) (Text (codes "c")) ≡ Ok (Text (codes "abc"))
   pub by_bytes : folded Lt (Text (codes "b")) (Text (codes "ab")) ≡ Ok (Bool false)
   pub front_first : folded Lt (Text (codes "a")) (Text (codes "ab")) ≡ Ok (Bool true)
+  pub least_by_bytes : folded (Arith Min) (Text (codes "b")) (Text (codes "ab")) ≡ Ok (Text (codes "ab"))
+  pub greatest_by_bytes : folded (Arith Max) (Text (codes "b")) (Text (codes "ab")) ≡ Ok (Text (codes "b"))
+  pub greatest_rune : folded (Arith Max) (Int (pos 97) true) (Int (pos 300) false) ≡ Ok (Int (pos 300) true)
   -- what a type has
   pub byte_has_255 : is_represented (Int (pos 255) false) (basic.Int Uint8) ≡ true
   pub byte_lacks_300 : is_represented (Int (pos 300) false) (basic.Int Uint8) ≡ false

@@ -4,7 +4,7 @@ use Rattle.std.specs.Ordering.{nat_cmp, int_cmp, is_eq, is_ne, is_lt, is_le, is_
 use Rattle.std.specs.Cmp.Lexicographic.{slice_cmp}
 use Rattle.std.specs.declared.cmp.Ordering.{Ordering}
 use Rattle.go_ints.specs.declared.operators.Op.{Op}
-use Rattle.go_ints.specs.declared.operators.Op.TheVariants.{Add, Shl, Shr}
+use Rattle.go_ints.specs.declared.operators.Op.TheVariants.{Add, Shl, Shr, Min, Max}
 use Rattle.go_ints.specs.declared.operators.Trap.{Trap}
 use Rattle.go_ints.specs.declared.operators.Trap.TheVariants as trap
 use Rattle.go_ints.specs.Arithmetic.{exact, trap_of}
@@ -77,9 +77,18 @@ folded_bools Both a b = Ok (const.Bool (a && b))
 folded_bools Either a b = Ok (const.Bool (a || b))
 folded_bools _ a b = Err fault.Operands
 
+-- the lesser and the greater of two texts, by their bytes
+abbrev pub least_text : List ℕ → List ℕ → List ℕ
+least_text a b = if is_le (slice_cmp nat_cmp a b) then a else b
+
+abbrev pub greatest_text : List ℕ → List ℕ → List ℕ
+greatest_text a b = if is_le (slice_cmp nat_cmp a b) then b else a
+
 -- texts are joined and compared by their bytes
 abbrev pub folded_texts : ConstOp → List ℕ → List ℕ → Result Const ConstFault
 folded_texts (Arith Add) a b = Ok (const.Text (a ++ b))
+folded_texts (Arith Min) a b = Ok (const.Text (least_text a b))
+folded_texts (Arith Max) a b = Ok (const.Text (greatest_text a b))
 folded_texts (Arith _) a b = Err fault.Operands
 folded_texts op a b = comparison op (slice_cmp nat_cmp a b)
 
@@ -89,11 +98,13 @@ folded op (const.Int a left) (const.Int b right) = folded_wholes op a left b rig
 folded op (const.Text a) (const.Text b) = folded_texts op a b
 folded op _ _ = Err fault.Operands
 
--- to join texts takes memory, and nothing else does
-abbrev pub joins : ConstOp → Bool
-joins (Arith Add) = true
-joins _ = false
+-- to give a text takes memory, and nothing else does
+abbrev pub gives_text : ConstOp → Bool
+gives_text (Arith Add) = true
+gives_text (Arith Min) = true
+gives_text (Arith Max) = true
+gives_text _ = false
 
 abbrev pub takes_memory : ConstOp → Const → Const → Bool
-takes_memory op (const.Text a) (const.Text b) = joins op
+takes_memory op (const.Text a) (const.Text b) = gives_text op
 takes_memory op _ _ = false

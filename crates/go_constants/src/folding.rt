@@ -1,7 +1,7 @@
 //! Operations on constants.
 ghost use Rattle.std.specs.Prelude.{◌≡◌, false};
 ghost use Rattle.go_base.specs.Gives.{Gives};
-ghost use Rattle.go_constants.specs.Folding.{folded, folded_bools, folded_wholes, folded_texts, comparison, refusal_of, itself, rune_mark, joins, takes_memory};
+ghost use Rattle.go_constants.specs.Folding.{folded, folded_bools, folded_wholes, folded_texts, comparison, refusal_of, itself, rune_mark, gives_text, least_text, greatest_text, takes_memory};
 
 use crate::shared::SharedBytes;
 use crate::values::{Const, ConstFault, ConstOp};
@@ -16,14 +16,14 @@ use std::cmp::Ordering;
 ///
 /// Whole numbers and runes take every operator but `&&` and `||`: the result is exact, and a rune
 /// where one of the operands is one, or where the left one is for a shift, whose count may be any
-/// that is not negative. Booleans take `==`, `!=`, `&&` and `||`, texts `+` and the comparisons, by
-/// their bytes (Go specification, "Constant expressions", "Arithmetic operators",
-/// "Comparison operators", "String concatenation").
+/// that is not negative. Booleans take `==`, `!=`, `&&` and `||`, texts `+`, `min`, `max` and the
+/// comparisons, by their bytes (Go specification, "Constant expressions", "Arithmetic operators",
+/// "Comparison operators", "String concatenation", "Min and max").
 ///
 /// # Errors
 /// `Operands` exactly where the operation is not defined on the two operands or the count of a
 /// shift is negative, else `DivideZero` exactly where a divisor is 0, else `TooWide` exactly where
-/// the result lies outside -2^127 to 2^127-1. `Memory` where memory ran out, for a joined text alone.
+/// the result lies outside -2^127 to 2^127-1. `Memory` where memory ran out, for a text alone.
 pub fn fold(alloc: Global, op: ConstOp, a: &Const, b: &Const) -> Result<Const, ConstFault>
     ensures value { Gives itself refusal_of result (folded op a.now b.now) }
     ensures no_memory { takes_memory op a.now b.now ≡ false → result ≡ folded op a.now b.now }
@@ -40,7 +40,7 @@ pub fn fold(alloc: Global, op: ConstOp, a: &Const, b: &Const) -> Result<Const, C
                 rune: right,
             },
         ) => fold_wholes(op, *a, *left, *b, *right),
-        (Const::Text(a), Const::Text(b)) => fold_texts(alloc, op, a.as_slice(), b.as_slice()),
+        (Const::Text(a), Const::Text(b)) => fold_texts(alloc, op, a, b),
         _ => Err(ConstFault::Operands),
     }
 }
@@ -78,14 +78,47 @@ fn is_rune(op: Op, left: bool, right: bool) -> bool
     }
 }
 
-fn fold_texts(alloc: Global, op: ConstOp, a: &[u8], b: &[u8]) -> Result<Const, ConstFault>
+fn fold_texts(
+    alloc: Global,
+    op: ConstOp,
+    a: &SharedBytes,
+    b: &SharedBytes,
+) -> Result<Const, ConstFault>
     ensures value { Gives itself refusal_of result (folded_texts op a.now b.now) }
-    ensures no_memory { joins op ≡ false → result ≡ folded_texts op a.now b.now }
+    ensures no_memory { gives_text op ≡ false → result ≡ folded_texts op a.now b.now }
 {
     match op {
-        ConstOp::Arith(Op::Add) => Ok(Const::Text(SharedBytes::joined(alloc, a, b)?)),
+        ConstOp::Arith(Op::Add) => Ok(Const::Text(SharedBytes::joined(
+            alloc,
+            a.as_slice(),
+            b.as_slice(),
+        )?)),
+        ConstOp::Arith(Op::Min) => Ok(Const::Text(least(a, b).shared()?)),
+        ConstOp::Arith(Op::Max) => Ok(Const::Text(greatest(a, b).shared()?)),
         ConstOp::Arith(_) => Err(ConstFault::Operands),
-        _ => compare(op, a.cmp(b)),
+        _ => compare(op, a.as_slice().cmp(b.as_slice())),
+    }
+}
+
+/// The lesser of two texts, by their bytes.
+fn least<'a>(a: &'a SharedBytes, b: &'a SharedBytes) -> &'a SharedBytes
+    ensures { result.now ≡ least_text a.now b.now }
+{
+    if a.as_slice().cmp(b.as_slice()).is_le() {
+        a
+    } else {
+        b
+    }
+}
+
+/// The greater of two texts, by their bytes.
+fn greatest<'a>(a: &'a SharedBytes, b: &'a SharedBytes) -> &'a SharedBytes
+    ensures { result.now ≡ greatest_text a.now b.now }
+{
+    if a.as_slice().cmp(b.as_slice()).is_le() {
+        b
+    } else {
+        a
     }
 }
 

@@ -34,7 +34,7 @@ impl Const {
 /// A binary operation on constants (Go specification, "Constant expressions").
 #[derive(Clone, Copy, PartialEq, Eq, Debug)]
 pub enum ConstOp {
-    /// An operator on integers. `Add` also joins texts.
+    /// An operation on integers. `Add` also joins texts, and `Min` and `Max` have them too.
     Arith(Op),
     /// `==`
     Eq,

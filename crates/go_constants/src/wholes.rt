@@ -50,6 +50,8 @@ fn within_width(op: Op, a: i128, b: i128) -> Option<i128>
         Op::AndNot => Some(a & !b),
         Op::Shl => shifted_left(a, b),
         Op::Shr => Some(shifted_right(a, b)),
+        Op::Min => Some(if b < a { b } else { a }),
+        Op::Max => Some(if a < b { b } else { a }),
     }
 }
 

@@ -4,6 +4,8 @@ use Rattle.std.specs.Prelude.{◌==◌, ◌&&◌, ◌||◌, if◌then◌else◌,
 use Rattle.std.specs.List.{list_all}
 use Rattle.go_base.specs.declared.fault.FaultCode.TheVariants as code
 use Rattle.go_constants.specs.declared.values.Const.{Const}
+use Rattle.go_ints.specs.declared.operators.Op.{Op}
+use Rattle.go_ints.specs.declared.operators.Op.TheVariants as op
 use Rattle.go_tree.specs.declared.object.Predeclared.{Predeclared}
 use Rattle.go_tree.specs.declared.object.Predeclared.TheVariants as predeclared
 use Rattle.go_types.specs.Trees.{TypeTree, TypeRow}
@@ -15,13 +17,16 @@ use Rattle.go_typed.specs.Trees as sort
 use Rattle.go_exprs_rules.specs.declared.family.OpenKind.{OpenKind}
 use Rattle.go_exprs_rules.specs.Calls.{keeps_value, becomes_text, converts_value, operands_unless, open_conversion, value_conversion, kept_conversion, conversion_failing, conversion_take, parameters_of, row_length, all_unassignable, function_call_failing, printed, all_printed, has_elements, length_failing, sizes_failing}
 use Rattle.go_exprs_rules.specs.Calls.{count_unless, make_failing, each_unassignable, append_failing_in, append_failing, copies, copy_failing, panic_failing, builtin_failing, length_sort, made_sort, appended_sort, builtin_sort, appended_takes, builtin_takes, one_conversion, call_failing, converted_sort, call_sort, function_takes, call_takes}
-use Rattle.go_exprs_rules.specs.Faults.{fault_at}
+use Rattle.go_exprs_rules.specs.Calls.{met, all_met, meeting, are_constants, each_unrepresented, extreme_refuse, extreme_failing_in, extreme_failing, better, extreme_behind, extreme_value, extreme_in, extreme_sort, extreme_take_in, extreme_take}
+use Rattle.go_exprs_rules.specs.Faults.{fault_at, or_else}
 use Rattle.go_exprs_rules.specs.Indexes.{bound_failing, disordered}
+use Rattle.go_exprs_rules.specs.Operators.{Common, in_type, in_kind, own, unordered}
 use Rattle.go_exprs_rules.specs.Settling.{Part, unrepresented, undefaulted, unassignable, Take, stay, default, as_type}
-use Rattle.go_exprs_rules.specs.Sorts.{Stands, family_of, is_whole, is_text, named_type, constant_of, open_kind, is_constant, underlying_in, form_of_value, value_type, suits, has_nil, slice_element, represents, int}
+use Rattle.go_exprs_rules.specs.Sorts.{Stands, family_of, is_whole, is_text, named_type, constant_of, open_kind, is_constant, underlying_in, form_of_value, value_type, suits, has_nil, slice_element, represents, default_type, int}
 use Rattle.go_elsewhere.specs.Elsewhere.{placed}
 use Rattle.go_elsewhere.proofs.Indexes.{bound_kept, disordered_kept}
-use Rattle.go_elsewhere.proofs.Parts.{fails, every, sort_kept, count_kept, either, either_of, both, map_kept, all_kept}
+use Rattle.go_elsewhere.proofs.Operators.{unordered_kept}
+use Rattle.go_elsewhere.proofs.Parts.{fails, every, sort_kept, count_kept, either, either_of, both, or_else_kept, map_kept, all_kept}
 use Rattle.go_elsewhere.proofs.Settling.{unrepresented_kept, undefaulted_kept, unassignable_kept}
 
 module _ (m : ℕ → ℕ) (rights : Rights) where
@@ -142,6 +147,43 @@ module _ (m : ℕ → ℕ) (rights : Rights) where
   panic_kept i j (x ∷ []) = printed_kept i j x
   panic_kept i j (x ∷ y ∷ xs) = refl
 
+  -- ---- `min` and `max`
+
+  all_met_kept : (c : Option Common) (xs : List Part) → all_met rights c (every m xs) ≡ all_met rights c xs
+  all_met_kept c [] = refl
+  all_met_kept c (typed f i j l ps ∷ xs) = all_met_kept (met rights c (own l.sort)) xs
+
+  meeting_kept : (xs : List Part) → meeting rights (every m xs) ≡ meeting rights xs
+  meeting_kept [] = refl
+  meeting_kept (typed f i j l ps ∷ xs) = all_met_kept (own l.sort) xs
+
+  constants_kept : (xs : List Part) → are_constants (every m xs) ≡ are_constants xs
+  constants_kept xs = all_kept m (λ x. is_constant (sort_of x)) (λ x. ap is_constant (sort_kept m x)) xs
+
+  each_unrepresented_kept : (t : TypeTree) (xs : List Part) → each_unrepresented rights t (every m xs) ≡ fails m (each_unrepresented rights t xs)
+  each_unrepresented_kept t [] = refl
+  each_unrepresented_kept t (x ∷ xs) =
+      both m (unrepresented rights t (placed m x)) (each_unrepresented rights t (every m xs)) (unrepresented rights t x) (each_unrepresented rights t xs) (unrepresented_kept m rights t x) (each_unrepresented_kept t xs)
+
+  extreme_refuse_kept : (b : Bool) (c : Common) (xs : List Part) → extreme_refuse rights b c (every m xs) ≡ fails m (extreme_refuse rights b c xs)
+  extreme_refuse_kept b (in_type t) xs = each_unrepresented_kept t xs
+  extreme_refuse_kept b (in_kind k) xs =
+      let t = default_type k in
+      either_of m b [] (each_unrepresented rights t (every m xs)) [] (each_unrepresented rights t xs) refl (each_unrepresented_kept t xs)
+
+  extreme_in_kept : (i j : ℕ) (xs : List Part) (c : Option Common) → extreme_failing_in rights (m i) (m j) (every m xs) c ≡ fails m (extreme_failing_in rights i j xs c)
+  extreme_in_kept i j xs None = refl
+  extreme_in_kept i j xs (Some c) =
+      ap (λ b. or_else (unordered rights (m i) (m j) c) (extreme_refuse rights b c (every m xs))) (constants_kept xs)
+      ∙ or_else_kept m (unordered rights (m i) (m j) c) (extreme_refuse rights (are_constants xs) c (every m xs)) (unordered rights i j c) (extreme_refuse rights (are_constants xs) c xs)
+      (unordered_kept m rights i j c) (extreme_refuse_kept (are_constants xs) c xs)
+
+  extreme_kept : (i j : ℕ) (xs : List Part) → extreme_failing rights (m i) (m j) (every m xs) ≡ fails m (extreme_failing rights i j xs)
+  extreme_kept i j [] = refl
+  extreme_kept i j (x ∷ xs) = ap (extreme_failing_in rights (m i) (m j) (every m (x ∷ xs))) (meeting_kept (x ∷ xs)) ∙ extreme_in_kept i j (x ∷ xs) (meeting rights (x ∷ xs))
+
+  -- ---- all of them
+
   builtin_kept : (i j : ℕ) (p : Predeclared) (xs : List Part) → builtin_failing rights (m i) (m j) p (every m xs) ≡ fails m (builtin_failing rights i j p xs)
   builtin_kept i j predeclared.Len xs = length_kept i j true xs
   builtin_kept i j predeclared.Cap xs = length_kept i j false xs
@@ -149,6 +191,8 @@ module _ (m : ℕ → ℕ) (rights : Rights) where
   builtin_kept i j predeclared.Append xs = append_kept i j xs
   builtin_kept i j predeclared.Copy xs = copy_kept i j xs
   builtin_kept i j predeclared.Panic xs = panic_kept i j xs
+  builtin_kept i j predeclared.Min xs = extreme_kept i j xs
+  builtin_kept i j predeclared.Max xs = extreme_kept i j xs
   builtin_kept i j p xs = refl
 
   one_kept : (i j : ℕ) (t : TypeTree) (xs : List Part) → one_conversion rights (m i) (m j) t (every m xs) ≡ fails m (one_conversion rights i j t xs)
@@ -176,6 +220,17 @@ module _ (m : ℕ → ℕ) (rights : Rights) where
   appended_sort_kept [] = refl
   appended_sort_kept (typed f i j l ps ∷ xs) = refl
 
+  extreme_behind_kept : (o : Op) (c : Option Const) (xs : List Part) → extreme_behind o c (every m xs) ≡ extreme_behind o c xs
+  extreme_behind_kept o c [] = refl
+  extreme_behind_kept o c (typed f i j l ps ∷ xs) = extreme_behind_kept o (better o c (constant_of l.sort)) xs
+
+  extreme_value_kept : (o : Op) (xs : List Part) → extreme_value o (every m xs) ≡ extreme_value o xs
+  extreme_value_kept o [] = refl
+  extreme_value_kept o (typed f i j l ps ∷ xs) = extreme_behind_kept o (constant_of l.sort) xs
+
+  extreme_sort_kept : (o : Op) (xs : List Part) → extreme_sort rights o (every m xs) ≡ extreme_sort rights o xs
+  extreme_sort_kept o xs = ap (λ c. extreme_in c (extreme_value o (every m xs))) (meeting_kept xs) ∙ ap (extreme_in (meeting rights xs)) (extreme_value_kept o xs)
+
   builtin_sort_kept : (p : Predeclared) (xs : List Part) → builtin_sort rights p (every m xs) ≡ builtin_sort rights p xs
   builtin_sort_kept predeclared.Len xs = length_sort_kept xs
   builtin_sort_kept predeclared.Cap xs = length_sort_kept xs
@@ -183,6 +238,8 @@ module _ (m : ℕ → ℕ) (rights : Rights) where
   builtin_sort_kept predeclared.Append xs = appended_sort_kept xs
   builtin_sort_kept predeclared.Copy xs = refl
   builtin_sort_kept predeclared.Panic xs = refl
+  builtin_sort_kept predeclared.Min xs = extreme_sort_kept op.Min xs
+  builtin_sort_kept predeclared.Max xs = extreme_sort_kept op.Max xs
   builtin_sort_kept p xs = refl
 
   converted_kept : (t : TypeTree) (xs : List Part) → converted_sort rights t (every m xs) ≡ converted_sort rights t xs
@@ -204,10 +261,18 @@ module _ (m : ℕ → ℕ) (rights : Rights) where
   appended_takes_kept (Some t) xs = ap (λ ks. stay ∷ ks) (same_takes (as_type t) xs)
   appended_takes_kept None xs = ap (λ ks. stay ∷ ks) (same_takes default xs)
 
+  extreme_take_kept : (xs : List Part) → extreme_take rights (every m xs) ≡ extreme_take rights xs
+  extreme_take_kept xs = ap (λ b. extreme_take_in b (meeting rights (every m xs))) (constants_kept xs) ∙ ap (extreme_take_in (are_constants xs)) (meeting_kept xs)
+
+  extreme_takes_kept : (xs : List Part) → map (λ (y : Part). extreme_take rights (every m xs)) (every m xs) ≡ map (λ (y : Part). extreme_take rights xs) xs
+  extreme_takes_kept xs = ap (λ k. map (λ (y : Part). k) (every m xs)) (extreme_take_kept xs) ∙ same_takes (extreme_take rights xs) xs
+
   builtin_takes_kept : (p : Predeclared) (xs : List Part) → builtin_takes rights p (every m xs) ≡ builtin_takes rights p xs
   builtin_takes_kept p [] = refl
   builtin_takes_kept predeclared.Make (x ∷ xs) = ap (λ ks. stay ∷ ks) (same_takes (as_type int) xs)
   builtin_takes_kept predeclared.Append (typed f i j l ps ∷ xs) = appended_takes_kept (slice_element (form_of_value rights l.sort)) xs
+  builtin_takes_kept predeclared.Min (x ∷ xs) = extreme_takes_kept (x ∷ xs)
+  builtin_takes_kept predeclared.Max (x ∷ xs) = extreme_takes_kept (x ∷ xs)
   builtin_takes_kept p (x ∷ xs) = same_takes default (x ∷ xs)
 
   function_takes_kept : (o : Option TypeRow) (xs : List Part) → function_takes o (every m xs) ≡ function_takes o xs

@@ -20,9 +20,9 @@ use Rattle.go_exprs_rules.specs.Faults.{fault_at, or_else}
 use Rattle.go_exprs_rules.specs.Calls.{call_failing, call_sort, call_takes}
 use Rattle.go_exprs_rules.specs.Indexes.{selector_failing, selector_sort, index_failing, index_sort, slice_failing, slice_sort}
 use Rattle.go_exprs_rules.specs.Literals.{literal_failing, literal_sort, literal_takes}
-use Rattle.go_exprs_rules.specs.Names.{place_failing, not_a_value, one_value, is_no_value, is_no_type, is_no_callee, is_no_target, is_no_statement, are_results, object_sort, need_of, name_sort, object_form, declared_form, form_or_type, name_form}
+use Rattle.go_exprs_rules.specs.Names.{place_failing, not_a_value, one_value, too_many, is_no_value, is_no_type, is_no_callee, is_no_target, is_no_statement, are_results, object_sort, need_of, name_sort, object_form, declared_form, form_or_type, name_form}
 use Rattle.go_exprs_rules.specs.Operators.{unary_failing, unary_sort, unary_take, operation_failing, operation_sort, operation_takes}
-use Rattle.go_exprs_rules.specs.Scopes.{Needed, Scope, Hint, several, type_place, loose, inside, loose_inside, callee, statement, target, declares, free}
+use Rattle.go_exprs_rules.specs.Scopes.{Needed, Scope, Hint, several, type_place, loose, inside, one_inside, loose_inside, callee, statement, target, declares, free}
 use Rattle.go_exprs_rules.specs.Settling.{Part, Take, stay, given}
 use Rattle.go_exprs_rules.specs.Sorts.{Stands, is_constant}
 use Rattle.go_exprs_rules.specs.Tables.{Parts, is_held, held, all_held, leaf, is_type, cut, first_cut, is_make_call, call_parts, has_no_low, bounds_of, bracketed_parts, is_package, selector_parts, behind_first, layout, present, on_one, on_two, on_first, on_bracketed, on_optional}
@@ -187,6 +187,10 @@ module _ (m : ℕ → ℕ) where
   one_value_kept true s i j = refl
   one_value_kept false s i j = either_of m (are_results s) _ _ _ _ refl refl
 
+  too_many_kept : (b : Bool) (s : Stands) (i j : ℕ) → too_many b s (m i) (m j) ≡ fails m (too_many b s i j)
+  too_many_kept true s i j = refl
+  too_many_kept false s i j = one_value_kept false s i j
+
   place_kept : (rights : Rights) (h : Hint) (i j : ℕ) (s : Stands) → place_failing rights h (m i) (m j) s ≡ fails m (place_failing rights h i j s)
   place_kept rights several i j s = not_value_kept (is_no_value rights s) i j
   place_kept rights type_place i j s = not_value_kept (is_no_type s) i j
@@ -195,6 +199,7 @@ module _ (m : ℕ → ℕ) where
   place_kept rights target i j s = one_value_kept (is_no_target rights s) s i j
   place_kept rights statement i j s = not_value_kept (is_no_statement s) i j
   place_kept rights inside i j s = refl
+  place_kept rights one_inside i j s = too_many_kept (is_no_value rights s) s i j
   place_kept rights loose_inside i j s = refl
   place_kept rights declares i j s = refl
   place_kept rights free i j s = refl

@@ -80,7 +80,7 @@ module _ (m : ℕ → ℕ) (rights : Rights) where
   shift_kept : (o : Operator) (i j : ℕ) (x n : Part) → shift_failing rights o (m i) (m j) (placed m x) (placed m n) ≡ fails m (shift_failing rights o i j x n)
   shift_kept o i j (typed f a b k ps) n = shift_by_kept o i j (typed f a b k ps) n (own k.sort)
 
-  unordered_kept : (i j : ℕ) (c : Common) → unordered rights (m i) (m j) c ≡ fails m (unordered rights i j c)
+  pub unordered_kept : (i j : ℕ) (c : Common) → unordered rights (m i) (m j) c ≡ fails m (unordered rights i j c)
   unordered_kept i j c = either m (is_family family.Integers (family_in rights c) || is_family family.Texts (family_in rights c)) [] (fault_at code.Operands i j)
 
   incomparable_kept : (i j : ℕ) (c : Common) → incomparable rights (m i) (m j) c ≡ fails m (incomparable rights i j c)

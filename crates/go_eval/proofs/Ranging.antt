@@ -8,7 +8,7 @@ use Rattle.go_meaning.specs.Values.{Value, nth}
 use Rattle.go_meaning.specs.Computations as meaning
 use Rattle.go_meaning.specs.Computations.{World, Ending, Next, Return, Break, Continue, Fallthrough, Panics, Comp, Undecided, end_by, give, then_do, looped, spend, each, over}
 use Rattle.go_meaning.specs.Doings.{Doing, at, finds_of, stores, assigned, iterated}
-use Rattle.go_meaning.specs.Operations.{Items, Fixed, Elements, Cells, Runes, Item, item, item_count, operate}
+use Rattle.go_meaning.specs.Operations.{Items, Fixed, Elements, Cells, Runes, Numbers, Item, item, item_count, operate}
 use Rattle.go_eval_plans.specs.Views.{items_view}
 use Rattle.go_eval_operations.specs.Places.{IsPlace}
 use Rattle.go_values.specs.Views.{view, views}
@@ -27,6 +27,7 @@ first_place (Fixed n) v = tt
 first_place Elements v = tt
 first_place Cells v = tt
 first_place Runes v = (omega arith, refl)
+first_place Numbers v = tt
 
 -- ---- a computation that is behind several
 

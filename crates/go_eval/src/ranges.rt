@@ -79,7 +79,7 @@ fn values_of(alloc: Global, first: Value, second: Option<Value>) -> Result<Vec<V
 }
 
 /// The number behind one of so many.
-fn following(number: usize, count: usize) -> usize
+fn following(number: u128, count: u128) -> u128
     ensures { number < count → result ≡ number + 1 }
 {
     if number < count { number + 1 } else { count }

@@ -215,6 +215,10 @@ module _ (p : PackageView) (n : ℕ) (x : TypedNode) (r : Rest) (vs : List Value
     unfolding act task_rest
     begins_runes = begins_drop r vs _ (item_rest operations.Runes) (λ us d f w t. refl) (at (parts_of p n x) m).value
 
+    pub begins_numbers : Same (begins p x (plan.Iterate m items.Numbers) n r vs) (lays_value p x (what.Items m items.Numbers) m n r vs)
+    unfolding act task_rest
+    begins_numbers = begins_drop r vs _ (item_rest operations.Numbers) (λ us d f w t. refl) (at (parts_of p n x) m).value
+
 -- ---- nodes by their plans
 
 module _ (p : PackageView) (x : TypedNode) (q : Plan) (e : plan_view (rights_of p.types) (type_of p.types.shapes) (sort_seen p.types (out-TypedNode x).sort) (all_seen p.types (out-TypedNode x).parts.items) q ≡ plan_meant (rights_of p.types) (out-TypedNode x).form (label_mapped (type_of p.types.shapes) (label_at (out-TypedNode x))) (all_seen p.types (out-TypedNode x).parts.items)) where

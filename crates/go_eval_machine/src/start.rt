@@ -88,6 +88,9 @@ impl<'a> Engine<'a> {
             }
             Items::Cells => self.lay_value(node, What::Items { targets, items }, targets as usize),
             Items::Runes => self.lay_value(node, What::Items { targets, items }, targets as usize),
+            Items::Numbers => {
+                self.lay_value(node, What::Items { targets, items }, targets as usize)
+            }
         }
     }
 

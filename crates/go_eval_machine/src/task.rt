@@ -26,9 +26,9 @@ pub struct Iteration {
     /// What its operand was at the start.
     pub operand: Value,
     /// How many items there are.
-    pub count: usize,
+    pub count: u128,
     /// The number of the next item.
-    pub next: usize,
+    pub next: u128,
     /// Where it begins: of a rune the place of its first byte.
     pub place: usize,
 }

@@ -2,7 +2,7 @@
 use Rattle.std.specs.Prelude.{◌≡◌, ◌≤◌, ℕ, if◌then◌else◌, List, [], ◌∷◌, Option, Some, None, drop, length, slice_get}
 use Rattle.std.specs.Str.{chars, is_utf8}
 use Rattle.go_meaning.specs.Values.{Value, text_of}
-use Rattle.go_meaning.specs.Operations.{Items, Fixed, Elements, Cells, Runes}
+use Rattle.go_meaning.specs.Operations.{Items, Fixed, Elements, Cells, Runes, Numbers}
 use Rattle.go_meaning.specs.Texts.{runes_from, runes_of}
 
 -- The runes of the string from this one on are those of the bytes from the place on.
@@ -15,6 +15,7 @@ IsPlace (Fixed n) v number place = Unit {0}
 IsPlace Elements v number place = Unit {0}
 IsPlace Cells v number place = Unit {0}
 IsPlace Runes v number place = IsRunePlace (text_of v) number place
+IsPlace Numbers v number place = Unit {0}
 
 -- the values that an item consists of
 abbrev pub item_values : Value → Option Value → List Value

@@ -1,8 +1,8 @@
 //! The items of range clauses (Go specification, "For statements with range clause").
 
-ghost use Rattle.std.specs.Prelude.{◌≡◌, ◌+◌, ◌<◌, ℕ, IfOk, length, pos};
+ghost use Rattle.std.specs.Prelude.{◌≡◌, ◌+◌, ◌<◌, ℕ, IfOk, None, length, pos};
 ghost use Rattle.std.specs.Option.{option_map};
-ghost use Rattle.go_meaning.specs.Operations.{item, item_count, rune_at};
+ghost use Rattle.go_meaning.specs.Operations.{item, item_count, numbers_below, rune_at};
 ghost use Rattle.go_meaning.specs.Texts.{runes_of};
 ghost use Rattle.go_meaning.specs.Values.{Whole};
 ghost use Rattle.go_eval_plans.specs.Views.{items_view};
@@ -26,16 +26,32 @@ pub struct Item {
     pub next: usize,
 }
 
+/// How many whole numbers from 0 on are below an integer.
+fn numbers_below(bound: i128) -> u128
+    ensures { result ≡ numbers_below bound }
+{
+    if bound < 0 { 0 } else { bound as u128 }
+}
+
 /// How many items there are, at the start.
-pub fn item_count(items: Items, operand: &Value) -> usize
+pub fn item_count(items: Items, operand: &Value) -> u128
     ensures { result ≡ item_count (items_view items) (view operand.now) }
 {
     match items {
-        Items::Fixed(count) => count as usize,
-        Items::Elements => operand.parts().len(),
-        Items::Cells => length(operand),
-        Items::Runes => rune_count(operand.text()),
+        Items::Fixed(count) => u128::from(count),
+        Items::Elements => operand.parts().len() as u128,
+        Items::Cells => length(operand) as u128,
+        Items::Runes => rune_count(operand.text()) as u128,
+        Items::Numbers => numbers_below(operand.whole()),
     }
+}
+
+/// A number below a length, as a place.
+fn place_below(number: u128, length: usize) -> usize
+    requires { number < length }
+    ensures { result ≡ number }
+{
+    number as usize
 }
 
 /// An item that begins at no place.
@@ -46,6 +62,19 @@ fn counted(number: usize, second: Option<Value>) -> Item
     Item {
         first: Value::Whole(number as i128),
         second,
+        next: 0,
+    }
+}
+
+/// A number below an integer, as an item.
+fn number_item(number: u128, bound: i128) -> Item
+    requires { number < numbers_below bound }
+    ensures first { view result.first ≡ Whole (pos number) }
+    ensures second { result.second ≡ None }
+{
+    Item {
+        first: Value::Whole(number as i128),
+        second: None,
         next: 0,
     }
 }
@@ -73,7 +102,7 @@ fn rune_item(bytes: &[u8], place: usize) -> Item
 pub fn item_at(
     alloc: Global,
     items: Items,
-    number: usize,
+    number: u128,
     place: usize,
     operand: &Value,
     world: &World,
@@ -84,9 +113,16 @@ pub fn item_at(
     ensures next { IfOk result (λ i. IsPlace (items_view items) (view operand.now) (number + 1) i.next) }
 {
     match items {
-        Items::Fixed(_) => Ok(counted(number, None)),
-        Items::Elements => Ok(counted(number, Some(copy_part(alloc, operand, number)?))),
-        Items::Cells => Ok(counted(number, Some(world.copy_cell(alloc, operand, number)?))),
+        Items::Fixed(count) => Ok(counted(place_below(number, count as usize), None)),
+        Items::Elements => {
+            let index = place_below(number, operand.parts().len());
+            Ok(counted(index, Some(copy_part(alloc, operand, index)?)))
+        }
+        Items::Cells => {
+            let index = place_below(number, length(operand));
+            Ok(counted(index, Some(world.copy_cell(alloc, operand, index)?)))
+        }
         Items::Runes => Ok(rune_item(operand.text(), place)),
+        Items::Numbers => Ok(number_item(number, operand.whole())),
     }
 }

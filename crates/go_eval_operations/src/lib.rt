@@ -7,6 +7,7 @@ mod cuts;
 mod items;
 mod numbers;
 mod operands;
+mod picks;
 mod runes;
 mod slices;
 mod table;

@@ -14,9 +14,11 @@ use crate::builds::build;
 use crate::cuts::slice_expression;
 use crate::numbers::{compare, complement, compute, convert, negate, not};
 use crate::operands::kept;
+use crate::picks::picked;
 use crate::slices::{append, capacity, copy, length, make_slice};
 use crate::texts::{byte, bytes_of_text, join, text_of_bytes, text_of_code};
 use go_eval_plans::plan::Operation;
+use go_grammar::kind::Comparison;
 use go_typed::node::TypedNode;
 use go_types::Types;
 use go_values::{Panic, Stop, Value, World};
@@ -56,6 +58,8 @@ pub fn perform(
         Operation::Cut { low, high } => Ok(Some(slice_expression(alloc, low, high, all)?)),
         Operation::Length => Ok(Some(length(all))),
         Operation::Capacity => Ok(Some(capacity(all))),
+        Operation::Least => Ok(Some(picked(alloc, Comparison::Less, all)?)),
+        Operation::Greatest => Ok(Some(picked(alloc, Comparison::Greater, all)?)),
         Operation::MakeSlice(ty) => Ok(Some(make_slice(alloc, types, ty, world, all)?)),
         Operation::Append(ty) => Ok(Some(append(alloc, types, ty, world, operands)?)),
         Operation::Copy => Ok(Some(copy(alloc, world, all)?)),

@@ -68,6 +68,7 @@ items_view (items.Fixed n) = does.Fixed n
 items_view items.Elements = does.Elements
 items_view items.Cells = does.Cells
 items_view items.Runes = does.Runes
+items_view items.Numbers = does.Numbers
 
 -- among parts
 abbrev pub operation_view : Rights → (ℕ → TypeTree) → Typeds TypeTree → Operation → does.Operation
@@ -86,6 +87,8 @@ operation_view rights type_of ps operation.Byte = does.Byte
 operation_view rights type_of ps (operation.Cut low high) = does.Cut low high
 operation_view rights type_of ps operation.Length = does.Length
 operation_view rights type_of ps operation.Capacity = does.Capacity
+operation_view rights type_of ps operation.Least = does.Least
+operation_view rights type_of ps operation.Greatest = does.Greatest
 operation_view rights type_of ps (operation.MakeSlice t) = does.MakeSlice (zero_in rights (type_in type_of t))
 operation_view rights type_of ps (operation.Append t) = does.Append (zero_in rights (type_in type_of t))
 operation_view rights type_of ps operation.Copy = does.Copy

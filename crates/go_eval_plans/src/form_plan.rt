@@ -134,6 +134,8 @@ fn builtin(types: &Types, name: Predeclared, parts: &[Option<TypedNode>]) -> Pla
             Plan::Perform(Operation::Append(tables::element(group_at(types, parts, 1))))
         }
         Predeclared::Copy => Plan::Perform(Operation::Copy),
+        Predeclared::Min => Plan::Perform(Operation::Least),
+        Predeclared::Max => Plan::Perform(Operation::Greatest),
         Predeclared::Panic => Plan::Perform(Operation::PanicWith),
         _ => Plan::Skip,
     }

@@ -15,6 +15,8 @@ pub enum Items {
     Cells,
     /// The runes of a string.
     Runes,
+    /// The whole numbers from 0 on that are below an integer.
+    Numbers,
 }
 
 /// What is done to the values of all parts. Types are those of the zero values that it takes, and `bool` where there is none.
@@ -50,6 +52,10 @@ pub enum Operation {
     Length,
     /// `cap` (Length and capacity).
     Capacity,
+    /// `min` (Min and max).
+    Least,
+    /// `max` (Min and max).
+    Greatest,
     /// `make` of elements of this type (Making slices, maps and channels).
     MakeSlice(Option<TypeId>),
     /// `append` to elements of this type (Appending to and copying slices).

@@ -114,6 +114,7 @@ pub fn items(single: bool, calls: bool, group: Group) -> Items
             }
         }
         Group::Slice { .. } => Items::Cells,
+        Group::Integer(_) => Items::Numbers,
         _ => Items::Runes,
     }
 }

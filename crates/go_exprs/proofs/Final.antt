@@ -1,22 +1,26 @@
 -- Final types from above are those that a tree typed by itself has once it takes what is wanted.
-use Rattle.std.proofs.Common.{◌≡◌, ℕ, Bool, true, false, cond, List, [], ◌∷◌, ◌++◌, map, Option, Some, None, refl, ap, sym, subst, ◌∙◌, append_assoc, append-nil}
-use Rattle.std.specs.Prelude.{◌&&◌}
+use Rattle.std.proofs.Common.{◌≡◌, ◌⊎◌, inl, inr, ℕ, Bool, true, false, cond, List, [], ◌∷◌, ◌++◌, map, Option, Some, None, refl, ap, sym, subst, ◌∙◌, append_assoc, append-nil}
+use Rattle.std.specs.Prelude.{◌&&◌, is_some}
 use Rattle.std.specs.Option.{option_map}
 use Rattle.go_tokens.specs.declared.token.TokenKind.{TokenKind}
+use Rattle.go_tokens.specs.declared.token.TokenKind.TheVariants as token
 use Rattle.go_grammar.specs.declared.kind.Category.{Category}
 use Rattle.go_grammar.specs.declared.kind.Category.TheVariants as category
 use Rattle.go_grammar.specs.declared.kind.Comparison.{Comparison}
 use Rattle.go_grammar.specs.declared.kind.Kind.{Kind}
 use Rattle.go_grammar.specs.declared.kind.Kind.TheVariants as kind
+use Rattle.go_grammar.specs.declared.kind.Place.TheVariants as place
 use Rattle.go_grammar.specs.declared.kind.Operator.{Operator}
 use Rattle.go_grammar.specs.declared.kind.Operator.TheVariants as operator
 use Rattle.go_grammar.specs.declared.kind.Sign.{Sign}
 use Rattle.go_grammar.specs.Categories.{within, is_expression, place_of}
-use Rattle.go_grammar.specs.Grammar.{Derives, Spells, Goes, rule}
-use Rattle.go_grammar.specs.Rules.{Items, Rule, End, Then, Maybe, Unless, Many, item}
+use Rattle.go_grammar.specs.Grammar.{Derives, Spells, Goes, rule, any}
+use Rattle.go_grammar.specs.Rules.{Items, Lines, Rule, End, Then, Maybe, Unless, Many, item}
 use Rattle.go_grammar.specs.Trees.{Tree, node, Trees, none, more, skip, kind_of, last}
 use Rattle.go_tree.specs.declared.object.Object.{Object}
 use Rattle.go_tree.specs.declared.object.Object.TheVariants as object
+use Rattle.go_ints.specs.declared.operators.Op.{Op}
+use Rattle.go_ints.specs.declared.operators.Op.TheVariants as op
 use Rattle.go_constants.specs.declared.values.Const.{Const}
 use Rattle.go_constants.specs.declared.values.Const.TheVariants as const
 use Rattle.go_tree.specs.declared.object.Predeclared.{Predeclared}
@@ -32,7 +36,7 @@ use Rattle.go_typed.specs.Trees as sort
 use Rattle.go_exprs_rules.specs.declared.fault.TypeFault.{TypeFault}
 use Rattle.go_exprs_rules.specs.Faults.{or_else}
 use Rattle.go_exprs_rules.specs.Sorts.{Stands, takes_type, is_constant, is_nil, constant_of, is_text, own_type, named_type, form_of_value, value_type, element_of, int, uint, byte}
-use Rattle.go_exprs_rules.specs.Calls.{keeps_value, becomes_text, text_of, constant_or_value, conversion_sort, converted_sort, called, results_of, length_value, length_sort, constant_length, made_sort, appended_sort, builtin_sort, call_sort}
+use Rattle.go_exprs_rules.specs.Calls.{keeps_value, becomes_text, text_of, constant_or_value, conversion_sort, converted_sort, called, results_of, length_value, length_sort, constant_length, made_sort, appended_sort, are_constants, better, extreme_behind, extreme_value, extreme_in, extreme_sort, extreme_take_in, extreme_take, meeting, call_sort, call_takes}
 use Rattle.go_exprs_rules.specs.Indexes.{value_or_unknown, index_sort, slice_sort}
 use Rattle.go_exprs_rules.specs.Literals.{literal_sort}
 use Rattle.go_exprs_rules.specs.Settling.{Part, Take, stay, default, as_type, settled, given}
@@ -42,8 +46,8 @@ use Rattle.go_exprs_rules.specs.Scopes.{Scope, Hint, declares, free}
 use Rattle.go_exprs_rules.specs.Tables.{Parts, hint, part_scope, layout, label, form_by, sort_by, takes, failing, placing, is_judged, no_faults, built, built_by, all_given, is_held, callee_form, present, literal_type, on_first, on_one, on_two, on_bracketed, on_literal}
 use Rattle.go_exprs_rules.specs.Typing.{typing, typings}
 use Rattle.go_exprs.specs.Final.{Wanted, take, bound, take_of, under, handed, final_type, each, all_take, operation_wants, wants, stands_if, wants_if, sound, alone, parts_want, finished, first_wanted, rest_wanted, rest, operand_wants, shift_wants, both_want, bounds_want, final, finals}
-use Rattle.go_exprs.proofs.Takes.{node_takes, through, unary_wants, operands_meet, shifted_wants, compared_wants, type_once, left_not_nil, right_not_nil}
-use Rattle.go_exprs.proofs.Layouts.{is_bounds, within_bounds, bounded, given_as, given_each, none_each, takes_each, same_each, list_row, first_cut_given, call_given, selector_given, behind_given, all_stay, Fit, bracketed_given}
+use Rattle.go_exprs.proofs.Takes.{labelled, node_takes, typed_stays, through, unary_wants, operands_meet, shifted_wants, compared_wants, type_once, left_not_nil, right_not_nil}
+use Rattle.go_exprs.proofs.Layouts.{is_bounds, within_bounds, bounded, given_as, given_each, none_each, takes_each, same_each, list_row, first_cut_given, call_given, selector_given, behind_given, all_stay, AllThere, there_call, Fit, bracketed_given}
 
 -- ---- a node in which no rule fails
 
@@ -78,6 +82,51 @@ closed_length : (o : Option ℕ) → takes_type (length_value o) ≡ false
 closed_length None = refl
 closed_length (Some n) = refl
 
+-- what is typed hands nothing down
+nothing_handed : (w : Take) (x : Stands) (zs : Parts) → takes_type x ≡ false → map (option_map (given (handed w x))) zs ≡ zs
+nothing_handed w x zs e = ap (λ b. map (option_map (given (cond b (final_type w x) stay))) zs) e ∙ all_stay zs
+
+-- ---- `min` and `max` of constants
+
+both_there : (o : Op) (c d : Option Const) → is_some (better o c d) ≡ true → (is_some c ≡ true) × (is_some d ≡ true)
+both_there o None d e = cc
+both_there o (Some c) None e = cc
+both_there o (Some c) (Some d) e = (refl, refl)
+
+behind_constant : (o : Op) (c : Option Const) (xs : List Part) → is_some (extreme_behind o c xs) ≡ true → (is_some c ≡ true) × (are_constants xs ≡ true)
+behind_constant o c [] e = (e, refl)
+behind_constant o c (x ∷ xs) e =
+    let later = behind_constant o (better o c (constant_of (sort_of x))) xs e in
+    let here = both_there o c (constant_of (sort_of x)) later.0 in
+    (here.0, ap (λ b. b && are_constants xs) here.1 ∙ later.1)
+
+all_constant : (o : Op) (xs : List Part) → is_some (extreme_value o xs) ≡ true → are_constants xs ≡ true
+all_constant o [] e = refl
+all_constant o (x ∷ xs) e = let all = behind_constant o (constant_of (sort_of x)) xs e in ap (λ b. b && are_constants xs) all.0 ∙ all.1
+
+-- a constant that has taken its default type takes no other
+closed_default : (x : Part) → is_constant (sort_of x) ≡ true → takes_type (sort_of (given default x)) ≡ false
+closed_default (typed f i j l ps) e = by l.sort e
+  where
+    by : (a : Stands) → is_constant a ≡ true → takes_type (sort_of (given default (typed f i j (labelled a l.varies l.calls) ps))) ≡ false
+    by (sort.OpenConstant c) e = refl
+    by (sort.Constant t c) e = refl
+    by a e = cc
+
+front_true : (a b : Bool) → (a && b) ≡ true → (a ≡ true) × (b ≡ true)
+front_true true b e = (refl, e)
+front_true false b e = cc
+
+kept_defaults : (d : Take) (zs : Parts) → AllThere zs → are_constants (present zs) ≡ true → map (option_map (given d)) (all_given (map (λ x. default) (present zs)) zs) ≡ all_given (map (λ x. default) (present zs)) zs
+kept_defaults d [] there e = refl
+kept_defaults d (None ∷ zs) there e = absurd there
+kept_defaults d (Some x ∷ zs) there e =
+    let all = front_true (is_constant (sort_of x)) (are_constants (present zs)) e in
+    let ks = map (λ x. default) (present zs) in
+    ap (λ y. Some y ∷ map (option_map (given d)) (all_given ks zs)) (typed_stays d (given default x) (closed_default x all.0)) ∙ ap (λ ys. Some (given default x) ∷ ys) (kept_defaults d zs there all.1)
+
+-- ---- by what stands for them
+
 module _ (rights : Rights) where
   closed_conversion : (t : TypeTree) (x : Stands) → takes_type (conversion_sort rights t x) ≡ false
   closed_conversion t x =
@@ -96,30 +145,66 @@ module _ (rights : Rights) where
   closed_appended [] = refl
   closed_appended (x ∷ xs) = closed_value (own_type (sort_of x))
 
-  closed_builtin : (p : Predeclared) (xs : List Part) → takes_type (builtin_sort rights p xs) ≡ false
-  closed_builtin predeclared.Len xs = closed_length_of xs
-  closed_builtin predeclared.Cap xs = closed_length_of xs
-  closed_builtin predeclared.Make xs = closed_made xs
-  closed_builtin predeclared.Append xs = closed_appended xs
-  closed_builtin predeclared.Copy xs = refl
-  closed_builtin predeclared.Panic xs = refl
-  closed_builtin p xs = refl
+  -- `min` or `max` takes no type, or its arguments are constants that take their default types
+  closed_extreme : (o : Op) (xs : List Part) → (takes_type (extreme_sort rights o xs) ≡ false) ⊎ ((extreme_take rights xs ≡ default) × (are_constants xs ≡ true))
+  closed_extreme o xs = by (meeting rights xs) (extreme_value o xs) (all_constant o xs)
+    where
+      by : (m : Option Common) (v : Option Const) → (is_some v ≡ true → are_constants xs ≡ true) → (takes_type (extreme_in m v) ≡ false) ⊎ ((extreme_take_in (are_constants xs) m ≡ default) × (are_constants xs ≡ true))
+      by None v h = inl refl
+      by (Some (in_type t)) None h = inl refl
+      by (Some (in_type t)) (Some c) h = inl refl
+      by (Some (in_kind k)) None h = inl refl
+      by (Some (in_kind k)) (Some c) h = inr (ap (λ b. extreme_take_in b (Some (in_kind k))) (h refl), h refl)
+
+  -- a call takes no type, or its arguments are constants that take their default types
+  abbrev Closes : Stands → List Part → Type 0
+  Closes a xs = (takes_type (call_sort rights a xs) ≡ false) ⊎ (((call_takes rights a xs ≡ map (λ x. default) xs) × (are_constants xs ≡ true)) × (takes_type a ≡ false))
+
+  closed_builtin : (p : Predeclared) (xs : List Part) → Closes (sort.Builtin p) xs
+  closed_builtin predeclared.Len xs = inl (closed_length_of xs)
+  closed_builtin predeclared.Cap xs = inl (closed_length_of xs)
+  closed_builtin predeclared.Make xs = inl (closed_made xs)
+  closed_builtin predeclared.Append xs = inl (closed_appended xs)
+  closed_builtin predeclared.Copy xs = inl refl
+  closed_builtin predeclared.Panic xs = inl refl
+  closed_builtin predeclared.Min [] = inl refl
+  closed_builtin predeclared.Min (x ∷ xs) = elim (closed_extreme op.Min (x ∷ xs)) [ inl e ↦ inl e | inr h ↦ inr ((ap (λ k. map (λ y. k) (x ∷ xs)) h.0, h.1), refl) ]
+  closed_builtin predeclared.Max [] = inl refl
+  closed_builtin predeclared.Max (x ∷ xs) = elim (closed_extreme op.Max (x ∷ xs)) [ inl e ↦ inl e | inr h ↦ inr ((ap (λ k. map (λ y. k) (x ∷ xs)) h.0, h.1), refl) ]
+  closed_builtin p xs = inl refl
 
   closed_converted : (t : TypeTree) (xs : List Part) → takes_type (converted_sort rights t xs) ≡ false
   closed_converted t [] = refl
   closed_converted t (x ∷ xs) = closed_conversion t (sort_of x)
 
-  closed_call : (f : Stands) (xs : List Part) → takes_type (call_sort rights f xs) ≡ false
-  closed_call (sort.IsType t) xs = closed_converted t xs
+  closed_call : (f : Stands) (xs : List Part) → Closes f xs
+  closed_call (sort.IsType t) xs = inl (closed_converted t xs)
   closed_call (sort.Builtin p) xs = closed_builtin p xs
-  closed_call (sort.Value t) xs = closed_called t (results_of (underlying_of rights t))
-  closed_call (sort.Constant t c) xs = closed_called t (results_of (underlying_of rights t))
-  closed_call f xs = refl
+  closed_call (sort.Value t) xs = inl (closed_called t (results_of (underlying_of rights t)))
+  closed_call (sort.Constant t c) xs = inl (closed_called t (results_of (underlying_of rights t)))
+  closed_call f xs = inl refl
 
-  closed_calls : (ys : Parts) → takes_type (on_first sort.Unknown (λ f xs. call_sort rights (sort_of f) xs) ys) ≡ false
-  closed_calls [] = refl
-  closed_calls (None ∷ ys) = refl
-  closed_calls (Some f ∷ ys) = closed_call (sort_of f) (present ys)
+  call_kept : (w : Take) (f : Part) (zs : Parts) → AllThere zs →
+      let d = handed w (call_sort rights (sort_of f) (present zs)) in
+      let ks = call_takes rights (sort_of f) (present zs) in
+      map (option_map (given d)) (Some f ∷ all_given ks zs) ≡ Some f ∷ all_given ks zs
+  call_kept w f zs there =
+      let x = call_sort rights (sort_of f) (present zs) in
+      let d = handed w x in
+      let ks = call_takes rights (sort_of f) (present zs) in
+      elim (closed_call (sort_of f) (present zs)) [
+        | inl e ↦ nothing_handed w x (Some f ∷ all_given ks zs) e
+        | inr h ↦ ap (λ y. Some y ∷ map (option_map (given d)) (all_given ks zs)) (typed_stays d f h.1)
+            ∙ ap (λ ys. Some f ∷ ys) (subst (λ ls. map (option_map (given d)) (all_given ls zs) ≡ all_given ls zs) (sym h.0.0) (kept_defaults d zs there h.0.1))
+      ]
+
+  calls_kept : (w : Take) (ys : Parts) → AllThere ys →
+      let x = on_first sort.Unknown (λ f xs. call_sort rights (sort_of f) xs) ys in
+      let ks = on_first [] (λ f xs. stay ∷ call_takes rights (sort_of f) xs) ys in
+      map (option_map (given (handed w x))) (all_given ks ys) ≡ all_given ks ys
+  calls_kept w [] there = refl
+  calls_kept w (None ∷ ys) there = absurd there
+  calls_kept w (Some f ∷ ys) there = call_kept w f ys there
 
   closed_literal : (h : Hint) (ys : Parts) → takes_type (on_literal sort.Unknown h (λ t xs. literal_sort t) ys) ≡ false
   closed_literal h [] = refl
@@ -138,10 +223,6 @@ module _ (rights : Rights) where
   closed_bracketed (Some x ∷ Some y ∷ z ∷ []) = closed_value (value_type (sort_of x))
   closed_bracketed (Some x ∷ None ∷ z ∷ v ∷ ys) = refl
   closed_bracketed (Some x ∷ Some y ∷ z ∷ v ∷ ys) = refl
-
--- what is typed hands nothing down
-nothing_handed : (w : Take) (x : Stands) (zs : Parts) → takes_type x ≡ false → map (option_map (given (handed w x))) zs ≡ zs
-nothing_handed w x zs e = ap (λ b. map (option_map (given (cond b (final_type w x) stay))) zs) e ∙ all_stay zs
 
 -- where this may be wanted of a node of the kind
 abbrev pub Allows : Wanted → Kind → Type 0
@@ -288,7 +369,7 @@ module _ (s : Scope) (h : Hint) (i j : ℕ) where
       binary_fit o w xs (no_failing (is_judged xs) (failing s (kind.Binary o) h i j xs) (placing s (kind.Binary o) h i j (sort_by s (kind.Binary o) h i j xs)) e)
   parts_fit kind.Call w xs e f =
       let ks = takes s kind.Call h (layout kind.Call xs) in
-      nothing_handed w (sort_by s kind.Call h i j (layout kind.Call xs)) (all_given ks (layout kind.Call xs)) (closed_calls s.rights (layout kind.Call xs)) ∙ call_given ks xs ∙ ap (layout kind.Call) (sym (takes_each ks xs))
+      calls_kept s.rights w (layout kind.Call xs) (there_call xs f) ∙ call_given ks xs ∙ ap (layout kind.Call) (sym (takes_each ks xs))
   parts_fit kind.Composite w xs e f =
       let ks = takes s kind.Composite h (layout kind.Composite xs) in
       nothing_handed w (sort_by s kind.Composite h i j (layout kind.Composite xs)) (all_given ks (layout kind.Composite xs)) (closed_literal s.rights h (layout kind.Composite xs))
@@ -398,6 +479,12 @@ typings_are s k h all xs (more p ps) =
     let x = Some (typing (part_scope s k xs) (hint s k h all xs (kind_of p)) p) in typings_are s k h all (xs ++ x ∷ []) ps ∙ append_assoc xs (x ∷ []) (behind s k h all (xs ++ x ∷ []) ps)
 typings_are s k h all xs (skip ps) = typings_are s k h all (xs ++ None ∷ []) ps ∙ append_assoc xs (None ∷ []) (behind s k h all (xs ++ None ∷ []) ps)
 
+goes_there : (ts : List TokenKind) (s : Scope) (k : Kind) (h : Hint) (all : Trees) (xs : Parts) (l : Items) (i : ℕ) (ps : Trees) (j : ℕ) → Goes ts l i ps j → AllThere (behind s k h all xs ps)
+unfolding behind
+goes_there ts s k h all xs l i none j d = tt
+goes_there ts s k h all xs l i (more p ps) j d = goes_there ts s k h all (xs ++ Some (typing (part_scope s k xs) (hint s k h all xs (kind_of p)) p) ∷ []) l (last p) ps j d.4
+goes_there ts s k h all xs l i (skip ps) j d = elim d [ ]
+
 fits : (ts : List TokenKind) (c : Category) (s : Scope) (k : Kind) (h : Hint) (i j : ℕ) (ps : Trees) → Derives ts c (node k i j ps) → Fit k (behind s k h ps [] ps)
 unfolding behind
 fits ts c s kind.Bracketed h i j none d = elim d.1 [ ]
@@ -410,6 +497,15 @@ fits ts c s kind.Bracketed h i j (more p (more (node k i2 j2 qs) ps)) d =
     let g = hint s kind.Bracketed h (more p (more (node k i2 j2 qs) ps)) (Some x ∷ []) k in
     let ys = typings t k g qs [] qs in
     ap is_held (built_form t g i2 j2 k ys) ∙ bracket_is t g i2 j2 k d.1.2.1.0 ys ∙ sym (ap is_bounds (built_form t g i2 j2 k ys))
+fits ts c s kind.Call h i j none d = elim d.1 [ ]
+fits ts c s kind.Call h i j (skip ps) d = elim d.1 [ ]
+fits ts c s kind.Call h i j (more p none) d = tt
+fits ts c s kind.Call h i j (more p (skip ps)) d = elim d.1.2 [ ]
+fits ts c s kind.Call h i j (more p (more q qs)) d =
+    let all = more p (more q qs) in
+    let x = typing (part_scope s kind.Call []) (hint s kind.Call h all [] (kind_of p)) p in
+    let y = typing (part_scope s kind.Call (Some x ∷ [])) (hint s kind.Call h all (Some x ∷ []) (kind_of q)) q in
+    goes_there ts s kind.Call h all (Some x ∷ Some y ∷ []) (Lines false (any place.Free) token.Comma token.RightParenthesis) (last q) qs j d.1.2.4
 fits ts c s k h i j ps d = tt
 
 -- ---- what is wanted of parts may be wanted of them

@@ -173,9 +173,37 @@ bounds_given (typed (form.Held k) i j l ps) e = cc
 bounds_given (typed f i j l ps) e =
     ap (all_given (as_type int ∷ as_type int ∷ [])) (lone (typed f i j l ps) refl) ∙ sym (lone (settled int (typed f i j l ps)) (ap is_held (form_kept int (typed f i j l ps))))
 
--- the parts of an index or slice expression as the grammar has them
+-- none is left out
+abbrev pub AllThere : Parts → Type 0
+AllThere [] = Unit {0}
+AllThere (None ∷ xs) = ⊥
+AllThere (Some x ∷ xs) = AllThere xs
+
+there_cut : (x : Part) (xs : Parts) → AllThere xs → AllThere (cut (Some x) ∷ xs)
+there_cut x xs h = by (is_type (sort_of x))
+  where
+    by : (b : Bool) → AllThere (cond b (Some (leaf x)) (Some x) ∷ xs)
+    by true = h
+    by false = h
+
+there_first : (xs : Parts) → AllThere xs → AllThere (first_cut xs)
+there_first [] h = tt
+there_first (None ∷ xs) h = absurd h
+there_first (Some x ∷ xs) h = there_cut x xs h
+
+pub there_call : (xs : Parts) → AllThere xs → AllThere (call_parts xs)
+there_call [] h = tt
+there_call (None ∷ xs) h = absurd h
+there_call (Some f ∷ xs) h = by (is_make_call (Some f ∷ xs))
+  where
+    by : (b : Bool) → AllThere (cond b (Some f ∷ first_cut xs) (cut (Some f) ∷ xs))
+    by true = there_first xs h
+    by false = there_cut f xs h
+
+-- the parts of an index or slice expression, and of a call, as the grammar has them
 abbrev pub Fit : Kind → Parts → Type 0
 Fit kind.Bracketed (x ∷ Some y ∷ xs) = IsBracket y
+Fit kind.Call xs = AllThere xs
 Fit k xs = Unit {0}
 
 pub bracketed_given : (xs : Parts) → Fit kind.Bracketed xs → all_given (default ∷ as_type int ∷ as_type int ∷ []) (bracketed_parts xs) ≡ bracketed_parts (given_each (take default ∷ bound ∷ []) xs)

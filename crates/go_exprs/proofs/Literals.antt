@@ -6,7 +6,7 @@ use Rattle.go_tokens.specs.declared.token.TokenKind.{TokenKind}
 use Rattle.go_tokens.specs.declared.token.TokenKind.TheVariants as token
 use Rattle.go_tokens.specs.Files.{IsLexing}
 use Rattle.go_tokens.specs.Tokens.{TokenList, kinds}
-use Rattle.go_tokens.proofs.Spelled.{rune_token, text_token}
+use Rattle.go_tokens.proofs.Public.{rune_token, text_token}
 use Rattle.go_grammar.specs.declared.kind.Category.{Category}
 use Rattle.go_grammar.specs.declared.kind.Category.TheVariants as category
 use Rattle.go_grammar.specs.declared.kind.Kind.{Kind}

@@ -1,4 +1,5 @@
 pub mod Steps
 pub mod Lists
 pub mod Counts
+pub mod Meeting
 pub mod Public

@@ -1,3 +1,4 @@
 pub mod Shown
 pub mod Arguments
 pub mod Appended
+pub mod Meeting

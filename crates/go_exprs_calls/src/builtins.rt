@@ -14,6 +14,7 @@ ghost use Rattle.go_exprs_rules.specs.Calls.{copies, copy_failing, panic_failing
 ghost use Rattle.go_exprs_calls.specs.Shown.{shown, AllShownKnown};
 
 use crate::arguments::{divided, one, two};
+use crate::extremes::extreme;
 use crate::lengths::{is_text, length_of};
 use crate::makes::make;
 use crate::values::each_unassignable;
@@ -22,6 +23,7 @@ use go_exprs_rules::assign::printed;
 use go_exprs_rules::nodes::sort_of;
 use go_exprs_rules::sorts::own_type;
 use go_exprs_rules::{Basics, Place, TypeError, TypeFault};
+use go_ints::Op;
 use go_tree::object::Predeclared;
 use go_typed::{Sort, TypedNode};
 use go_types::{Shape, TypeId, Types};
@@ -216,6 +218,8 @@ pub(crate) fn builtin(
         Predeclared::Append => Ok(append(types, place, nodes)?),
         Predeclared::Copy => Ok(copy(types, basics, place, nodes)?),
         Predeclared::Panic => Ok(panic(types, basics, place, nodes)?),
+        Predeclared::Min => extreme(alloc, types, basics, place, Op::Min, nodes),
+        Predeclared::Max => extreme(alloc, types, basics, place, Op::Max, nodes),
         _ => Err(TypeError::Fault(place.fault(FaultCode::Operands))),
     }
 }

@@ -20,6 +20,7 @@ ghost use Rattle.go_exprs_calls.specs.Shown.{shown, AllShownKnown};
 use crate::arguments::{divided, divided_parts, first_part, present};
 use crate::builtins::slice_element;
 use crate::elements::{has_keys, key_of, keyed_type};
+use crate::extremes::extreme_take;
 use crate::functions::parameters;
 use crate::literals::literal_type;
 use go_base::Memory;
@@ -216,6 +217,9 @@ fn push_builtin(
                 others,
                 takes,
             )
+        }
+        Predeclared::Min | Predeclared::Max => {
+            push_same(types, extreme_take(types, basics, nodes), nodes, takes)
         }
         _ => push_same(types, Take::Default, nodes, takes),
     }

@@ -11,7 +11,7 @@ use Rattle.go_tree.specs.declared.object.Object.TheVariants as object
 use Rattle.go_typed.specs.declared.form.Form.{Form}
 use Rattle.go_exprs_rules.specs.declared.fault.TypeFault.{TypeFault}
 use Rattle.go_exprs_rules.specs.Names.{name_sort, name_form, object_form, declared_form, form_or_type, place_failing}
-use Rattle.go_exprs_rules.specs.Scopes.{Needed, Scope, Hint, value, several, type_place, loose, inside, loose_inside, callee, statement, target, declares, free, element, member, elided}
+use Rattle.go_exprs_rules.specs.Scopes.{Needed, Scope, Hint, value, several, type_place, loose, inside, one_inside, loose_inside, callee, statement, target, declares, free, element, member, elided}
 use Rattle.go_exprs_rules.specs.Settling.{Part}
 use Rattle.go_exprs_rules.specs.Sorts.{Stands}
 use Rattle.go_exprs_rules.specs.Tables.{Parts, hint, part_scope, is_judged, no_faults, made, built_by, built, found}
@@ -45,6 +45,7 @@ module _ (r : Needed → Object → Stands) where
   name_form_same s type_place i e = used_same s type_place i e
   name_form_same s loose i e = used_same s loose i e
   name_form_same s inside i e = used_same s inside i e
+  name_form_same s one_inside i e = used_same s one_inside i e
   name_form_same s loose_inside i e = used_same s loose_inside i e
   name_form_same s callee i e = used_same s callee i e
   name_form_same s statement i e = used_same s statement i e

@@ -114,6 +114,7 @@ module _ (old new : Table) (ok : IsTable old) (e : Extends old new) where
   hint_known hint.TypePlace k = tt
   hint_known hint.Loose k = tt
   hint_known hint.Inside k = tt
+  hint_known hint.OneInside k = tt
   hint_known hint.LooseInside k = tt
   hint_known hint.Callee k = tt
   hint_known hint.Statement k = tt
@@ -141,6 +142,7 @@ module _ (old new : Table) (ok : IsTable old) (e : Extends old new) where
   hint_stays hint.TypePlace k = refl
   hint_stays hint.Loose k = refl
   hint_stays hint.Inside k = refl
+  hint_stays hint.OneInside k = refl
   hint_stays hint.LooseInside k = refl
   hint_stays hint.Callee k = refl
   hint_stays hint.Statement k = refl

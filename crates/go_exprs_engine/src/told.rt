@@ -27,7 +27,13 @@ fn in_parentheses(types: &Types, hint: Hint) -> Hint
 {
     match hint {
         Hint::Loose | Hint::LooseInside => Hint::LooseInside,
-        _ => Hint::Inside,
+        Hint::Several
+        | Hint::TypePlace
+        | Hint::Inside
+        | Hint::Statement
+        | Hint::Declares
+        | Hint::Free => Hint::Inside,
+        _ => Hint::OneInside,
     }
 }
 

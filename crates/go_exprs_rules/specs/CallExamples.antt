@@ -15,7 +15,7 @@ use Rattle.go_typed.specs.declared.sort.Untyped.TheVariants as untyped
 use Rattle.go_typed.specs.Trees as sort
 use Rattle.go_exprs_rules.specs.Calls.{no_results}
 use Rattle.go_exprs_rules.specs.Scopes.{several, type_place, statement}
-use Rattle.go_exprs_rules.specs.Sentences.{D_word, a3_word, b_word, bs_word, character, cs_word, do_word, f_word, fault, fmt, infix_of, mark, n_word, name, number, parens, part_sorts, predeclared_word, prefix_of, s_word, sentence, ss_word, string, t_word, told, two_word, typed_value, word}
+use Rattle.go_exprs_rules.specs.Sentences.{D_word, a3_word, b_word, bs_word, character, cs_word, d_word, do_word, f_word, fault, fmt, infix_of, mark, n_word, name, number, parens, part_sorts, predeclared_word, prefix_of, s_word, sentence, ss_word, string, t_word, told, two_word, x8_word, typed_value, word}
 
 pub record CallExamples : Type 0 where
   -- f(1, "a")
@@ -342,3 +342,103 @@ pub record CallExamples : Type 0 where
       typed_value (sentence (predeclared_word predeclared.Panic ∷ mark ∷ word (codes "1") ∷ mark ∷ [])
       (node kind.Call 0 4 (more (name 0) (more (number 2) none))))
       ≡ fault code.NotAValue 0 4
+  -- min(2, 1)
+  pub least :
+      typed_value (sentence (predeclared_word predeclared.Min ∷ mark ∷ word (codes "2") ∷ mark ∷ word (codes "1") ∷ mark ∷ [])
+      (node kind.Call 0 6 (more (name 0) (more (number 2) (more (number 4) none)))))
+      ≡ Ok (sort.OpenConstant (const.Int (pos 1) false))
+  -- min('a', 1)
+  pub least_with_rune :
+      typed_value (sentence (predeclared_word predeclared.Min ∷ mark ∷ word (codes "'a'") ∷ mark ∷ word (codes "1") ∷ mark ∷ [])
+      (node kind.Call 0 6 (more (name 0) (more (character 2) (more (number 4) none)))))
+      ≡ Ok (sort.OpenConstant (const.Int (pos 1) true))
+  -- what is called and the arguments of min('a', 1)
+  pub own_defaults :
+      part_sorts (sentence (predeclared_word predeclared.Min ∷ mark ∷ word (codes "'a'") ∷ mark ∷ word (codes "1") ∷ mark ∷ [])
+      (node kind.Call 0 6 (more (name 0) (more (character 2) (more (number 4) none)))))
+      ≡ Some (sort.Builtin predeclared.Min) ∷ Some (sort.Constant (integer integer_kind.Int32) (const.Int (pos 97) true)) ∷ Some (sort.Constant (integer integer_kind.Int) (const.Int (pos 1) false)) ∷ []
+  -- max("a", "b")
+  pub greatest_text :
+      typed_value (sentence (predeclared_word predeclared.Max ∷ mark ∷ word (codes "\"a\"") ∷ mark ∷ word (codes "\"b\"") ∷ mark ∷ [])
+      (node kind.Call 0 6 (more (name 0) (more (string 2) (more (string 4) none)))))
+      ≡ Ok (sort.OpenConstant (const.Text (98 ∷ [])))
+  -- int8(max(1, 300))
+  pub wide_greatest :
+      typed_value (sentence (predeclared_word predeclared.Int8 ∷ mark ∷ predeclared_word predeclared.Max ∷ mark ∷ word (codes "1") ∷ mark ∷ word (codes "300") ∷ mark ∷ mark ∷ [])
+      (node kind.Call 0 9 (more (name 0) (more (node kind.Call 2 8 (more (name 2) (more (number 4) (more (number 6) none)))) none))))
+      ≡ fault code.Representable 2 8
+  -- min()
+  pub least_of_none :
+      typed_value (sentence (predeclared_word predeclared.Min ∷ mark ∷ mark ∷ [])
+      (node kind.Call 0 3 (more (name 0) none)))
+      ≡ fault code.Count 0 3
+  -- min(1, "a")
+  pub number_and_text :
+      typed_value (sentence (predeclared_word predeclared.Min ∷ mark ∷ word (codes "1") ∷ mark ∷ word (codes "\"a\"") ∷ mark ∷ [])
+      (node kind.Call 0 6 (more (name 0) (more (number 2) (more (string 4) none)))))
+      ≡ fault code.Operands 0 6
+  -- min(b)
+  pub least_boolean :
+      typed_value (sentence (predeclared_word predeclared.Min ∷ mark ∷ b_word ∷ mark ∷ [])
+      (node kind.Call 0 4 (more (name 0) (more (name 2) none))))
+      ≡ fault code.Operands 0 4
+  -- max(n, nil)
+  pub number_and_nil :
+      typed_value (sentence (predeclared_word predeclared.Max ∷ mark ∷ n_word ∷ mark ∷ predeclared_word predeclared.Nil ∷ mark ∷ [])
+      (node kind.Call 0 6 (more (name 0) (more (name 2) (more (name 4) none)))))
+      ≡ fault code.Operands 0 6
+  -- min(x8, n)
+  pub two_types :
+      typed_value (sentence (predeclared_word predeclared.Min ∷ mark ∷ x8_word ∷ mark ∷ n_word ∷ mark ∷ [])
+      (node kind.Call 0 6 (more (name 0) (more (name 2) (more (name 4) none)))))
+      ≡ fault code.Operands 0 6
+  -- min(x8, 300)
+  pub wide_argument_of_least :
+      typed_value (sentence (predeclared_word predeclared.Min ∷ mark ∷ x8_word ∷ mark ∷ word (codes "300") ∷ mark ∷ [])
+      (node kind.Call 0 6 (more (name 0) (more (name 2) (more (number 4) none)))))
+      ≡ fault code.Representable 4 5
+  -- min(300, d, 'a')
+  pub named_least :
+      typed_value (sentence (predeclared_word predeclared.Min ∷ mark ∷ word (codes "300") ∷ mark ∷ d_word ∷ mark ∷ word (codes "'a'") ∷ mark ∷ [])
+      (node kind.Call 0 8 (more (name 0) (more (number 2) (more (name 4) (more (character 6) none))))))
+      ≡ Ok (sort.Value (declared 2))
+  -- what is called and the arguments of min(300, d, 'a')
+  pub untyped_take_named :
+      part_sorts (sentence (predeclared_word predeclared.Min ∷ mark ∷ word (codes "300") ∷ mark ∷ d_word ∷ mark ∷ word (codes "'a'") ∷ mark ∷ [])
+      (node kind.Call 0 8 (more (name 0) (more (number 2) (more (name 4) (more (character 6) none))))))
+      ≡ Some (sort.Builtin predeclared.Min) ∷ Some (sort.Constant (declared 2) (const.Int (pos 300) false)) ∷ Some (sort.Value (declared 2)) ∷ Some (sort.Constant (declared 2) (const.Int (pos 97) true)) ∷ []
+  -- max(int8(5), 9)
+  pub typed_constants :
+      typed_value (sentence (predeclared_word predeclared.Max ∷ mark ∷ predeclared_word predeclared.Int8 ∷ mark ∷ word (codes "5") ∷ mark ∷ mark ∷ word (codes "9") ∷ mark ∷ [])
+      (node kind.Call 0 9 (more (name 0) (more (node kind.Call 2 6 (more (name 2) (more (number 4) none))) (more (number 7) none)))))
+      ≡ Ok (sort.Constant (integer integer_kind.Int8) (const.Int (pos 9) false))
+  -- min(1 << n, 'a')
+  pub open_shift_least :
+      typed_value (sentence (predeclared_word predeclared.Min ∷ mark ∷ word (codes "1") ∷ mark ∷ n_word ∷ mark ∷ word (codes "'a'") ∷ mark ∷ [])
+      (node kind.Call 0 8 (more (name 0) (more (infix_of (operator.Compute arithmetic.ShiftLeft) (number 2) (name 4)) (more (character 6) none)))))
+      ≡ Ok (sort.Value (integer integer_kind.Int32))
+  -- what is called and the arguments of min(1 << n, 2)
+  pub take_the_default :
+      part_sorts (sentence (predeclared_word predeclared.Min ∷ mark ∷ word (codes "1") ∷ mark ∷ n_word ∷ mark ∷ word (codes "2") ∷ mark ∷ [])
+      (node kind.Call 0 8 (more (name 0) (more (infix_of (operator.Compute arithmetic.ShiftLeft) (number 2) (name 4)) (more (number 6) none)))))
+      ≡ Some (sort.Builtin predeclared.Min) ∷ Some (sort.Value (integer integer_kind.Int)) ∷ Some (sort.Constant (integer integer_kind.Int) (const.Int (pos 2) false)) ∷ []
+  -- max(1 << n, 1 << 70)
+  pub wide_beside_shift :
+      typed_value (sentence (predeclared_word predeclared.Max ∷ mark ∷ word (codes "1") ∷ mark ∷ n_word ∷ mark ∷ word (codes "1") ∷ mark ∷ word (codes "70") ∷ mark ∷ [])
+      (node kind.Call 0 10 (more (name 0) (more (infix_of (operator.Compute arithmetic.ShiftLeft) (number 2) (name 4)) (more (infix_of (operator.Compute arithmetic.ShiftLeft) (number 6) (number 8)) none)))))
+      ≡ fault code.Representable 6 9
+  -- 1 + ((two()))
+  pub several_in_parentheses :
+      typed_value (sentence (word (codes "1") ∷ mark ∷ mark ∷ mark ∷ two_word ∷ mark ∷ mark ∷ mark ∷ mark ∷ [])
+      (infix_of (operator.Compute arithmetic.Add) (number 0) (parens (parens (node kind.Call 4 7 (more (name 4) none))))))
+      ≡ fault code.Count 4 7
+  -- 1 + (do())
+  pub none_in_parentheses :
+      typed_value (sentence (word (codes "1") ∷ mark ∷ mark ∷ do_word ∷ mark ∷ mark ∷ mark ∷ [])
+      (infix_of (operator.Compute arithmetic.Add) (number 0) (parens (node kind.Call 3 6 (more (name 3) none)))))
+      ≡ fault code.NotAValue 2 7
+  -- (two())
+  pub right_side_in_parentheses :
+      told several (sentence (mark ∷ two_word ∷ mark ∷ mark ∷ mark ∷ [])
+      (parens (node kind.Call 1 4 (more (name 1) none))))
+      ≡ Ok (sort.Results (function (row ([])) (row ((integer integer_kind.Int) ∷ text ∷ []))))

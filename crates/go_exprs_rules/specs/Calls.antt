@@ -1,24 +1,30 @@
 -- Calls, conversions and predeclared functions.
-use Rattle.std.specs.Prelude.{ℕ, suc, ◌==◌, Bool, true, false, ◌&&◌, ◌||◌, not, if◌then◌else◌, nat_lt, nat_le, List, [], ◌∷◌, ◌++◌, length, map, Option, Some, None, is_some, ℤ, pos, negsuc}
+use Rattle.std.specs.Prelude.{ℕ, suc, ◌==◌, Bool, true, false, ◌&&◌, ◌||◌, not, if◌then◌else◌, nat_lt, nat_le, List, [], ◌∷◌, ◌++◌, length, map, Option, Some, None, is_some, Result, Ok, ℤ, pos, negsuc}
 use Rattle.std.specs.List.{list_all}
 use Rattle.std.specs.Char.{encode_utf8}
 use Rattle.go_base.specs.declared.fault.FaultCode.TheVariants as code
+use Rattle.go_ints.specs.declared.operators.Op.{Op}
+use Rattle.go_ints.specs.declared.operators.Op.TheVariants as op
 use Rattle.go_constants.specs.declared.values.Const.{Const}
 use Rattle.go_constants.specs.declared.values.Const.TheVariants as const
+use Rattle.go_constants.specs.declared.values.ConstOp.TheVariants as const_op
+use Rattle.go_constants.specs.declared.values.ConstFault.{ConstFault}
 use Rattle.go_tree.specs.declared.object.Predeclared.{Predeclared}
 use Rattle.go_tree.specs.declared.object.Predeclared.TheVariants as predeclared
 use Rattle.go_types.specs.Trees.{TypeTree, function, TypeRow, none, more}
 use Rattle.go_types.specs.Relations.{Rights}
 use Rattle.go_types_relations.specs.Tests.{underlying_of, is_assignable, both_identical}
+use Rattle.go_types_relations.specs.Identity.{is_identical}
 use Rattle.go_typed.specs.Trees.{sort_of, label_of}
 use Rattle.go_typed.specs.Trees as sort
 use Rattle.go_exprs_rules.specs.declared.fault.TypeFault.{TypeFault}
 use Rattle.go_exprs_rules.specs.declared.family.Family.TheVariants as family
 use Rattle.go_exprs_rules.specs.declared.family.OpenKind.{OpenKind}
-use Rattle.go_exprs_rules.specs.Faults.{fault_at}
+use Rattle.go_exprs_rules.specs.Faults.{fault_at, or_else}
 use Rattle.go_exprs_rules.specs.Sorts.{Stands, is_family, family_of_type, family_of_const, family_of, is_whole, is_text, is_bytes, is_byte, own_type, named_type, constant_of}
 use Rattle.go_exprs_rules.specs.Sorts.{open_kind, is_constant, is_nil, underlying_in, form_of_value, value_type, suits, has_nil, element_of, slice_element, array_length, represents, int}
 use Rattle.go_exprs_rules.specs.Settling.{Part, at_part, unrepresented, undefaulted, unassignable, Take, stay, default, as_type}
+use Rattle.go_exprs_rules.specs.Operators.{Common, in_type, in_kind, common_kind, kind_common, one_typed, own, constant_in, folded_both, type_in, unordered}
 use Rattle.go_exprs_rules.specs.Indexes.{bound_failing, disordered, text_length, value_or_unknown}
 
 -- ---- conversions
@@ -210,6 +216,83 @@ abbrev pub panic_failing : Rights → ℕ → ℕ → List Part → List TypeFau
 panic_failing rights i j (x ∷ []) = printed rights i j x
 panic_failing rights i j xs = fault_at code.Count i j
 
+-- ---- `min` and `max` (Go specification, "Min and max")
+
+-- Where values meet of which some meet in c and the others in d: in the one type, which untyped ones take, or untyped.
+abbrev pub met : Rights → Option Common → Option Common → Option Common
+met rights (Some (in_type t)) (Some (in_type u)) = if is_identical t u then Some (in_type t) else None
+met rights (Some (in_type t)) (Some (in_kind k)) = one_typed rights t (Some k)
+met rights (Some (in_kind k)) (Some (in_type u)) = one_typed rights u (Some k)
+met rights (Some (in_kind k)) (Some (in_kind l)) = kind_common (common_kind k l)
+met rights _ _ = None
+
+abbrev pub all_met : Rights → Option Common → List Part → Option Common
+all_met rights c [] = c
+all_met rights c (x ∷ xs) = all_met rights (met rights c (own (sort_of x))) xs
+
+-- the type or kind of all of them, after the conversion that operands have
+abbrev pub meeting : Rights → List Part → Option Common
+meeting rights [] = None
+meeting rights (x ∷ xs) = all_met rights (own (sort_of x)) xs
+
+abbrev pub are_constants : List Part → Bool
+are_constants xs = list_all (λ x. is_constant (sort_of x)) xs
+
+abbrev pub each_unrepresented : Rights → TypeTree → List Part → List TypeFault
+each_unrepresented rights t [] = []
+each_unrepresented rights t (x ∷ xs) = unrepresented rights t x ++ each_unrepresented rights t xs
+
+-- Untyped arguments take the type of the others, or the default type where not all are constants; else the result alone is judged.
+abbrev pub extreme_refuse : Rights → Bool → Common → List Part → List TypeFault
+extreme_refuse rights constant (in_type t) xs = each_unrepresented rights t xs
+extreme_refuse rights constant (in_kind k) xs = if constant then [] else each_unrepresented rights (type_in (in_kind k)) xs
+
+abbrev pub extreme_failing_in : Rights → ℕ → ℕ → List Part → Option Common → List TypeFault
+extreme_failing_in rights i j xs None = fault_at code.Operands i j
+extreme_failing_in rights i j xs (Some c) = or_else (unordered rights i j c) (extreme_refuse rights (are_constants xs) c xs)
+
+-- one argument or more, all ordered, of one type after the conversion that operands have
+abbrev pub extreme_failing : Rights → ℕ → ℕ → List Part → List TypeFault
+extreme_failing rights i j [] = fault_at code.Count i j
+extreme_failing rights i j (x ∷ xs) = extreme_failing_in rights i j (x ∷ xs) (meeting rights (x ∷ xs))
+
+abbrev pub value_there : Option (Result Const ConstFault) → Option Const
+value_there (Some (Ok c)) = Some c
+value_there _ = None
+
+-- the least or the greatest of two constants of one family
+abbrev pub better : Op → Option Const → Option Const → Option Const
+better o a b = value_there (folded_both (const_op.Arith o) a b)
+
+-- the least or the greatest of c and the values of all these, where each is constant
+abbrev pub extreme_behind : Op → Option Const → List Part → Option Const
+extreme_behind o c [] = c
+extreme_behind o c (x ∷ xs) = extreme_behind o (better o c (constant_of (sort_of x))) xs
+
+abbrev pub extreme_value : Op → List Part → Option Const
+extreme_value o [] = None
+extreme_value o (x ∷ xs) = extreme_behind o (constant_of (sort_of x)) xs
+
+abbrev pub extreme_in : Option Common → Option Const → Stands
+extreme_in None v = sort.Unknown
+extreme_in (Some c) (Some v) = constant_in c v
+extreme_in (Some c) None = sort.Value (type_in c)
+
+-- a constant where all arguments are, untyped where all are untyped; else a value of the type, or of the default type
+abbrev pub extreme_sort : Rights → Op → List Part → Stands
+extreme_sort rights o xs = extreme_in (meeting rights xs) (extreme_value o xs)
+
+abbrev pub extreme_take_in : Bool → Option Common → Take
+extreme_take_in constant None = stay
+extreme_take_in constant (Some (in_type t)) = as_type t
+extreme_take_in constant (Some (in_kind k)) = if constant then default else as_type (type_in (in_kind k))
+
+-- what each argument takes: the type of the result; where that is untyped, its own default type
+abbrev pub extreme_take : Rights → List Part → Take
+extreme_take rights xs = extreme_take_in (are_constants xs) (meeting rights xs)
+
+-- ---- all of them
+
 abbrev pub builtin_failing : Rights → ℕ → ℕ → Predeclared → List Part → List TypeFault
 builtin_failing rights i j predeclared.Len xs = length_failing rights i j true xs
 builtin_failing rights i j predeclared.Cap xs = length_failing rights i j false xs
@@ -217,6 +300,8 @@ builtin_failing rights i j predeclared.Make xs = make_failing rights i j xs
 builtin_failing rights i j predeclared.Append xs = append_failing rights i j xs
 builtin_failing rights i j predeclared.Copy xs = copy_failing rights i j xs
 builtin_failing rights i j predeclared.Panic xs = panic_failing rights i j xs
+builtin_failing rights i j predeclared.Min xs = extreme_failing rights i j xs
+builtin_failing rights i j predeclared.Max xs = extreme_failing rights i j xs
 builtin_failing rights i j p xs = fault_at code.Operands i j
 
 -- the length that is constant: of a constant text, and of an array without a call that isn't constant
@@ -254,17 +339,21 @@ builtin_sort rights predeclared.Make xs = made_sort xs
 builtin_sort rights predeclared.Append xs = appended_sort xs
 builtin_sort rights predeclared.Copy xs = sort.Value int
 builtin_sort rights predeclared.Panic xs = no_results
+builtin_sort rights predeclared.Min xs = extreme_sort rights op.Min xs
+builtin_sort rights predeclared.Max xs = extreme_sort rights op.Max xs
 builtin_sort rights p xs = sort.Unknown
 
 abbrev pub appended_takes : Option TypeTree → List Part → List Take
 appended_takes (Some t) xs = stay ∷ map (λ x. as_type t) xs
 appended_takes None xs = stay ∷ map (λ x. default) xs
 
--- the elements of `append` take the type of the slice's, and the sizes of `make` take `int`
+-- the elements of `append` take the type of the slice's, the sizes of `make` take `int`, the arguments of `min` and `max` one type
 abbrev pub builtin_takes : Rights → Predeclared → List Part → List Take
 builtin_takes rights p [] = []
 builtin_takes rights predeclared.Make (x ∷ xs) = stay ∷ map (λ n. as_type int) xs
 builtin_takes rights predeclared.Append (x ∷ xs) = appended_takes (slice_element (form_of_value rights (sort_of x))) xs
+builtin_takes rights predeclared.Min (x ∷ xs) = map (λ y. extreme_take rights (x ∷ xs)) (x ∷ xs)
+builtin_takes rights predeclared.Max (x ∷ xs) = map (λ y. extreme_take rights (x ∷ xs)) (x ∷ xs)
 builtin_takes rights p (x ∷ xs) = map (λ y. default) (x ∷ xs)
 
 -- ---- by what the callee stands for

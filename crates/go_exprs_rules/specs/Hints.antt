@@ -3,7 +3,7 @@ use Rattle.std.specs.Prelude.{ℕ, ◌<◌}
 use Rattle.go_types.specs.Tables.{Table, type_of}
 use Rattle.go_exprs_rules.specs.declared.hint.Hint.TheVariants as hint
 use Rattle.go_exprs_rules.specs.declared.hint.Hint as program
-use Rattle.go_exprs_rules.specs.Scopes.{Hint, value, several, type_place, loose, inside, loose_inside, callee, statement, target, declares, free, element, member, elided}
+use Rattle.go_exprs_rules.specs.Scopes.{Hint, value, several, type_place, loose, inside, one_inside, loose_inside, callee, statement, target, declares, free, element, member, elided}
 
 abbrev pub hint_seen : Table → program.Hint → Hint
 hint_seen t hint.Value = value
@@ -11,6 +11,7 @@ hint_seen t hint.Several = several
 hint_seen t hint.TypePlace = type_place
 hint_seen t hint.Loose = loose
 hint_seen t hint.Inside = inside
+hint_seen t hint.OneInside = one_inside
 hint_seen t hint.LooseInside = loose_inside
 hint_seen t hint.Callee = callee
 hint_seen t hint.Statement = statement

@@ -19,7 +19,7 @@ use Rattle.go_typed.specs.Trees as sort
 use Rattle.go_exprs_rules.specs.declared.fault.TypeFault.{TypeFault}
 use Rattle.go_exprs_rules.specs.Faults.{fault_at}
 use Rattle.go_exprs_rules.specs.Sorts.{Stands}
-use Rattle.go_exprs_rules.specs.Scopes.{Needed, at_once, loosely, Scope, Hint, several, type_place, loose, inside, loose_inside, callee, statement, target, declares, free}
+use Rattle.go_exprs_rules.specs.Scopes.{Needed, at_once, loosely, Scope, Hint, several, type_place, loose, inside, one_inside, loose_inside, callee, statement, target, declares, free}
 use Rattle.go_exprs_rules.specs.Calls.{results_of}
 
 -- ---- literals
@@ -151,7 +151,13 @@ abbrev pub one_value : Bool → Stands → ℕ → ℕ → List TypeFault
 one_value true s i j = fault_at code.NotAValue i j
 one_value false s i j = if are_results s then fault_at code.Count i j else []
 
--- What a place asks of any expression. Inside parentheses nothing is asked: the outermost ones are judged.
+-- several results where one value is wanted
+abbrev pub too_many : Bool → Stands → ℕ → ℕ → List TypeFault
+too_many true s i j = []
+too_many false s i j = one_value false s i j
+
+-- What a place asks of any expression. Inside parentheses the outermost ones are judged, but for the count of results, which
+-- is judged at the call.
 abbrev pub place_failing : Rights → Hint → ℕ → ℕ → Stands → List TypeFault
 place_failing rights several i j s = not_a_value (is_no_value rights s) i j
 place_failing rights type_place i j s = not_a_value (is_no_type s) i j
@@ -160,6 +166,7 @@ place_failing rights callee i j s = one_value (is_no_callee rights s) s i j
 place_failing rights target i j s = one_value (is_no_target rights s) s i j
 place_failing rights statement i j s = not_a_value (is_no_statement s) i j
 place_failing rights inside i j s = []
+place_failing rights one_inside i j s = too_many (is_no_value rights s) s i j
 place_failing rights loose_inside i j s = []
 place_failing rights declares i j s = []
 place_failing rights free i j s = []

@@ -40,6 +40,8 @@ pub data Hint : Type 0 where
   loose : Hint
   -- inside parentheses, which are judged as a whole
   inside : Hint
+  -- inside parentheses where one value is wanted: a call of several results is judged itself
+  one_inside : Hint
   loose_inside : Hint
   callee : Hint
   statement : Hint

@@ -20,7 +20,7 @@ use Rattle.go_exprs_rules.specs.declared.fault.TypeFault.{TypeFault}
 use Rattle.go_exprs_rules.specs.Faults.{or_else}
 use Rattle.go_exprs_rules.specs.Sorts.{Stands, named_type, is_unknown, is_constant, underlying_in, form_of_value, int}
 use Rattle.go_exprs_rules.specs.Settling.{Part, Take, stay, default, as_type, given}
-use Rattle.go_exprs_rules.specs.Scopes.{in_full, Scope, Hint, value, type_place, loose, inside, loose_inside, callee, declares, free, element, member, elided}
+use Rattle.go_exprs_rules.specs.Scopes.{in_full, Scope, Hint, value, several, type_place, loose, inside, one_inside, loose_inside, callee, statement, declares, free, element, member, elided}
 use Rattle.go_exprs_rules.specs.Operators.{unary_failing, unary_sort, unary_take, operation_failing, operation_sort, operation_takes}
 use Rattle.go_exprs_rules.specs.Indexes.{field_number, selector_failing, selector_sort, index_failing, index_sort, slice_failing, slice_sort}
 use Rattle.go_exprs_rules.specs.Calls.{row_length, call_failing, call_sort, call_takes}
@@ -34,10 +34,17 @@ Parts = List (Option Part)
 
 -- ---- what a part is told
 
+-- where one value is wanted the inside is told so
 abbrev pub in_parentheses : Hint → Hint
 in_parentheses loose = loose_inside
 in_parentheses loose_inside = loose_inside
-in_parentheses h = inside
+in_parentheses several = inside
+in_parentheses type_place = inside
+in_parentheses inside = inside
+in_parentheses statement = inside
+in_parentheses declares = inside
+in_parentheses free = inside
+in_parentheses h = one_inside
 
 abbrev pub as_type_place : Hint → Hint
 as_type_place loose = loose

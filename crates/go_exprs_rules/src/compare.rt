@@ -80,7 +80,8 @@ fn is_equality(operator: Comparison) -> bool
     matches!(operator, Comparison::Equal | Comparison::NotEqual)
 }
 
-fn unordered(types: &Types, place: Place, joint: Joint) -> Option<TypeFault>
+/// The fault of values that are not ordered: integers and texts are.
+pub fn unordered(types: &Types, place: Place, joint: Joint) -> Option<TypeFault>
     requires { KnownJoint (length types.now.shapes) joint }
     ensures { result ≡ least (unordered (rights_of types.now) place.first place.last (common_seen types.now joint)) }
 {

@@ -15,7 +15,9 @@ pub enum Hint {
     Loose,
     /// It stands inside parentheses, which are judged as a whole.
     Inside,
-    /// The same of a type in a slice's element or a function type.
+    /// It stands inside parentheses where one value is wanted: a call of several results is judged itself.
+    OneInside,
+    /// It is a type inside parentheses, in a slice's element or a function type.
     LooseInside,
     /// It is what is called.
     Callee,

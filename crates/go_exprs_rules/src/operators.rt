@@ -4,6 +4,7 @@ ghost use Rattle.std.specs.Option.{option_map};
 ghost use Rattle.go_types.specs.Tables.{type_of, rights_of};
 ghost use Rattle.go_typed.specs.Views.{sort_seen, KnownSort};
 ghost use Rattle.go_exprs_rules.specs.Seen.{common_seen, KnownJoint};
+ghost use Rattle.go_exprs_rules.specs.Calls.{met};
 ghost use Rattle.go_exprs_rules.specs.Operators.{common_kind, one_typed, open_kinds, common, family_in};
 
 use crate::family::{Family, OpenKind};
@@ -79,6 +80,30 @@ pub fn common(types: &Types, left: &Sort, right: &Sort) -> Option<Joint>
         (Some(of), None) => one_typed(types, of, open_kind(types, right)),
         (None, Some(of)) => one_typed(types, of, open_kind(types, left)),
         (None, None) => open_kinds(types, open_kind(types, left), open_kind(types, right)),
+    }
+}
+
+/// Where values meet of which some meet in the one and the others in the other: in one type, which untyped ones take, or untyped.
+pub fn met(types: &Types, one: Option<Joint>, other: Option<Joint>) -> Option<Joint>
+    requires one { IfSome one (KnownJoint (length types.now.shapes)) }
+    requires other { IfSome other (KnownJoint (length types.now.shapes)) }
+    ensures known { IfSome result (KnownJoint (length types.now.shapes)) }
+    ensures tree { option_map (common_seen types.now) result ≡ met (rights_of types.now) (option_map (common_seen types.now) one) (option_map (common_seen types.now) other) }
+{
+    match (one, other) {
+        (Some(Joint::Type(of)), Some(Joint::Type(other))) => if identical(types, of, other) {
+            Some(Joint::Type(of))
+        } else {
+            None
+        },
+        (Some(Joint::Type(of)), Some(Joint::Kind(kind))) => one_typed(types, of, Some(kind)),
+        (Some(Joint::Kind(kind)), Some(Joint::Type(of))) => one_typed(types, of, Some(kind)),
+        (Some(Joint::Kind(one)), Some(Joint::Kind(other))) => open_kinds(
+            types,
+            Some(one),
+            Some(other),
+        ),
+        _ => None,
     }
 }
 

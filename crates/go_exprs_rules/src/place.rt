@@ -7,7 +7,7 @@ ghost use Rattle.go_typed.specs.Views.{sort_seen, KnownSort};
 ghost use Rattle.go_exprs_rules.specs.Faults.{least};
 ghost use Rattle.go_exprs_rules.specs.Hints.{hint_seen};
 ghost use Rattle.go_exprs_rules.specs.Calls.{results_of};
-ghost use Rattle.go_exprs_rules.specs.Names.{is_row_empty, is_no_value, is_no_callee, is_no_target, is_no_statement, is_no_type, are_results, not_a_value, one_value, place_failing};
+ghost use Rattle.go_exprs_rules.specs.Names.{is_row_empty, is_no_value, is_no_callee, is_no_target, is_no_statement, is_no_type, are_results, not_a_value, one_value, too_many, place_failing};
 
 use crate::fault::{Place, TypeFault};
 use crate::hint::Hint;
@@ -118,6 +118,16 @@ fn one_value(types: &Types, place: Place, fails: bool, sort: &Sort) -> Option<Ty
     }
 }
 
+/// The fault of several results where one value is wanted.
+fn too_many(types: &Types, place: Place, is_none: bool, sort: &Sort) -> Option<TypeFault>
+    ensures { result ≡ least (too_many is_none (sort_seen types.now sort.now) place.first place.last) }
+{
+    if is_none {
+        return None;
+    }
+    one_value(types, place, false, sort)
+}
+
 /// The fault of an expression in its place: `NotAValue` for a type, `_`, a predeclared function or a call without results as a
 /// value and for a value as a type, `Count` for several results as one value.
 pub fn placed(types: &Types, place: Place, hint: Hint, sort: &Sort) -> Option<TypeFault>
@@ -132,6 +142,7 @@ pub fn placed(types: &Types, place: Place, hint: Hint, sort: &Sort) -> Option<Ty
         Hint::Target => one_value(types, place, is_no_target(types, sort), sort),
         Hint::Statement => not_a_value(place, is_no_statement(types, sort)),
         Hint::Inside => None,
+        Hint::OneInside => too_many(types, place, is_no_value(types, sort), sort),
         Hint::LooseInside => None,
         Hint::Declares => None,
         Hint::Free => None,

@@ -9,13 +9,12 @@ use Rattle.go_types.specs.Trees.{TypeTree}
 use Rattle.go_types.specs.Relations.{Underlying}
 use Rattle.go_types.specs.Tables.{Table, IsTable, HasShape, type_of, rights_of, tree_of}
 use Rattle.go_types.specs.FieldPlaces.{place_from as kept_place, field_place}
-use Rattle.go_types.proofs.Places.{get_there}
+use Rattle.go_types.proofs.Public.{get_there, field_within}
 use Rattle.go_types_relations.specs.Identity.{same_name}
 use Rattle.go_types_relations.specs.Tests.{underlying_of}
 use Rattle.go_types_relations.proofs.Public.{underlying_told, shape_tree, same_truth}
 use Rattle.go_exprs_rules.specs.Indexes.{place_from, field_number}
 use Rattle.go_exprs_rules.specs.Tables.{field_count}
-use Rattle.go_types.proofs.FieldPlacing.{field_within}
 use Rattle.go_exprs_types.proofs.Structs.{length_of_row}
 
 same_number : (x y : ℕ) → nat_eq x y ≡ nat_eq y x

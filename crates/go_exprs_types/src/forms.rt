@@ -47,6 +47,8 @@ fn names_type(name: Predeclared) -> bool
         | Predeclared::Copy
         | Predeclared::Len
         | Predeclared::Make
+        | Predeclared::Max
+        | Predeclared::Min
         | Predeclared::Panic => false,
         _ => true,
     }

@@ -90,6 +90,8 @@ pub fn predeclared_sort(
         | Predeclared::Copy
         | Predeclared::Len
         | Predeclared::Make
+        | Predeclared::Max
+        | Predeclared::Min
         | Predeclared::Panic => Ok(Sort::Builtin(name)),
     }
 }

@@ -10,3 +10,4 @@ pub mod Steps
 pub mod Table
 pub mod Unique
 pub mod Words
+pub mod Public

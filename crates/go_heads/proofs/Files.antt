@@ -2,7 +2,7 @@
 use Rattle.std.proofs.Common.{◌≡◌, List, [], ◌∷◌, map, refl, sym, ap, ◌∙◌, subst}
 use Rattle.go_grammar.specs.Grammar.{IsFile}
 use Rattle.go_grammar.specs.Trees.{parts}
-use Rattle.go_grammar.proofs.Unique.{one_file}
+use Rattle.go_grammar.proofs.Public.{one_file}
 use Rattle.go_tokens.specs.Tokens.{kinds}
 use Rattle.go_heads.specs.Heads.{File, IsRead, Head, in_bodies, outside, texts, head_of, heads, outline}
 use Rattle.go_heads.specs.Functions.{AreRead, outlines}

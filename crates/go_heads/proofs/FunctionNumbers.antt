@@ -5,7 +5,7 @@ use Rattle.std.proofs.lemmas.Option.{slice_get-map}
 use Rattle.go_grammar.specs.Trees.{Tree, node, none, more, skip, first, last}
 use Rattle.go_tree.specs.Lists.{is_function}
 use Rattle.go_tree.specs.Units.{word}
-use Rattle.go_types.proofs.Places.{get_within, get_there}
+use Rattle.go_types.proofs.Public.{get_within, get_there}
 use Rattle.go_heads.specs.Functions.{Function, Alone, AreRead, KeepsFunctions, all_functions, signature_alone, texts_from}
 use Rattle.go_heads.specs.Heads.{File, without_body}
 use Rattle.go_heads.proofs.Words.{texts_length, texts_apart}

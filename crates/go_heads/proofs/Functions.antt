@@ -9,8 +9,7 @@ use Rattle.go_grammar.specs.declared.kind.Kind.TheVariants as kind
 use Rattle.go_grammar.specs.declared.kind.Category.TheVariants as category
 use Rattle.go_grammar.specs.Trees.{Tree, node, Trees, none, more, skip, first, last, parts}
 use Rattle.go_grammar.specs.Trees as trees
-use Rattle.go_grammar.proofs.Ranges.{lies_within}
-use Rattle.go_grammar.proofs.Unique.{unique}
+use Rattle.go_grammar.proofs.Public.{lies_within, unique}
 use Rattle.go_rewriting.specs.Lists.{InOrder, Elsewhere}
 use Rattle.go_rewriting.specs.Places.{carry}
 use Rattle.go_rewriting.specs.Replacing.{moved}

@@ -13,7 +13,7 @@ use Rattle.go_grammar.specs.Rules.{Items, Each, Many}
 use Rattle.go_grammar.specs.Trees.{Tree, node, Trees, none, more, skip, kind_of, first, last, parts, depth, depths, weight}
 use Rattle.go_grammar.specs.Grammar.{rule, result_words, IsAt, Words, Derives, Spells, Goes, IsFile}
 use Rattle.go_grammar.specs.Words.{is_word, is_among}
-use Rattle.go_grammar.proofs.Ranges.{words_order}
+use Rattle.go_grammar.proofs.Public.{words_order}
 use Rattle.go_rewriting.specs.Lists.{InOrder, Ordered}
 use Rattle.go_rewriting.specs.Places.{carry, carries}
 use Rattle.go_rewriting.specs.Replacing.{Edge}

@@ -9,9 +9,9 @@ use Rattle.go_grammar.specs.declared.kind.Kind.{Kind}
 use Rattle.go_grammar.specs.declared.kind.Kind.TheVariants as kind
 use Rattle.go_grammar.specs.declared.kind.Category.TheVariants as category
 use Rattle.go_grammar.specs.Trees.{Tree, node, Trees, none, more, skip, kind_of, first, last, parts}
-use Rattle.go_grammar.proofs.Ranges.{lies_within}
+use Rattle.go_grammar.proofs.Public.{lies_within}
 use Rattle.go_rewriting.proofs.Public.{tree_order, derives_ordered}
-use Rattle.go_types.proofs.Places.{all_at}
+use Rattle.go_types.proofs.Public.{all_at}
 use Rattle.go_tree.specs.Functions.{FunctionDeclarationTree, function_declaration_of}
 use Rattle.go_tree.specs.Lists.{is_function, functions}
 use Rattle.go_heads.specs.Functions.{Function, AreRead, all_functions}

@@ -8,7 +8,7 @@ use Rattle.go_tokens.specs.declared.token.TokenKind.{TokenKind}
 use Rattle.go_tokens.specs.Files.{IsLexing}
 use Rattle.go_tokens.specs.Lexing.{token_kind}
 use Rattle.go_tokens.specs.Tokens.{TokenList, kinds, kind_of, text_of}
-use Rattle.go_tokens.proofs.Spelled.{spelling}
+use Rattle.go_tokens.proofs.Public.{spelling}
 use Rattle.go_heads.specs.Heads.{texts}
 
 -- the kind of a token with this text

@@ -6,7 +6,7 @@ use Rattle.std.proofs.lemmas.List.{map-append}
 use Rattle.go_tokens.specs.Tokens.{TokenList, kinds}
 use Rattle.go_grammar.specs.declared.kind.Category.TheVariants as category
 use Rattle.go_grammar.specs.Trees.{Tree, node, kind_of, first, last, parts}
-use Rattle.go_grammar.proofs.Ranges.{lies_within}
+use Rattle.go_grammar.proofs.Public.{lies_within}
 use Rattle.go_rewriting.specs.Places.{carry}
 use Rattle.go_rewriting.proofs.Public.{first_carry, last_carry}
 use Rattle.go_tree.specs.declared.event.Declaration.{Declaration}

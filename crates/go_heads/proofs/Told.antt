@@ -11,7 +11,7 @@ use Rattle.go_tokens.specs.Spellings.{same_text}
 use Rattle.go_tokens.specs.Tokens.{TokenList, kinds}
 use Rattle.go_grammar.specs.Grammar.{IsFile}
 use Rattle.go_grammar.specs.Trees.{Tree, node, none, more, skip, last, parts}
-use Rattle.go_types.proofs.Places.{get_left, get_last, all_at}
+use Rattle.go_types.proofs.Public.{get_left, get_last, all_at}
 use Rattle.go_tree.specs.declared.context.Block.{Block}
 use Rattle.go_tree.specs.declared.context.Block.TheVariants as block
 use Rattle.go_tree.specs.declared.context.Entity.{Entity}

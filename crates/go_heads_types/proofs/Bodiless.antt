@@ -17,8 +17,7 @@ use Rattle.go_tokens.specs.Lexing.{token_kind}
 use Rattle.go_tokens.specs.Pieces.{begun_by}
 use Rattle.go_tokens.specs.Spellings.{same_text, keywords}
 use Rattle.go_tokens.specs.Tokens.{TokenList, kinds, kind_of, text_of}
-use Rattle.go_tokens.proofs.Lists.{same_text-true}
-use Rattle.go_tokens.proofs.Spelled.{spelling}
+use Rattle.go_tokens.proofs.Public.{same_text-true, spelling}
 use Rattle.go_grammar.specs.declared.kind.Kind.TheVariants as kind
 use Rattle.go_grammar.specs.declared.kind.Category.TheVariants as category
 use Rattle.go_grammar.specs.Rules.{Lines}

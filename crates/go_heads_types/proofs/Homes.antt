@@ -4,7 +4,7 @@ use Rattle.std.specs.Prelude.{slice_get, option_map, unwrap_or}
 use Rattle.std.proofs.lemmas.Option.{slice_get-map}
 use Rattle.go_base.specs.Optional.{◌>>=◌}
 use Rattle.go_grammar.specs.Trees.{Tree, first, parts}
-use Rattle.go_types.proofs.Places.{all_at}
+use Rattle.go_types.proofs.Public.{all_at}
 use Rattle.go_tree.specs.declared.object.Declared.{Declared}
 use Rattle.go_tree.specs.File.{FileTree}
 use Rattle.go_tree.specs.Functions.{function_declaration_of}

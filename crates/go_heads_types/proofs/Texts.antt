@@ -5,7 +5,7 @@ use Rattle.std.proofs.lemmas.List.{map-append}
 use Rattle.go_tokens.specs.declared.token.Token.{Token}
 use Rattle.go_tokens.specs.Tokens.{TokenList, kinds, text_of}
 use Rattle.go_grammar.specs.Trees.{Tree, parts}
-use Rattle.go_types.proofs.Places.{get_there}
+use Rattle.go_types.proofs.Public.{get_there}
 use Rattle.go_tree.specs.File.{FileTree}
 use Rattle.go_tree.specs.Lists.{functions}
 use Rattle.go_tree.specs.Spans.{token_text}

@@ -1,9 +1,9 @@
 -- What the operators make of two whole numbers, and of two values of a kind.
-use Rattle.std.specs.Prelude.{◌≡◌, ℕ, ◌^◌, Bool, true, false, Option, Some, None, Result, Ok, Err, ℤ, pos, negsuc, ◌+ℤ◌, ◌-ℤ◌, ◌*ℤ◌, unsigned_abs, int_div, int_rem}
+use Rattle.std.specs.Prelude.{◌≡◌, ℕ, ◌^◌, Bool, true, false, Option, Some, None, Result, Ok, Err, ℤ, pos, negsuc, ◌+ℤ◌, ◌-ℤ◌, ◌*ℤ◌, unsigned_abs, int_div, int_rem, int_le, if◌then◌else◌}
 use Rattle.std.specs.Int.{int_shr}
 use Rattle.go_ints.specs.declared.kinds.Kind.{Kind}
 use Rattle.go_ints.specs.declared.operators.Op.{Op}
-use Rattle.go_ints.specs.declared.operators.Op.TheVariants.{Add, Sub, Mul, Div, Rem, And, Or, Xor, AndNot, Shl, Shr}
+use Rattle.go_ints.specs.declared.operators.Op.TheVariants.{Add, Sub, Mul, Div, Rem, And, Or, Xor, AndNot, Shl, Shr, Min, Max}
 use Rattle.go_ints.specs.declared.operators.Trap.{Trap}
 use Rattle.go_ints.specs.declared.operators.Trap.TheVariants.{DivideZero, NegativeShift}
 use Rattle.go_ints.specs.Bitwise.{bitwise_and, bitwise_or, bitwise_xor, bitwise_and_not}
@@ -28,6 +28,8 @@ exact Xor a b = bitwise_xor a b
 exact AndNot a b = bitwise_and_not a b
 exact Shl a b = a *ℤ pos (2 ^ unsigned_abs b)
 exact Shr a b = int_shr a (unsigned_abs b)
+exact Min a b = if int_le a b then a else b
+exact Max a b = if int_le a b then b else a
 
 -- why an operator has no result at the right operand b
 abbrev pub trap_of : Op → ℤ → Option Trap

@@ -1,7 +1,7 @@
 -- What the operators give, worked out by hand from the Go specification.
 use Rattle.std.specs.Prelude.{◌≡◌, ◌^◌, ◌-◌, true, false, Ok, Err, pos, neg_ℤ}
 use Rattle.go_ints.specs.declared.kinds.Kind.TheVariants.{Int8, Int16, Int64, Uint8, Uint16, Uint64, Int}
-use Rattle.go_ints.specs.declared.operators.Op.TheVariants.{Add, Sub, Mul, Div, Rem, And, Or, Xor, AndNot, Shl, Shr}
+use Rattle.go_ints.specs.declared.operators.Op.TheVariants.{Add, Sub, Mul, Div, Rem, And, Or, Xor, AndNot, Shl, Shr, Min, Max}
 use Rattle.go_ints.specs.declared.operators.Trap.TheVariants.{DivideZero, NegativeShift}
 use Rattle.go_ints.specs.Wrapping.{wrapped}
 use Rattle.go_ints.specs.Kinds.{is_value_of}
@@ -33,6 +33,9 @@ pub record Examples : Type 0 where
   pub right_of_negative : arithmetic Int8 Shr (neg_ℤ (pos 1)) (pos 1000) ≡ Ok (neg_ℤ (pos 1))
   pub left_out : arithmetic Uint8 Shl (pos 1) (pos 8) ≡ Ok (pos 0)
   pub left_to_sign : arithmetic Int64 Shl (pos 1) (pos 63) ≡ Ok (neg_ℤ (pos (2 ^ 63)))
+  -- the least and the greatest, also of negative numbers
+  pub least : arithmetic Int8 Min (neg_ℤ (pos 4)) (pos 3) ≡ Ok (neg_ℤ (pos 4))
+  pub greatest : arithmetic Uint64 Max (pos 1) (pos (2 ^ 64 - 1)) ≡ Ok (pos (2 ^ 64 - 1))
   -- traps
   pub divide_zero : arithmetic Int Rem (pos 1) (pos 0) ≡ Err DivideZero
   pub negative_shift : arithmetic Int Shl (pos 1) (neg_ℤ (pos 1)) ≡ Err NegativeShift

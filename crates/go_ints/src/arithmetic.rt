@@ -31,7 +31,7 @@ pub fn arith(kind: Kind, op: Op, a: i128, b: i128) -> Result<i128, Trap>
 }
 
 /// Why `op` has no result at the right operand `b`.
-fn trap(op: Op, b: i128) -> Option<Trap>
+pub fn trap(op: Op, b: i128) -> Option<Trap>
     ensures { result ≡ trap_of op b }
 {
     match op {
@@ -85,7 +85,9 @@ fn unwrapped(op: Op, a: i128, b: i128) -> i128
         Xor a ^ b,
         AndNot a & !b,
         Shl shifted_left(a, b),
-        Shr shifted_right(a, b))
+        Shr shifted_right(a, b),
+        Min if b < a { b } else { a },
+        Max if a < b { b } else { a })
 }
 
 /// A number that differs from `a`, `count` bits to the left, by a multiple of 2^64.

@@ -11,7 +11,7 @@ pub mod laws;
 mod operators;
 mod wrapping;
 
-pub use arithmetic::arith;
+pub use arithmetic::{arith, trap};
 pub use kinds::{Kind, LAYOUTS, Layout, fits};
 pub use operators::{Op, Trap};
 pub use wrapping::wrap;

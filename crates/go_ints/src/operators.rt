@@ -1,6 +1,6 @@
-//! The binary operators on integers, and how one may trap.
+//! The binary operations on integers, and how one may trap.
 
-/// A binary operator on integers (Go specification, "Arithmetic operators").
+/// A binary operation on integers (Go specification, "Arithmetic operators", "Min and max").
 #[derive(Clone, Copy, PartialEq, Eq, Debug)]
 pub enum Op {
     /// `+`
@@ -25,6 +25,10 @@ pub enum Op {
     Shl,
     /// `>>`, which copies the sign bit of a signed value.
     Shr,
+    /// `min`, the lesser of two (Go specification, "Min and max").
+    Min,
+    /// `max`, the greater of two.
+    Max,
 }
 
 /// Why an operation has no result (Go specification, "Run-time panics").

@@ -8,7 +8,7 @@ use Rattle.go_typed.specs.Trees.{Typed, typed, Typeds, none, more, skip}
 use Rattle.go_meaning.specs.Values.{Value, Truth, Whole, Text, Parts, Slice, NilSlice, Function, NilFunction, nth, is_true, zero_value}
 use Rattle.go_meaning.specs.Computations.{World, NilCall, Ending, Next, Return, Break, Continue, Fallthrough, Panics, Outcome, Ends, Undecided, Comp, go_on, go_round, go_down, leave, undecided, end_by, give, then_do, one, looped, clause, read, write, spend, enter, choose, each, in_order, falling, over}
 use Rattle.go_meaning.specs.Operations
-use Rattle.go_meaning.specs.Operations.{Operation, Items, Fixed, Elements, Cells, Runes, Deed, Gives, Traps, perform, done, operate, item_count}
+use Rattle.go_meaning.specs.Operations.{Operation, Items, Fixed, Elements, Cells, Runes, Numbers, Deed, Gives, Traps, perform, done, operate, item_count}
 use Rattle.go_meaning.specs.Plans.{Plan, Give, Local, Variable, Declare, Ignore, Inner, FieldOf, ElementOf, CellOf, Perform, Both, Either, Apply, StepBy, OperateBy, AssignTo, ZeroTo, Skip, Returns, Breaks, Continues, Falls, Sequence, Branch, Select, CaseOf, Otherwise, Iterate, Course, Once, Loop}
 use Rattle.go_meaning.specs.Doings.{Doing, plain, chosen_by, absent, values_of, finds_of, at, local_place, name_place, blank_place, variable_place, field_place, element_place, cell_place, stores, assigned, operated, applied, matches, selected, tag_of, loop, operand_of, iterated, act, condition_of, doing_of}
 use Rattle.go_meaning.specs.Planning.{plan}
@@ -376,6 +376,7 @@ module _ (most : ℕ) where
   operand_within Elements x x' h = h.value
   operand_within Cells x x' h = h.value
   operand_within Runes x x' h = h.value
+  operand_within Numbers x x' h = h.value
 
   module _ (call call' : ℕ → List Value → Comp) (hc : (g : ℕ) (vs : List Value) → Within most (call g vs) (call' g vs)) where
     applied_within : (v : Value) (vs : List Value) → Within most (applied call v vs) (applied call' v vs)

@@ -47,4 +47,11 @@ worked = record {
   reads = refl;
   grown = refl;
   moved = refl;
+  counted = refl;
+  counted_cut = refl;
+  below_zero = refl;
+  below_one = refl;
+  repeated = refl;
+  ordered = refl;
+  picked = refl;
 }

@@ -12,7 +12,7 @@ use Rattle.go_meaning.specs.Texts.{line_of}
 use Rattle.go_meaning.specs.Computations
 use Rattle.go_meaning.specs.Computations.{World, Panic, Ending, Next, Return, Break, Continue, Fallthrough, Panics, Outcome, Ends, Undecided, Comp, output_of, go_on, go_round, go_down, leave, undecided, end_by, give, then_do, one, looped, clause, read, write, spend, enter, choose, each, in_order, falling, over}
 use Rattle.go_meaning.specs.Operations
-use Rattle.go_meaning.specs.Operations.{Operation, Items, Fixed, Elements, Cells, Runes, Deed, Gives, Traps, computed, found, new_slice, made, longer, appended, with_cells, contents, length_of, capacity_of, within, cut, cut_by, byte_read, perform, done, operate, item_count}
+use Rattle.go_meaning.specs.Operations.{Operation, Items, Fixed, Elements, Cells, Runes, Numbers, Deed, Gives, Traps, computed, found, new_slice, made, longer, appended, with_cells, contents, length_of, capacity_of, within, cut, cut_by, byte_read, perform, done, operate, item_count}
 use Rattle.go_meaning.specs.Plans.{Plan, Give, Local, Variable, Declare, Ignore, Inner, FieldOf, ElementOf, CellOf, Perform, Both, Either, Apply, StepBy, OperateBy, AssignTo, ZeroTo, Skip, Returns, Breaks, Continues, Falls, Sequence, Branch, Select, CaseOf, Otherwise, Iterate, Course, Once, Loop}
 use Rattle.go_meaning.specs.Doings.{Doing, plain, chosen_by, values_of, finds_of, at, local_place, name_place, blank_place, variable_place, field_place, element_place, cell_place, stores, assigned, operated, applied, matches, selected, tag_of, loop, operand_of, iterated, act, condition_of, doing_of}
 use Rattle.go_meaning.specs.Laws.{IsPrefix}
@@ -118,6 +118,8 @@ perform_grows (Operations.ReadVariable n) vs w = prefix_refl w.output
 perform_grows (Operations.WriteVariable n) vs w = prefix_refl w.output
 perform_grows Operations.Length vs w = prefix_refl w.output
 perform_grows Operations.Capacity vs w = prefix_refl w.output
+perform_grows Operations.Least vs w = prefix_refl w.output
+perform_grows Operations.Greatest vs w = prefix_refl w.output
 perform_grows (Operations.MakeSlice z) vs w = made_grows z (whole_of (nth vs 0)) (whole_of (nth vs _)) w
 perform_grows (Operations.Append z) vs w = appended_grows z (nth vs 0) (drop 1 vs) w
 perform_grows Operations.Copy vs w = cells_grow (nth vs 0) 0 _ w
@@ -411,6 +413,7 @@ operand_grows (Fixed n) x h = give_grows (NilFunction ∷ [])
 operand_grows Elements x h = h.value
 operand_grows Cells x h = h.value
 operand_grows Runes x h = h.value
+operand_grows Numbers x h = h.value
 
 -- a turn, and the turns behind it
 pub turn_grows : (block post again : Comp) → Grows block → Grows post → Grows again → (v : Value) → Grows (choose (is_true v) (spend (looped block (then_do post (λ no1. again)))) (give []))

@@ -5,7 +5,7 @@ use Rattle.go_grammar.specs.declared.kind.Comparison.TheVariants.{Equal}
 use Rattle.go_types_relations.specs.Zeros.{Zero, nil_function}
 use Rattle.go_meaning.specs.Values.{Value, Truth, Whole, Text, Parts, Slice, NilSlice, Function, NilFunction, nth, is_true, zero_value}
 use Rattle.go_meaning.specs.Computations.{Panic, NilCall, Next, Return, Break, Continue, Fallthrough, Panics, Comp, undecided, end_by, give, then_do, one, looped, clause, read, write, spend, choose, each, in_order, falling, over}
-use Rattle.go_meaning.specs.Operations.{Operation, Items, Fixed, Elements, Cells, Runes, Compare, Field, WithField, Element, WithElement, InArray, Cell, SetCell, InSlice, ReadVariable, WriteVariable, Item, operate, item_count}
+use Rattle.go_meaning.specs.Operations.{Operation, Items, Fixed, Elements, Cells, Runes, Numbers, Compare, Field, WithField, Element, WithElement, InArray, Cell, SetCell, InSlice, ReadVariable, WriteVariable, Item, operate, item_count}
 use Rattle.go_meaning.specs.Plans.{Plan, Give, Local, Variable, Declare, Ignore, Inner, FieldOf, ElementOf, CellOf, Perform, Both, Either, Apply, StepBy, OperateBy, AssignTo, ZeroTo, Skip, Returns, Breaks, Continues, Falls, Sequence, Branch, Select, CaseOf, Otherwise, Iterate, Loop}
 use Rattle.go_meaning.specs.Doings.{Doing, plain, chosen_by, absent, values_of, finds_of, at, local_place, name_place, blank_place, variable_place, field_place, element_place, cell_place, stores, assigned, operated, applied, matches, selected, tag_of, loop, operand_of, iterated, act, condition_of, doing_of}
 use Rattle.go_meaning.proofs.Growing.{Grows, AllGrow, Grown, AllGrown, undecided_grows, end_grows, give_grows, operate_grows, choose_grows, plain_grown, chosen_grown, values_grow, take_grown, stored_grows, element_stored_grows, index_found_grows, element_found_grows, stores_grow, assigned_rest_grows, operated_last_grows, operated_rest_grows, match_rest_grows, matches_grow, turn_grows, iterated_grows, switched_grows, branch_grows, each_grows, local_grown, name_grown, blank_grown, variable_grown, field_grown, element_grown, cell_grown}
@@ -368,6 +368,7 @@ module _ (L : Likeness) (a p q : ℕ) (R : Frames) where
   operand_like Elements x x' h = h.value
   operand_like Cells x x' h = h.value
   operand_like Runes x x' h = h.value
+  operand_like Numbers x x' h = h.value
 
   module _ (le : 1 ≤ a) where
     turn_like : (block block' post post' again again' : Comp) → Like block block' → Like post post' → Like again again' → (v v' : Value) → Pair v v' → Like (choose (is_true v) (spend (looped block (then_do post (λ no1. again)))) (give [])) (choose (is_true v') (spend (looped block' (then_do post' (λ no1. again')))) (give []))

@@ -170,6 +170,38 @@ copies = main_of 2 (
     ∷ println (local int 1 ∷ cell 0 0 ∷ cell 0 1 ∷ cell 0 2 ∷ [])
     ∷ [])
 
+-- `n := 3; for i := range n { n = 10; fmt.Println(i, min(i, 1), max(i, 1, 2)) }`
+abbrev pub counts : Code
+counts = main_of 2 (
+    define int 0 (num (pos 3))
+    ∷ range (expression int (form.New 1) none ∷ []) n (
+    assign n (num (pos 10))
+    ∷ println (local int 1 ∷ builtin predeclared.Min int (local int 1 ∷ num (pos 1) ∷ []) ∷ builtin predeclared.Max int (local int 1 ∷ num (pos 1) ∷ num (pos 2) ∷ []) ∷ []) ∷ [])
+    ∷ [])
+
+-- `for i := range z { fmt.Println(i) }`
+abbrev pub counts_to : Tree → Code
+counts_to z = main_of 1 (range (expression int (form.New 0) none ∷ []) z (println (local int 0 ∷ []) ∷ []) ∷ [])
+
+-- `for range x { fmt.Println(9) }`
+abbrev pub repeats : Tree → Code
+repeats x = main_of 0 (range [] x (println (num (pos 9) ∷ []) ∷ []) ∷ [])
+
+-- `s := "b"; fmt.Println(min(s, "ab", "a"), max("ab", s), min(s, ""))`
+abbrev pub orders : Code
+orders = main_of 1 (
+    define text 0 (string (codes "b"))
+    ∷ println (builtin predeclared.Min text (local text 0 ∷ string (codes "ab") ∷ string (codes "a") ∷ [])
+    ∷ builtin predeclared.Max text (string (codes "ab") ∷ local text 0 ∷ []) ∷ builtin predeclared.Min text (local text 0 ∷ string [] ∷ []) ∷ [])
+    ∷ [])
+
+-- `var g int; fmt.Println(min(g, inc(), inc()), max(g))`, where inc adds 1 to g and gives it
+abbrev pub picks : Code
+picks = main_of 0 (println (builtin predeclared.Min int (variable int 0 ∷ call_of 1 [] ∷ call_of 1 [] ∷ []) ∷ builtin predeclared.Max int (variable int 0 ∷ []) ∷ []) ∷ [])
+
+abbrev pub increments : Code
+increments = code [] 0 (assign (variable int 0) (sum Add (variable int 0) (num (pos 1))) ∷ returns (variable int 0 ∷ []) ∷ [])
+
 pub record Examples : Type 0 where
   -- slices share their array, arrays are copied
   pub aliasing : outcome 10 shared [] ≡ Ended (codes "9 2 2 0 7\n")
@@ -226,3 +258,14 @@ pub record Examples : Type 0 where
   -- `append` makes a new array of twice the capacity, or writes in place; `copy` reads its source first
   pub grown : outcome 10 appends [] ≡ Ended (codes "1 1 4 5\n")
   pub moved : outcome 10 copies [] ≡ Ended (codes "2 1 1 2\n")
+  -- A range over an integer reads it once, whatever its body assigns; `min` and `max` give one of their arguments.
+  pub counted : outcome 4 counts [] ≡ Ended (codes "0 0 2\n1 1 2\n2 1 2\n")
+  pub counted_cut : outcome 3 counts [] ≡ Unfinished (codes "0 0 2\n1 1 2\n")
+  pub below_zero : outcome 1 (counts_to (num (negsuc 0))) [] ≡ Ended []
+  pub below_one : outcome 2 (counts_to (num (pos 1))) [] ≡ Ended (codes "0\n")
+  -- With nothing on its left the operand is evaluated all the same.
+  pub repeated : outcome 20 (repeats (p 2)) (shows ∷ []) ≡ Ended (codes "2\n9\n9\n")
+  -- strings are ordered by their bytes, not by their length
+  pub ordered : outcome 10 orders [] ≡ Ended (codes "a b \n")
+  -- arguments are evaluated from left to right
+  pub picked : outcome_with (specified int 0 (num (pos 0)) ∷ []) picks (increments ∷ []) ≡ Ended (codes "0 2\n")

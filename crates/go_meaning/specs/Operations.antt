@@ -26,6 +26,8 @@ pub data Items : Type 0 where
   -- the elements of a slice, each as it is at its turn
   Cells : Items
   Runes : Items
+  -- the whole numbers from 0 on that are below an integer
+  Numbers : Items
 
 pub data Operation : Type 0 where
   -- arithmetic on integers of a kind, the joining of strings, a comparison
@@ -59,6 +61,9 @@ pub data Operation : Type 0 where
   WriteVariable : ℕ → Operation
   Length : Operation
   Capacity : Operation
+  -- `min` and `max`
+  Least : Operation
+  Greatest : Operation
   -- `make` and `append`, with the zero value of an element
   MakeSlice : Zero → Operation
   Append : Zero → Operation
@@ -97,6 +102,13 @@ compared Less a b = is_lt (order_of a b)
 compared LessEqual a b = is_le (order_of a b)
 compared Greater a b = is_gt (order_of a b)
 compared GreaterEqual a b = is_ge (order_of a b)
+
+-- ---- the least and the greatest (Go specification, "Min and max")
+
+-- One after the other is taken in place of the value before where it is less, or greater; of equal ones the first stays.
+abbrev pub picked : Comparison → Value → List Value → Value
+picked c v [] = v
+picked c v (u ∷ us) = picked c (if compared c u v then u else v) us
 
 -- ---- lengths and indexes (Go specification, "Length and capacity", "Index expressions")
 
@@ -202,18 +214,25 @@ rune_at [] i = []
 rune_at (r ∷ rs) zero = Whole (pos r.place) ∷ Whole (pos r.code) ∷ []
 rune_at (r ∷ rs) (suc i) = rune_at rs i
 
+-- how many whole numbers from 0 on are below z
+abbrev pub numbers_below : ℤ → ℕ
+numbers_below (pos n) = n
+numbers_below (negsuc n) = 0
+
 abbrev pub item_count : Items → Value → ℕ
 item_count (Fixed n) v = n
 item_count Elements v = length (parts_of v)
 item_count Cells v = length_of v
 item_count Runes v = length (runes_of (text_of v))
+item_count Numbers v = numbers_below (whole_of v)
 
--- the number of an item and its value
+-- the number of an item, and its value where it has one
 abbrev pub item : Items → ℕ → Value → World → List Value
 item (Fixed n) i v w = Whole (pos i) ∷ []
 item Elements i v w = Whole (pos i) ∷ nth (parts_of v) i ∷ []
 item Cells i v w = Whole (pos i) ∷ cell v i w ∷ []
 item Runes i v w = rune_at (runes_of (text_of v)) i
+item Numbers i v w = Whole (pos i) ∷ []
 
 -- the next byte of the input, or -1 at its end
 abbrev pub byte_read : List ℕ → World → Deed
@@ -248,6 +267,8 @@ perform (ReadVariable n) vs w = Gives (nth w.variables n ∷ []) w
 perform (WriteVariable n) vs w = Gives [] (record w { variables = slice_set w.variables n (nth vs 0) })
 perform Length vs w = Gives (Whole (pos (length_of (nth vs 0))) ∷ []) w
 perform Capacity vs w = Gives (Whole (pos (capacity_of (nth vs 0))) ∷ []) w
+perform Least vs w = Gives (picked Less (nth vs 0) (drop 1 vs) ∷ []) w
+perform Greatest vs w = Gives (picked Greater (nth vs 0) (drop 1 vs) ∷ []) w
 perform (MakeSlice z) vs w = made z (whole_of (nth vs 0)) (whole_of (nth vs (length vs - 1))) w
 perform (Append z) vs w = appended z (nth vs 0) (drop 1 vs) w
 perform Copy vs w = copied (nth vs 0) (nth vs 1) w

@@ -26,7 +26,7 @@ use Rattle.go_typed.specs.Forms.{is_default}
 use Rattle.go_typed.specs.Operators.{op_of}
 use Rattle.go_typed.specs.Trees as trees
 use Rattle.go_meaning.specs.Values.{Function, zero_value, const_value}
-use Rattle.go_meaning.specs.Operations.{Operation, Items, Fixed, Elements, Cells, Runes}
+use Rattle.go_meaning.specs.Operations.{Operation, Items, Fixed, Elements, Cells, Runes, Numbers}
 use Rattle.go_meaning.specs.Operations as does
 use Rattle.go_meaning.specs.Plans.{Plan, Course, Once, Loop}
 use Rattle.go_meaning.specs.Plans as plans
@@ -148,6 +148,8 @@ builtin_plan rights predeclared.Cap ps = plans.Perform does.Capacity
 builtin_plan rights predeclared.Make ps = plans.Perform (does.MakeSlice (element_zero rights ps))
 builtin_plan rights predeclared.Append ps = plans.Perform (does.Append (element_zero rights ps))
 builtin_plan rights predeclared.Copy ps = plans.Perform does.Copy
+builtin_plan rights predeclared.Min ps = plans.Perform does.Least
+builtin_plan rights predeclared.Max ps = plans.Perform does.Greatest
 builtin_plan rights predeclared.Panic ps = plans.Perform does.PanicWith
 builtin_plan rights _ ps = plans.Skip
 
@@ -185,6 +187,7 @@ abbrev pub items_of : Bool → Bool → TypeTree → Items
 items_of true false (array n t) = Fixed n
 items_of single calls (array n t) = Elements
 items_of single calls (slice t) = Cells
+items_of single calls (integer k) = Numbers
 items_of single calls t = Runes
 
 -- ---- the table: what a node does that is no constant and no `for` without a range; the rest does nothing by itself

@@ -9,7 +9,7 @@ use Rattle.go_types.specs.declared.shape.Shape.{Shape}
 use Rattle.go_types.specs.declared.shape.Shape.TheVariants as shape
 use Rattle.go_types.specs.Changes.{IsOpen}
 use Rattle.go_types.specs.Tables.{Table, IsTable, HasShape, is_declaration}
-use Rattle.go_types.proofs.Containment.{declared_or_not}
+use Rattle.go_types.proofs.Public.{declared_or_not}
 use Rattle.go_typed.specs.Packages.{is_there}
 use Rattle.go_package.specs.Checks.{declared_at}
 

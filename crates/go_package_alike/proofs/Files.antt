@@ -15,8 +15,8 @@ use Rattle.go_grammar.specs.Categories.{place_of}
 use Rattle.go_grammar.specs.Grammar.{rule, Derives, Spells, Goes}
 use Rattle.go_grammar.specs.Rules.{Items, Rule, End, Then, Maybe, Unless, Many, item}
 use Rattle.go_grammar.specs.Trees.{Tree, node, Trees, none, more, skip, first, last}
-use Rattle.go_grammar.proofs.Ranges.{lies_within}
-use Rattle.go_tree.proofs.Tiles.{derives_tiles}
+use Rattle.go_grammar.proofs.Public.{lies_within}
+use Rattle.go_tree.proofs.Public.{derives_tiles}
 use Rattle.go_tree.specs.declared.context.Entity.{Entity}
 use Rattle.go_tree.specs.declared.context.Entity.TheVariants as entity
 use Rattle.go_tree.specs.Contexts.{entity_of}

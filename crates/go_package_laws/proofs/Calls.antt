@@ -2,6 +2,7 @@
 use Rattle.std.proofs.Common.{◌≡◌, ℕ, Bool, true, false, List, [], ◌∷◌, map, Option, Some, None, refl, ap, ◌∙◌}
 use Rattle.std.specs.List.{list_all}
 use Rattle.go_ints.specs.declared.kinds.Kind.TheVariants as integer_kind
+use Rattle.go_ints.specs.declared.operators.Op.TheVariants as op
 use Rattle.go_constants.specs.declared.values.Const.{Const}
 use Rattle.go_constants.specs.declared.values.Const.TheVariants as const
 use Rattle.go_tree.specs.declared.object.Predeclared.{Predeclared}
@@ -12,7 +13,7 @@ use Rattle.go_types_relations.specs.Tests.{underlying_of}
 use Rattle.go_typed.specs.Trees.{typed, Typeds, sort_of, parts_of, EveryPart}
 use Rattle.go_typed.specs.Trees as sort
 use Rattle.go_exprs_rules.specs.declared.family.OpenKind.{OpenKind}
-use Rattle.go_exprs_rules.specs.Calls.{keeps_value, becomes_text, is_integer_type, is_text_type, converts, converts_value, open_conversion, value_conversion, kept_conversion, conversion_failing, constant_or_value, conversion_sort, conversion_take, parameters_of, results_of, all_unassignable, function_call_failing, called, function_call_sort, all_as, printed, all_printed, length_failing, sizes_failing, make_failing, each_unassignable, append_failing_in, append_failing, copies, copy_failing, panic_failing, builtin_failing, constant_length, length_value, length_sort, made_sort, appended_sort, builtin_sort, appended_takes, builtin_takes, one_conversion, call_failing, converted_sort, call_sort, function_takes, call_takes}
+use Rattle.go_exprs_rules.specs.Calls.{keeps_value, becomes_text, is_integer_type, is_text_type, converts, converts_value, open_conversion, value_conversion, kept_conversion, conversion_failing, constant_or_value, conversion_sort, conversion_take, parameters_of, results_of, all_unassignable, function_call_failing, called, function_call_sort, all_as, printed, all_printed, length_failing, sizes_failing, make_failing, each_unassignable, append_failing_in, append_failing, copies, copy_failing, panic_failing, builtin_failing, constant_length, length_value, length_sort, made_sort, appended_sort, builtin_sort, appended_takes, builtin_takes, one_conversion, call_failing, converted_sort, call_sort, function_takes, call_takes, extreme_take}
 use Rattle.go_exprs_rules.specs.Literals.{key_of, has_keys, first_part, elements_failing, keyed_type, given_to_field, keyed_unassignable, keyed_failing, ordered_failing, fields_failing, literal_failing_in, literal_failing, as_optional, fields_take, literal_takes_in, literal_takes, literal_sort}
 use Rattle.go_exprs_rules.specs.Settling.{Part, Take, stay, default, as_type}
 use Rattle.go_exprs_rules.specs.Sorts.{Stands, open_kind, own_type, constant_of, is_constant, named_type, underlying_in, form_of_value, is_whole, slice_element, value_type}
@@ -20,6 +21,7 @@ use Rattle.go_package_laws.specs.Reach.{Within, RowWithin, MaybeWithin, AgreeOn,
 use Rattle.go_package_laws.proofs.Agreeing.{underlying_same, underlying_within, assignable_same}
 use Rattle.go_package_laws.proofs.Values.{branch, sort_within, own_within, named_within, slice_within, value_within, TakeWithin, underlying_in_same, underlying_in_within, form_same, form_within, family_same, whole_same, text_same, suits_same, bytes_same, represents_same, unrepresented_same, undefaulted_same, unassignable_same}
 use Rattle.go_package_laws.proofs.Operators.{TakesWithin}
+use Rattle.go_package_laws.proofs.Extremes.{extreme_failing_same, extreme_sort_same, extreme_sort_within, extreme_take_same, extreme_take_within}
 use Rattle.go_package_laws.proofs.Indexes.{row_type_within, value_or_within, bound_same}
 
 module _ (p : ℕ → Bool) where
@@ -267,6 +269,8 @@ module _ (p : ℕ → Bool) (old new : Rights) (a : AgreeOn p old new) where
   builtin_failing_same i j predeclared.Append xs w = append_same i j xs w
   builtin_failing_same i j predeclared.Copy xs w = copy_same i j xs w
   builtin_failing_same i j predeclared.Panic xs w = panic_same i j xs w
+  builtin_failing_same i j predeclared.Min xs w = extreme_failing_same p old new a i j xs w
+  builtin_failing_same i j predeclared.Max xs w = extreme_failing_same p old new a i j xs w
   builtin_failing_same i j b xs w = refl
 
   length_sort_same : (xs : List Part) → ListWithin p xs → length_sort new xs ≡ length_sort old xs
@@ -280,6 +284,8 @@ module _ (p : ℕ → Bool) (old new : Rights) (a : AgreeOn p old new) where
   builtin_sort_same : (b : Predeclared) (xs : List Part) → ListWithin p xs → builtin_sort new b xs ≡ builtin_sort old b xs
   builtin_sort_same predeclared.Len xs w = length_sort_same xs w
   builtin_sort_same predeclared.Cap xs w = length_sort_same xs w
+  builtin_sort_same predeclared.Min xs w = extreme_sort_same p old new a op.Min xs w
+  builtin_sort_same predeclared.Max xs w = extreme_sort_same p old new a op.Max xs w
   builtin_sort_same b xs w = refl
 
   builtin_sort_within : (b : Predeclared) (xs : List Part) → ListWithin p xs → StandsWithin p (builtin_sort old b xs)
@@ -288,17 +294,23 @@ module _ (p : ℕ → Bool) (old new : Rights) (a : AgreeOn p old new) where
   builtin_sort_within predeclared.Make xs w = made_within p xs w
   builtin_sort_within predeclared.Append xs w = appended_within p xs w
   builtin_sort_within predeclared.Panic xs w = (tt, tt)
+  builtin_sort_within predeclared.Min xs w = extreme_sort_within p old new a op.Min xs w
+  builtin_sort_within predeclared.Max xs w = extreme_sort_within p old new a op.Max xs w
   builtin_sort_within b xs w = tt
 
   builtin_takes_same : (b : Predeclared) (xs : List Part) → ListWithin p xs → builtin_takes new b xs ≡ builtin_takes old b xs
   builtin_takes_same b [] w = refl
   builtin_takes_same predeclared.Append (x ∷ xs) w = ap (λ o. appended_takes o xs) (slice_of_same (sort_of x) (sort_within p x w.0))
+  builtin_takes_same predeclared.Min (x ∷ xs) w = ap (λ k. map (λ (y : Part). k) (x ∷ xs)) (extreme_take_same p old new a (x ∷ xs) w)
+  builtin_takes_same predeclared.Max (x ∷ xs) w = ap (λ k. map (λ (y : Part). k) (x ∷ xs)) (extreme_take_same p old new a (x ∷ xs) w)
   builtin_takes_same b (x ∷ xs) w = refl
 
   builtin_takes_within : (b : Predeclared) (xs : List Part) → ListWithin p xs → TakesWithin p (builtin_takes old b xs)
   builtin_takes_within b [] w = tt
   builtin_takes_within predeclared.Make (x ∷ xs) w = (tt, each_take p (λ n. as_type (integer integer_kind.Int)) (λ n. tt) xs)
   builtin_takes_within predeclared.Append (x ∷ xs) w = appended_takes_within p (slice_element (form_of_value old (sort_of x))) xs (slice_of_within (sort_of x) (sort_within p x w.0))
+  builtin_takes_within predeclared.Min (x ∷ xs) w = each_take p (λ y. extreme_take old (x ∷ xs)) (λ y. extreme_take_within p old new a (x ∷ xs) w) (x ∷ xs)
+  builtin_takes_within predeclared.Max (x ∷ xs) w = each_take p (λ y. extreme_take old (x ∷ xs)) (λ y. extreme_take_within p old new a (x ∷ xs) w) (x ∷ xs)
   builtin_takes_within b (x ∷ xs) w = each_take p (λ y. default) (λ y. tt) (x ∷ xs)
 
   -- ---- calls

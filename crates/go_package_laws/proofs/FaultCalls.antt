@@ -12,14 +12,15 @@ use Rattle.go_types_relations.specs.Tests.{underlying_of}
 use Rattle.go_typed.specs.Trees.{Typed, typed, Typeds, sort_of, parts_of}
 use Rattle.go_typed.specs.Trees as sort
 use Rattle.go_exprs_rules.specs.declared.family.OpenKind.{OpenKind}
-use Rattle.go_exprs_rules.specs.Settling.{Part, unassignable}
-use Rattle.go_exprs_rules.specs.Sorts.{Stands, is_constant, constant_of, open_kind, represents, suits, has_nil, value_type, family_of, form_of_value, is_whole, underlying_in, named_type, slice_element}
+use Rattle.go_exprs_rules.specs.Operators.{Common, in_type, in_kind, unordered}
+use Rattle.go_exprs_rules.specs.Settling.{Part, unrepresented, unassignable}
+use Rattle.go_exprs_rules.specs.Sorts.{Stands, is_constant, constant_of, open_kind, represents, suits, has_nil, value_type, family_of, form_of_value, is_whole, underlying_in, named_type, slice_element, default_type}
 use Rattle.go_exprs_rules.specs.Indexes.{bound_failing, disordered}
-use Rattle.go_exprs_rules.specs.Calls.{operands_unless, open_conversion, value_conversion, converts_value, kept_conversion, keeps_value, becomes_text, conversion_failing, all_unassignable, function_call_failing, parameters_of, row_length, printed, all_printed, length_failing, sizes_failing, count_unless, make_failing, each_unassignable, append_failing_in, append_failing, copy_failing, panic_failing, builtin_failing, one_conversion, call_failing}
+use Rattle.go_exprs_rules.specs.Calls.{operands_unless, open_conversion, value_conversion, converts_value, kept_conversion, keeps_value, becomes_text, conversion_failing, all_unassignable, function_call_failing, parameters_of, row_length, printed, all_printed, length_failing, sizes_failing, count_unless, make_failing, each_unassignable, append_failing_in, append_failing, copy_failing, panic_failing, are_constants, meeting, each_unrepresented, extreme_refuse, extreme_failing_in, extreme_failing, builtin_failing, one_conversion, call_failing}
 use Rattle.go_exprs_rules.specs.Literals.{key_of, has_keys, is_below, first_part, nth_part, at_optional, too_many, elements_failing, keyed_type, given_to_field, keyed_unassignable, keyed_failing, ordered_failing, fields_failing, literal_failing_in, literal_failing}
 use Rattle.go_package_laws.specs.Places.{EachFault}
-use Rattle.go_package_laws.proofs.Parts.{Placed, AllPlaced, PlacedThere, ListPlaced, both, either, at_it, unrepresented_at, undefaulted_at, unassignable_at, parts_placed}
-use Rattle.go_package_laws.proofs.Rules.{bound_at, disordered_at}
+use Rattle.go_package_laws.proofs.Parts.{Placed, AllPlaced, PlacedThere, ListPlaced, both, either, else_those, at_it, unrepresented_at, undefaulted_at, unassignable_at, parts_placed}
+use Rattle.go_package_laws.proofs.Rules.{bound_at, disordered_at, unordered_at}
 
 module _ (q : ℕ → ℕ → Bool) (rights : Rights) (i j : ℕ) (here : q i j ≡ true) where
   -- ---- conversions
@@ -117,6 +118,22 @@ module _ (q : ℕ → ℕ → Bool) (rights : Rights) (i j : ℕ) (here : q i j 
   panic_at (x ∷ []) h = printed_at x h.0
   panic_at (x ∷ y ∷ xs) h = (here, tt)
 
+  unrepresented_each : (t : TypeTree) (xs : List Part) → ListPlaced q xs → EachFault q (each_unrepresented rights t xs)
+  unrepresented_each t [] h = tt
+  unrepresented_each t (x ∷ xs) h = both q (unrepresented rights t x) (each_unrepresented rights t xs) (unrepresented_at q rights t x h.0) (unrepresented_each t xs h.1)
+
+  refuse_at : (b : Bool) (c : Common) (xs : List Part) → ListPlaced q xs → EachFault q (extreme_refuse rights b c xs)
+  refuse_at b (in_type t) xs h = unrepresented_each t xs h
+  refuse_at b (in_kind k) xs h = either q b [] _ tt (unrepresented_each (default_type k) xs h)
+
+  extreme_in_at : (xs : List Part) (c : Option Common) → ListPlaced q xs → EachFault q (extreme_failing_in rights i j xs c)
+  extreme_in_at xs None h = (here, tt)
+  extreme_in_at xs (Some c) h = else_those q (unordered rights i j c) (extreme_refuse rights (are_constants xs) c xs) (unordered_at q rights i j here c) (refuse_at (are_constants xs) c xs h)
+
+  extreme_at : (xs : List Part) → ListPlaced q xs → EachFault q (extreme_failing rights i j xs)
+  extreme_at [] h = (here, tt)
+  extreme_at (x ∷ xs) h = extreme_in_at (x ∷ xs) (meeting rights (x ∷ xs)) h
+
   builtin_at : (p : Predeclared) (xs : List Part) → ListPlaced q xs → EachFault q (builtin_failing rights i j p xs)
   builtin_at predeclared.Len xs h = length_at true xs
   builtin_at predeclared.Cap xs h = length_at false xs
@@ -124,6 +141,8 @@ module _ (q : ℕ → ℕ → Bool) (rights : Rights) (i j : ℕ) (here : q i j 
   builtin_at predeclared.Append xs h = append_at xs h
   builtin_at predeclared.Copy xs h = copy_at xs
   builtin_at predeclared.Panic xs h = panic_at xs h
+  builtin_at predeclared.Min xs h = extreme_at xs h
+  builtin_at predeclared.Max xs h = extreme_at xs h
   builtin_at p xs h = (here, tt)
 
   pub call_at : (f : Stands) (xs : List Part) → ListPlaced q xs → EachFault q (call_failing rights i j f xs)

@@ -2,6 +2,7 @@ pub mod Agreeing
 pub mod Values
 pub mod Operators
 pub mod Indexes
+pub mod Extremes
 pub mod Calls
 pub mod Nodes
 pub mod Typing

@@ -17,7 +17,7 @@ use Rattle.go_grammar.specs.declared.kind.Comparison.{Comparison}
 use Rattle.go_grammar.specs.declared.kind.Sign.{Sign}
 use Rattle.go_exprs_rules.specs.declared.family.OpenKind.{OpenKind}
 use Rattle.go_exprs_rules.specs.declared.family.OpenKind.TheVariants as untyped_kind
-use Rattle.go_exprs_rules.specs.Operators.{Common, in_type, in_kind, one_typed, open_kinds, kind_common, common_kind, common_by, common, family_in, refused, open_value, value_in, constant_in, result_in, in_range, out_of_range, own_by, own, unary_value, unary_failing_in, unary_failing, unary_sort_in, unary_sort, unary_take, binary_value, binary_failing_in, binary_failing, binary_sort_in, binary_sort, binary_take_in, binary_take, is_count, shift_failing_in, shift_failing, shift_sort_in, shift_sort, shifted_take, nil_common, typed_compared, compared_in, incomparable, unfit, compared_refuse, compared_failing_in, compared_failing, compared_sort, compared_take_in, is_shift, operation_failing, operation_sort, operation_takes, comparing, folded_both}
+use Rattle.go_exprs_rules.specs.Operators.{Common, in_type, in_kind, one_typed, open_kinds, kind_common, common_kind, common_by, common, family_in, refused, open_value, value_in, constant_in, result_in, in_range, out_of_range, own_by, own, unary_value, unary_failing_in, unary_failing, unary_sort_in, unary_sort, unary_take, binary_value, binary_failing_in, binary_failing, binary_sort_in, binary_sort, binary_take_in, binary_take, is_count, shift_failing_in, shift_failing, shift_sort_in, shift_sort, shifted_take, nil_common, typed_compared, compared_in, unordered, incomparable, unfit, compared_refuse, compared_failing_in, compared_failing, compared_sort, compared_take_in, is_shift, operation_failing, operation_sort, operation_takes, comparing, folded_both}
 use Rattle.go_exprs_rules.specs.Settling.{Part, Take, stay, default, as_type}
 use Rattle.go_exprs_rules.specs.Sorts.{Stands, open_kind, own_type, constant_of, is_constant, is_nil, default_type, uint}
 use Rattle.go_package_laws.specs.Reach.{Within, MaybeWithin, AgreeOn, StandsWithin, PartWithin}
@@ -25,15 +25,15 @@ use Rattle.go_package_laws.proofs.Agreeing.{underlying_same, assignable_same, co
 use Rattle.go_package_laws.proofs.Values.{branch, own_within, sort_within, default_within, TakeWithin, underlying_in_same, whole_same, suits_same, represents_same, unrepresented_same}
 
 module _ (p : ℕ → Bool) where
-  abbrev CommonWithin : Common → Type 0
+  abbrev pub CommonWithin : Common → Type 0
   CommonWithin (in_type t) = Within p t
   CommonWithin (in_kind k) = Unit {0}
 
-  abbrev MaybeCommon : Option Common → Type 0
+  abbrev pub MaybeCommon : Option Common → Type 0
   MaybeCommon None = Unit {0}
   MaybeCommon (Some c) = CommonWithin c
 
-  kind_common_within : (o : Option OpenKind) → MaybeCommon (kind_common o)
+  pub kind_common_within : (o : Option OpenKind) → MaybeCommon (kind_common o)
   kind_common_within None = tt
   kind_common_within (Some k) = tt
 
@@ -49,7 +49,7 @@ module _ (p : ℕ → Bool) where
   value_in_within (in_type t) w = w
   value_in_within (in_kind k) w = open_within k
 
-  constant_in_within : (c : Common) (v : Const) → CommonWithin c → StandsWithin p (constant_in c v)
+  pub constant_in_within : (c : Common) (v : Const) → CommonWithin c → StandsWithin p (constant_in c v)
   constant_in_within (in_type t) v w = w
   constant_in_within (in_kind k) v w = tt
 
@@ -63,7 +63,7 @@ module _ (p : ℕ → Bool) where
   own_by_within None (Some k) w = tt
   own_by_within None None w = tt
 
-  own_common : (x : Stands) → StandsWithin p x → MaybeCommon (own x)
+  pub own_common : (x : Stands) → StandsWithin p x → MaybeCommon (own x)
   own_common x w = own_by_within (own_type x) (open_kind x) (own_within p x w)
 
   binary_sort_within : (o : Operator) (x y : Stands) (c : Option Common) → MaybeCommon c → StandsWithin p (binary_sort_in o x y c)
@@ -106,11 +106,11 @@ module _ (p : ℕ → Bool) (old new : Rights) (a : AgreeOn p old new) where
 
   -- ---- where operands meet
 
-  one_typed_same : (t : TypeTree) (o : Option OpenKind) → Within p t → one_typed new t o ≡ one_typed old t o
+  pub one_typed_same : (t : TypeTree) (o : Option OpenKind) → Within p t → one_typed new t o ≡ one_typed old t o
   one_typed_same t None w = refl
   one_typed_same t (Some k) w = let e = suits_same p old new a k t w in cc
 
-  one_typed_within : (t : TypeTree) (o : Option OpenKind) → Within p t → MaybeCommon p (one_typed old t o)
+  pub one_typed_within : (t : TypeTree) (o : Option OpenKind) → Within p t → MaybeCommon p (one_typed old t o)
   one_typed_within t None w = tt
   one_typed_within t (Some k) w = branch (MaybeCommon p) _ (Some (in_type t)) None w tt
 
@@ -247,6 +247,9 @@ module _ (p : ℕ → Bool) (old new : Rights) (a : AgreeOn p old new) where
   compared_in_within sort.Nil y w h = nil_common_within (own_type y) (own_within p y h)
   compared_in_within x sort.Nil w h = nil_common_within (own_type x) (own_within p x w)
   compared_in_within x y w h = typed_compared_within x y (own_type x) (own_type y) (own_within p x w) (own_within p y h)
+
+  pub unordered_same : (i j : ℕ) (c : Common) → CommonWithin p c → unordered new i j c ≡ unordered old i j c
+  unordered_same i j c w = let e = family_in_same c w in cc
 
   incomparable_same : (i j : ℕ) (c : Common) → CommonWithin p c → incomparable new i j c ≡ incomparable old i j c
   incomparable_same i j (in_type t) w = let e = comparable_same p old new a t w in cc

@@ -19,13 +19,13 @@ use Rattle.go_types_relations.specs.Sizes.{scalars_of}
 use Rattle.go_typed.specs.Trees.{Typed, typed, Typeds, sort_of, parts_of, form_of}
 use Rattle.go_typed.specs.Trees as sort
 use Rattle.go_exprs_rules.specs.declared.family.Family.TheVariants as family
-use Rattle.go_exprs_rules.specs.Scopes.{Hint, several, type_place, loose, inside, loose_inside, callee, statement, target, declares, free}
+use Rattle.go_exprs_rules.specs.Scopes.{Hint, several, type_place, loose, inside, one_inside, loose_inside, callee, statement, target, declares, free}
 use Rattle.go_exprs_rules.specs.Settling.{Part, unrepresented}
 use Rattle.go_exprs_rules.specs.Sorts.{Stands, is_constant, constant_of, uint, int, default_type, form_of_value, is_text, is_whole, is_negative, is_nil, element_of, array_length, slice_element, is_family, is_zero}
 use Rattle.go_exprs_rules.specs.Operators.{Common, in_type, in_kind, own, common, family_in, refused, both_refuse, in_range, out_of_range, sign_family, unary_failing_in, unary_failing, unary_value, admits, divides, zero_divisor, binary_value, binary_failing_in, binary_failing, is_count, shift_failing_in, shift_failing, is_equality, compared_in, unordered, incomparable, unfit, compared_refuse, compared_failing_in, is_shift, operation_failing}
 use Rattle.go_exprs_rules.specs.Indexes.{named_field, selector_failing, outside, bound_failing, optional_bound, is_greater, disordered, text_length, index_failing_in, index_failing, whole_or_absent, bounds_failing, slice_failing}
 use Rattle.go_exprs_rules.specs.TypeNodes.{length_in, exceeds, over_limit, limit_failing, length_failing, sequence_failing, part_type}
-use Rattle.go_exprs_rules.specs.Names.{integer_failing, not_a_value, one_value, place_failing, is_no_value, is_no_type, is_no_callee, is_no_target, is_no_statement, are_results}
+use Rattle.go_exprs_rules.specs.Names.{integer_failing, not_a_value, one_value, too_many, place_failing, is_no_value, is_no_type, is_no_callee, is_no_target, is_no_statement, are_results}
 use Rattle.go_package_laws.specs.Places.{EachFault}
 use Rattle.go_package_laws.proofs.Parts.{Placed, PlacedThere, both, either, else_those, at_it, unrepresented_at}
 
@@ -67,7 +67,7 @@ module _ (q : ℕ → ℕ → Bool) (rights : Rights) (i j : ℕ) (here : q i j 
   shift_in o x n (Some c) g =
       either q (is_family family.Integers (family_in rights c) && is_count rights (sort_of n)) _ _ (else_those q (unrepresented rights uint n) _ (unrepresented_at q rights uint n g) (range_at c (binary_value o (sort_of x) (sort_of n)))) (here, tt)
 
-  unordered_at : (c : Common) → EachFault q (unordered rights i j c)
+  pub unordered_at : (c : Common) → EachFault q (unordered rights i j c)
   unordered_at c = either q (is_family family.Integers (family_in rights c) || is_family family.Texts (family_in rights c)) [] _ tt (here, tt)
 
   incomparable_at : (c : Common) → EachFault q (incomparable rights i j c)
@@ -163,6 +163,10 @@ module _ (q : ℕ → ℕ → Bool) (rights : Rights) (i j : ℕ) (here : q i j 
   one_at true s = (here, tt)
   one_at false s = either q (are_results s) _ [] (here, tt) tt
 
+  too_many_at : (b : Bool) (s : Stands) → EachFault q (too_many b s i j)
+  too_many_at true s = tt
+  too_many_at false s = one_at false s
+
   pub place_at : (h : Hint) (s : Stands) → EachFault q (place_failing rights h i j s)
   place_at several s = not_at (is_no_value rights s)
   place_at type_place s = not_at (is_no_type s)
@@ -171,6 +175,7 @@ module _ (q : ℕ → ℕ → Bool) (rights : Rights) (i j : ℕ) (here : q i j 
   place_at target s = one_at (is_no_target rights s) s
   place_at statement s = not_at (is_no_statement s)
   place_at inside s = tt
+  place_at one_inside s = too_many_at (is_no_value rights s) s
   place_at loose_inside s = tt
   place_at declares s = tt
   place_at free s = tt

@@ -31,10 +31,14 @@ within_hint p (element t) e = absurd cc
 within_hint p (member t) e = absurd cc
 within_hint p h e = tt
 
-inside_told : (h : Hint) → is_type_hint (in_parentheses h) ≡ true
-inside_told loose = refl
-inside_told loose_inside = refl
-inside_told h = refl
+inside_told : (h : Hint) → is_type_hint h ≡ true → is_type_hint (in_parentheses h) ≡ true
+inside_told type_place e = refl
+inside_told loose e = refl
+inside_told inside e = refl
+inside_told loose_inside e = refl
+inside_told declares e = refl
+inside_told free e = refl
+inside_told h e = absurd cc
 
 place_told : (h : Hint) → is_type_hint (as_type_place h) ≡ true
 place_told loose = refl
@@ -59,7 +63,7 @@ names_told_so h true all n e = refl
 names_told_so h false all n e = place_told h
 
 told_so : (k : Kind) (h : Hint) (all : Trees) (b : Bool) (n : Kind) → is_of_types k ≡ true → Told k b false → IsTold h → IsTold (told_in k h all b n)
-told_so kind.ParenthesizedType h all b n is t e = inside_told h
+told_so kind.ParenthesizedType h all b n is t e = inside_told h e
 told_so kind.SequenceType h all true n is t e = absurd cc
 told_so kind.SequenceType h all false n is t e = branch IsTold (skips_first all) loose (as_type_place h) refl (place_told h)
 told_so kind.FunctionType h all b n is t e = refl

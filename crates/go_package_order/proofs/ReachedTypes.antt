@@ -8,7 +8,7 @@ use Rattle.go_types.specs.declared.shape.Shape.{Shape}
 use Rattle.go_types.specs.declared.shape.Shape.TheVariants as shape
 use Rattle.go_types.specs.Trees.{TypeTree, row}
 use Rattle.go_types.specs.Tables.{Table, HasShape, IsTable, HasPartsBelow, tree_at, tree_of, type_below, type_of}
-use Rattle.go_types.proofs.NumberedTypes.{type_of_shape}
+use Rattle.go_types.proofs.Public.{type_of_shape}
 use Rattle.go_typed.specs.declared.sort.Sort.{Sort}
 use Rattle.go_typed.specs.declared.sort.Sort.TheVariants as sort
 use Rattle.go_typed.specs.Views.{sort_seen}

@@ -9,8 +9,7 @@ use Rattle.go_types.specs.Trees.{declared}
 use Rattle.go_types.specs.Relations.{Rights}
 use Rattle.go_types.specs.Tables.{Table, IsTable, HasShape, type_of, rights_of}
 use Rattle.go_types.specs.Changes.{IsDeclared}
-use Rattle.go_types.proofs.Places.{get_last, get_within}
-use Rattle.go_types.proofs.Underlyings.{declared_type}
+use Rattle.go_types.proofs.Public.{get_last, get_within, declared_type}
 use Rattle.go_types_relations.proofs.Public.{declared_extends, tree_stays, declared_rights}
 use Rattle.go_exprs_engine.proofs.Public.{longer}
 use Rattle.go_exprs_rules.proofs.Public.{drop_step}

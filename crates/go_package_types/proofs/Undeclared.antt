@@ -5,7 +5,7 @@ use Rattle.std.proofs.lemmas.List.{take-append-le, take-append-drop, take_all}
 use Rattle.go_types.specs.declared.shape.Shape.TheVariants as shape
 use Rattle.go_types.specs.Tables.{Table, IsTable, is_declaration}
 use Rattle.go_types.specs.Changes.{first_types, IsClosedBelow}
-use Rattle.go_types.proofs.Countings.{count_rises}
+use Rattle.go_types.proofs.Public.{count_rises}
 use Rattle.go_types_relations.specs.Extends.{Extends}
 
 abbrev pub Bare : ℕ → Table → Type 0

@@ -17,10 +17,7 @@ use Rattle.go_grammar.specs.Trees.{Tree, Trees, none, more, skip, first, last, d
 use Rattle.go_grammar.specs.Grammar.{IsAt, Derives, Spells, IsFile}
 use Rattle.go_grammar.specs.Reader.{read, spell, words, after_first, Tends}
 use Rattle.go_grammar.specs.Words.{is_word}
-use Rattle.go_grammar.proofs.Check.{first_word}
-use Rattle.go_grammar.proofs.Starts.{first_word_at}
-use Rattle.go_grammar.proofs.Ranges.{words_order, spells_order, spells_end, word_grows, derives_grows, lies_within}
-use Rattle.go_grammar.proofs.Sound.{read_stands, spell_stands, words_stand}
+use Rattle.go_grammar.proofs.Public.{first_word, first_word_at, words_order, spells_order, spells_end, word_grows, derives_grows, lies_within, read_stands, spell_stands, words_stand, next_between, between_order, between_end, tends_one, file_found}
 use Rattle.go_parse.specs.declared.error.Stop.{Stop}
 use Rattle.go_parse.specs.declared.error.Stop.TheVariants as stop
 use Rattle.go_grammar.specs.declared.items.Turn.{Turn}
@@ -29,10 +26,6 @@ use Rattle.go_grammar.specs.declared.items.Next.TheVariants.{On}
 use Rattle.go_grammar.specs.Rules.{Items, Lines, Open, Each, Again}
 use Rattle.go_grammar.specs.declared.kind.Kind.{Kind}
 use Rattle.go_grammar.specs.Reader.{turn, next, fits}
-use Rattle.go_grammar.proofs.Sound.{next_between}
-use Rattle.go_grammar.proofs.Ranges.{between_order, between_end}
-use Rattle.go_grammar.proofs.Steps.{tends_one}
-use Rattle.go_grammar.proofs.Unique.{file_found}
 use Rattle.go_parse.specs.Turns.{stops, passes}
 use Rattle.go_parse.specs.Engine.{stop_refusal, is_worded, is_solid, is_word_first}
 

@@ -13,7 +13,7 @@ use Rattle.go_grammar.specs.declared.kind.Place.TheVariants as place
 use Rattle.go_grammar.specs.Categories.{place_of}
 use Rattle.go_grammar.specs.Grammar.{rule}
 use Rattle.go_grammar.specs.Reader.{opens_before, continues, after_first}
-use Rattle.go_grammar.proofs.Rows.{all, every, every_at, kinds, kinds_at}
+use Rattle.go_grammar.proofs.Public.{all, every, every_at, kinds, kinds_at}
 use Rattle.go_parse.specs.Engine.{is_worded, is_solid, rank}
 
 abbrev opened_worded : Category → Option Kind → Bool

@@ -15,7 +15,7 @@ use Rattle.go_grammar.specs.Reader.{opens_before, begins, continues, fits, after
 use Rattle.go_base.specs.Optional.{◌>>=◌}
 use Rattle.go_grammar.specs.Symbols.{prepend}
 use Rattle.go_grammar.specs.Words.{is_word, is_among}
-use Rattle.go_grammar.proofs.Steps.{tends_step}
+use Rattle.go_grammar.proofs.Public.{tends_step}
 use Rattle.go_parse.proofs.Rows.{behind, skipped}
 
 behind_front : (p : Tree) (x : Option (Trees × ℕ)) → (x >>= front p) ≡ behind p x

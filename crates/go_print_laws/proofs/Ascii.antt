@@ -6,8 +6,7 @@ use Rattle.std.proofs.lemmas.Str.{encode_ascii}
 use Rattle.std.proofs.lemmas.Bool.Decides.{nat_tests}
 use lib.Utf8.{low_scalar}
 use Rattle.go_tokens.specs.Encoding.{is_plain}
-use Rattle.go_tokens.proofs.Lists.{both}
-use Rattle.go_tokens.proofs.Seams.{and_both}
+use Rattle.go_tokens.proofs.Public.{both, and_both}
 
 -- a character of ASCII that isn't NUL
 abbrev pub is_ascii : ℕ → Bool

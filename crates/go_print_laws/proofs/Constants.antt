@@ -31,7 +31,7 @@ use Rattle.go_print_laws.specs.Reading.{in_universe, IsTypedAs, LiteralsReadBack
 use Rattle.go_print_laws.proofs.Strings.{text_value}
 use Rattle.go_print_laws.proofs.Nodes.{clear-append, node_stands}
 use Rattle.go_print_laws.proofs.Numbers.{number_part, number_typed, number_clear}
-use Rattle.go_tokens.proofs.Seams.{and_both}
+use Rattle.go_tokens.proofs.Public.{and_both}
 
 -- a constant is a value
 placed_constant : (rights : Rights) (i j : ℕ) (c : Const) (b : Bool) → (if b then place_failing rights value i j (sort.OpenConstant c) else []) ≡ []

@@ -20,8 +20,7 @@ use Rattle.go_tokens.specs.Literals.{is_digit_of, letter_base, grouped, is_empty
 use Rattle.go_tokens.specs.Pieces.{begun_by, goes, after, kind, front, has_shape, is_ended, defect_by, is_other_number}
 use Rattle.go_tokens.specs.Lexing.{is_token_kind, token_kind_as}
 use Rattle.go_tokens.specs.Replacing.{joins, are_apart}
-use Rattle.go_tokens.proofs.Lists.{both}
-use Rattle.go_tokens.proofs.Seams.{and_both}
+use Rattle.go_tokens.proofs.Public.{both, and_both}
 use Rattle.go_base.specs.declared.FaultCode.TheVariants.{Lexical, Outside}
 use Rattle.go_print_laws.proofs.Tests.{checks, checked}
 use Rattle.go_print_laws.proofs.Words.{IsMark}

@@ -17,18 +17,12 @@ use Rattle.go_tokens.specs.declared.piece.PieceKind.{PieceKind}
 use Rattle.go_tokens.specs.declared.piece.PieceKind.TheVariants as piece_kinds
 use Rattle.go_tokens.specs.Replacing.{joins, are_apart}
 use Rattle.std.proofs.lemmas.Bool.Decides.{nat_tests}
-use Rattle.go_tokens.proofs.Lists.{both, true_false}
-use Rattle.go_tokens.proofs.Seams.{and_both}
-use Rattle.go_tokens.proofs.Replace.{line_ends_token}
-use Rattle.go_tokens.proofs.Ordered.{piece_some}
-use Rattle.go_tokens.proofs.Widths.{width-append, width-nil}
+use Rattle.go_tokens.proofs.Public.{both, true_false, and_both, line_ends_token, piece_some, width-append, width-nil, read_all, assembled_lexing}
 use Rattle.go_tokens.specs.Lexing.{join, width, span, token, inserted, is_token_kind, is_token, is_break, token_kind, ends_statement, line_ends, tokens, comments, Lexes}
 use Rattle.go_tokens.specs.Tokens.{kinds}
 use Rattle.go_tokens.specs.Encoding.{IsText, is_plain, are_allowed}
 use Rattle.go_tokens.specs.Replacing.{read, semicolon, items}
-use Rattle.go_tokens.proofs.Texts.{read_all}
 use Rattle.go_tokens.specs.Editing.{IsAmong, IsWritten, all_apart, has_no_line, is_comment_line}
-use Rattle.go_tokens.proofs.Texts.{assembled_lexing}
 use Rattle.go_rewriting.specs.Rewriting.{own, is_written}
 use Rattle.go_print_laws.specs.Lexemes.{Lexeme, word, blank, pieces, words, tokens_of, IsWord, AreWords, begins_with_word, ends_line}
 use Rattle.go_print_laws.specs.Standing.{TextStands}

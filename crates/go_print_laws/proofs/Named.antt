@@ -12,10 +12,7 @@ use Rattle.go_tokens.specs.Pieces.{begun_by, is_piece, is_good}
 use Rattle.go_tokens.specs.Encoding.{is_plain, are_allowed}
 use Rattle.go_tokens.specs.Lexing.{join, Cut, is_token, token_kind, ends_statement, line_ends}
 use Rattle.go_tokens.specs.Replacing.{Item, read, semicolon, items}
-use Rattle.go_tokens.proofs.Lists.{both, true_false}
-use Rattle.go_tokens.proofs.Seams.{and_both}
-use Rattle.go_tokens.proofs.Texts.{read_all}
-use Rattle.go_tokens.proofs.Widths.{width-nil}
+use Rattle.go_tokens.proofs.Public.{both, true_false, and_both, read_all, width-nil}
 use Rattle.go_print_laws.specs.Lexemes.{IsWord, NamesAreNames}
 use Rattle.go_print_laws.proofs.Lexed.{plain_allowed}
 

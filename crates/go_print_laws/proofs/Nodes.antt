@@ -16,8 +16,7 @@ use Rattle.go_exprs_rules.specs.Scopes.{Scope, Hint}
 use Rattle.go_exprs_rules.specs.Names.{place_failing}
 use Rattle.go_exprs_rules.specs.Tables.{Parts, as_type_place, layout, failing, placing, sort_by, form_by, is_judged, is_placed, own_faults, no_faults, is_sound, built_by, is_held, held}
 use Rattle.go_exprs_rules.specs.Typing.{typing, typings, faults, faults_of_parts}
-use Rattle.go_tokens.proofs.Seams.{and_both}
-use Rattle.go_tokens.proofs.Lists.{both}
+use Rattle.go_tokens.proofs.Public.{and_both, both}
 use Rattle.go_print_laws.specs.Reading.{IsTypedAs, IsTypePlace, at_place, in_loose}
 
 pub list_row : (xs : Parts) → list_of (row xs) ≡ xs

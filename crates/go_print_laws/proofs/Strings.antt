@@ -13,8 +13,7 @@ use Rattle.go_tokens.specs.declared.literal.Element.{Element}
 use Rattle.go_tokens.specs.declared.literal.Element.TheVariants.{Character, Byte}
 use Rattle.go_tokens.specs.Literals.{is_digit_of, letter_escape, byte_escape, escape, digits_number, number, elements, inside, string_elements, element_bytes, elements_bytes, found_bytes, string_value}
 use Rattle.go_tokens.specs.Pieces.{begun_by, goes, after, unless_lexical, is_end}
-use Rattle.go_tokens.proofs.Lists.{both}
-use Rattle.go_tokens.proofs.Seams.{and_both, not_false}
+use Rattle.go_tokens.proofs.Public.{both, and_both, not_false}
 use Rattle.go_print.specs.Literals.{digit, escaped, is_plain, byte_text, bytes_text}
 use Rattle.go_print_laws.proofs.Tests.{checks, checked}
 use Rattle.go_print_laws.proofs.Ascii.{is_ascii, ascii_scalars, ascii_plain, ascii_encoded}

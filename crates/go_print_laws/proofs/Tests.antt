@@ -1,7 +1,7 @@
 -- Tests of all numbers in a range.
 use Rattle.std.proofs.Common.{◌≡◌, ℕ, zero, suc, ◌+◌, ◌<◌, ◌≤◌, Bool, true, false, ◌&&◌, nat_eq, refl, subst, arith}
 use Rattle.std.proofs.lemmas.Bool.Decides.{nat_tests}
-use Rattle.go_tokens.proofs.Lists.{both}
+use Rattle.go_tokens.proofs.Public.{both}
 
 -- so many numbers pass, from one on
 abbrev pub checks : (ℕ → Bool) → ℕ → ℕ → Bool

@@ -116,7 +116,7 @@ module _ (name : ℕ → ℕ) (one : IsOneToOne name) (old new : Rights) (same :
   whole_results_same (typed f i j l ps ∷ []) = called_results_same l.sort
   whole_results_same (x ∷ y ∷ ys) = refl
 
-  unassigned_same : (t : Option TypeTree) (x : Part) → unassigned new (maybe name t) (part_renamed name x) ≡ unassigned old t x
+  pub unassigned_same : (t : Option TypeTree) (x : Part) → unassigned new (maybe name t) (part_renamed name x) ≡ unassigned old t x
   unassigned_same (Some t) x = unassignable_kept name one old new same t x
   unassigned_same None (typed f i j l ps) = let e = nil_same name l.sort in let h = undefaulted_kept name one old new same (typed f i j l ps) in cc
 

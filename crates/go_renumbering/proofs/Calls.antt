@@ -2,6 +2,7 @@
 use Rattle.std.proofs.Common.{◌≡◌, ◌∙◌, ℕ, Bool, true, false, List, [], ◌∷◌, map, Option, Some, None, refl, ap}
 use Rattle.std.specs.List.{list_all}
 use Rattle.std.specs.Prelude.{is_some}
+use Rattle.go_ints.specs.declared.operators.Op.TheVariants as op
 use Rattle.go_tree.specs.declared.object.Predeclared.{Predeclared}
 use Rattle.go_tree.specs.declared.object.Predeclared.TheVariants as predeclared
 use Rattle.go_types.specs.Trees.{TypeTree, TypeRow, none, more}
@@ -10,12 +11,13 @@ use Rattle.go_types_relations.specs.Renaming.{renamed, renamed_row, IsOneToOne, 
 use Rattle.go_types_relations.specs.Tests.{underlying_of}
 use Rattle.go_typed.specs.Trees.{typed, sort_of, label_of}
 use Rattle.go_typed.specs.Trees as sort
-use Rattle.go_exprs_rules.specs.Calls.{parameters_of, results_of, all_unassignable, function_call_failing, called, function_call_sort, all_as, printed, all_printed, length_failing, sizes_failing, make_failing, each_unassignable, append_failing_in, append_failing, copies, copy_failing, panic_failing, builtin_failing, constant_length, length_value, length_sort, made_sort, appended_sort, builtin_sort, appended_takes, builtin_takes, one_conversion, call_failing, converted_sort, call_sort, function_takes, call_takes, conversion_take}
+use Rattle.go_exprs_rules.specs.Calls.{parameters_of, results_of, all_unassignable, function_call_failing, called, function_call_sort, all_as, printed, all_printed, length_failing, sizes_failing, make_failing, each_unassignable, append_failing_in, append_failing, copies, copy_failing, panic_failing, builtin_failing, constant_length, length_value, length_sort, made_sort, appended_sort, builtin_sort, appended_takes, builtin_takes, one_conversion, call_failing, converted_sort, call_sort, function_takes, call_takes, conversion_take, extreme_take}
 use Rattle.go_exprs_rules.specs.Indexes.{value_or_unknown}
 use Rattle.go_exprs_rules.specs.Settling.{Part, Take, stay, default, as_type}
 use Rattle.go_exprs_rules.specs.Sorts.{Stands, own_type, named_type, is_whole, element_of, underlying_in, form_of_value, slice_element, int}
 use Rattle.go_renumbering.specs.Renumbered.{stands_renamed, part_renamed}
 use Rattle.go_renumbering.proofs.Conversions.{conversion_kept, conversion_sort_kept, conversion_take_kept}
+use Rattle.go_renumbering.proofs.Extremes.{extreme_kept, extreme_sort_kept, extreme_take_kept}
 use Rattle.go_renumbering.proofs.Indexes.{some_same, value_or_same, disordered_kept, bound_kept}
 use Rattle.go_renumbering.proofs.Operators.{takes_renamed}
 use Rattle.go_renumbering.proofs.Parts.{every, count_kept, map_kept, all_kept}
@@ -168,6 +170,8 @@ module _ (name : ℕ → ℕ) (one : IsOneToOne name) (old new : Rights) (same :
   builtin_kept i j predeclared.Append xs = append_kept i j xs
   builtin_kept i j predeclared.Copy xs = copy_kept i j xs
   builtin_kept i j predeclared.Panic xs = panic_kept i j xs
+  builtin_kept i j predeclared.Min xs = extreme_kept name one old new same i j xs
+  builtin_kept i j predeclared.Max xs = extreme_kept name one old new same i j xs
   builtin_kept i j p xs = refl
 
   one_kept : (i j : ℕ) (t : TypeTree) (xs : List Part) → one_conversion new i j (renamed name t) (every name xs) ≡ one_conversion old i j t xs
@@ -204,6 +208,8 @@ module _ (name : ℕ → ℕ) (one : IsOneToOne name) (old new : Rights) (same :
   builtin_sort_kept predeclared.Append xs = appended_sort_kept name xs
   builtin_sort_kept predeclared.Copy xs = refl
   builtin_sort_kept predeclared.Panic xs = refl
+  builtin_sort_kept predeclared.Min xs = extreme_sort_kept name one old new same op.Min xs
+  builtin_sort_kept predeclared.Max xs = extreme_sort_kept name one old new same op.Max xs
   builtin_sort_kept p xs = refl
 
   converted_kept : (t : TypeTree) (xs : List Part) → converted_sort new (renamed name t) (every name xs) ≡ now (converted_sort old t xs)
@@ -221,10 +227,15 @@ module _ (name : ℕ → ℕ) (one : IsOneToOne name) (old new : Rights) (same :
 
   -- ---- what their arguments take
 
+  extreme_takes_kept : (xs : List Part) → map (λ (y : Part). extreme_take new (every name xs)) (every name xs) ≡ takes_renamed name (map (λ (y : Part). extreme_take old xs) xs)
+  extreme_takes_kept xs = each_take name (extreme_take old xs) (extreme_take new (every name xs)) (extreme_take_kept name one old new same xs) xs
+
   builtin_takes_kept : (p : Predeclared) (xs : List Part) → builtin_takes new p (every name xs) ≡ takes_renamed name (builtin_takes old p xs)
   builtin_takes_kept p [] = refl
   builtin_takes_kept predeclared.Make (x ∷ xs) = ap (λ ks. stay ∷ ks) (each_take name (as_type int) (as_type int) refl xs)
   builtin_takes_kept predeclared.Append (typed f i j l ps ∷ xs) = ap (λ o. appended_takes o (every name xs)) (form_slice l.sort) ∙ appended_takes_kept name (slice_element (form_of_value old l.sort)) xs
+  builtin_takes_kept predeclared.Min (x ∷ xs) = extreme_takes_kept (x ∷ xs)
+  builtin_takes_kept predeclared.Max (x ∷ xs) = extreme_takes_kept (x ∷ xs)
   builtin_takes_kept p (x ∷ xs) = each_take name default default refl (x ∷ xs)
 
   other_takes : (f : Stands) (xs : List Part) → function_takes (parameters_of (form_of_value new (now f))) (every name xs) ≡ takes_renamed name (function_takes (parameters_of (form_of_value old f)) xs)

@@ -20,25 +20,25 @@ use Rattle.go_typed.specs.Trees as sort
 use Rattle.go_exprs_rules.specs.declared.fault.TypeFault.{TypeFault}
 use Rattle.go_exprs_rules.specs.Operators.{compared_failing, operation_failing}
 use Rattle.go_exprs_rules.specs.Settling.{Part, at_part}
-use Rattle.go_exprs_rules.specs.Sorts.{Stands, is_truth, is_text, element_of, form_of_value, int, rune}
+use Rattle.go_exprs_rules.specs.Sorts.{Stands, is_truth, is_text, is_whole, value_type, element_of, form_of_value, int, rune}
 use Rattle.go_exprs_rules.specs.Tables.{Parts, present, on_one}
 use Rattle.go_exprs_rules.specs.TypeNodes.{part_type}
 use Rattle.go_stmts_defs.specs.Assigning.{assignment_failing, at_nil}
 use Rattle.go_stmts_defs.specs.Frames.{Frame, Locals, rights_of, with_own_right}
 use Rattle.go_stmts_defs.specs.Laying.{local_named}
-use Rattle.go_stmts_defs.specs.Rules.{each, not_a_target, not_a_variable, target_type, assign_failing, form_type, known_type, define_failing, step_failing, type_there, values_there, variables_failing, constants_counted, is_late, late_limits, all_late_limits, first_fault, type_failing, condition_failing, second_condition, tag_failing, second_tag, tag_at, case_failing, element_types, range_types, element_unassigned, elements_unassigned, range_assigned, targets_failing, range_failing, loop_failing, has_results, function_failing, names_in, split_at, failing}
+use Rattle.go_stmts_defs.specs.Rules.{each, not_a_target, not_a_variable, target_type, assign_failing, form_type, known_type, define_failing, step_failing, type_there, values_there, variables_failing, constants_counted, is_late, late_limits, all_late_limits, first_fault, type_failing, condition_failing, second_condition, tag_failing, second_tag, tag_at, case_failing, element_types, number_types, range_types, element_unassigned, elements_unassigned, number_target, is_open_number, number_unassigned, numbers_unassigned, range_assigned, targets_failing, range_failing, loop_failing, has_results, function_failing, names_in, split_at, failing}
 use Rattle.go_stmts_defs.specs.Targets.{is_statement_call}
 use Rattle.go_renumbering.specs.Renumbered.{stands_renamed, part_renamed}
 use Rattle.go_renumbering.proofs.LaidOut.{one_kept, two_kept}
 use Rattle.go_renumbering.proofs.Nodes.{made_kept}
 use Rattle.go_renumbering.proofs.Operators.{operation_kept, compared_failing_same}
-use Rattle.go_renumbering.proofs.Parts.{branches, optional, every, parts, inner, count_kept, present_kept}
+use Rattle.go_renumbering.proofs.Parts.{optional, every, parts, inner, count_kept, present_kept}
 use Rattle.go_renumbering.proofs.Settling.{at_part_kept, undefaulted_kept}
-use Rattle.go_renumbering.proofs.Sorts.{maybe, own_same, unknown_same, nil_same, element_same, family_same, whole_same, text_same, form_same, assignable_same}
+use Rattle.go_renumbering.proofs.Sorts.{maybe, own_same, unknown_same, nil_same, element_same, value_same, family_same, whole_same, text_same, form_same, assignable_same}
 use Rattle.go_renumbering.proofs.TypeNodes.{type_kept}
 use Rattle.go_renumbering.specs.Frames.{locals_renamed, RenamedFrames}
 use Rattle.go_renumbering.proofs.Arranging.{taken_mapped}
-use Rattle.go_renumbering.proofs.Assigning.{wanted_renamed, types_renamed, some_types, some_each, at_nil_same, assignment_same, constants_failing_same}
+use Rattle.go_renumbering.proofs.Assigning.{wanted_renamed, types_renamed, some_types, some_each, at_nil_same, unassigned_same, assignment_same, constants_failing_same}
 use Rattle.go_renumbering.proofs.Ending.{terminates_same, statement_call_same, variable_kept, target_kept}
 use Rattle.go_renumbering.proofs.Framed.{declared_type_same}
 use Rattle.go_renumbering.proofs.Placing.{own_right_renamed}
@@ -60,12 +60,20 @@ module _ (name : ℕ → ℕ) where
   each_kept f g e [] = refl
   each_kept f g e (x ∷ xs) = let h = e x in let k = each_kept f g e xs in cc
 
-  target_type_same : (x : Part) → target_type (part_renamed name x) ≡ maybe name (target_type x)
+  pub target_type_same : (x : Part) → target_type (part_renamed name x) ≡ maybe name (target_type x)
   target_type_same (typed f i j l ps) = own_same name l.sort
 
   pub target_types : (xs : List Part) → map target_type (every name xs) ≡ wanted_renamed name (map target_type xs)
   target_types [] = refl
   target_types (x ∷ xs) = let e = target_type_same x in let f = target_types xs in cc
+
+  pub open_number_same : (x : Stands) → is_open_number (stands_renamed name x) ≡ is_open_number x
+  open_number_same (sort.OpenConstant c) = refl
+  open_number_same x = refl
+
+  number_target_same : (ts : List Part) → number_target (every name ts) ≡ maybe name (number_target ts)
+  number_target_same [] = refl
+  number_target_same (t ∷ ts) = target_type_same t
 
   form_type_same : (ls : Locals) (f : Form) → form_type (locals_renamed name ls) f ≡ maybe name (form_type ls f)
   form_type_same ls (form.Local n) = declared_type_same name ls n
@@ -180,15 +188,34 @@ module _ (name : ℕ → ℕ) (one : IsOneToOne name) (old new : Rights) (same :
   element_types_same None = refl
   element_types_same (Some t) = refl
 
+  number_types_same : (o : Option TypeTree) → number_types (maybe name o) ≡ some_types name (number_types o)
+  number_types_same None = refl
+  number_types_same (Some t) = refl
+
+  elements_same : (x : Stands) → element_types (element_of (form_of_value new (stands_renamed name x))) ≡ some_types name (element_types (element_of (form_of_value old x)))
+  elements_same x =
+      ap (λ u. element_types (element_of u)) (form_same name one old new same x) ∙ ap element_types (element_same name (form_of_value old x)) ∙ element_types_same (element_of (form_of_value old x))
+
+  numbers_same : (x : Stands) → number_types (value_type (stands_renamed name x)) ≡ some_types name (number_types (value_type x))
+  numbers_same x = ap number_types (value_same name x) ∙ number_types_same (value_type x)
+
+  either_same : (b : Bool) (us vs ts rs : Option (List TypeTree)) → us ≡ some_types name ts → vs ≡ some_types name rs → cond b us vs ≡ some_types name (cond b ts rs)
+  either_same true us vs ts rs e f = e
+  either_same false us vs ts rs e f = f
+
   pub range_types_same : (x : Part) → range_types new (part_renamed name x) ≡ some_types name (range_types old x)
   range_types_same (typed f i j l ps) =
+      let x = l.sort in
+      let y = stands_renamed name x in
       let both : Option (List TypeTree) = Some (int ∷ rune ∷ []) in
-      let o = element_of (form_of_value old l.sort) in
-      ap (λ b. cond b both (element_types (element_of (form_of_value new (stands_renamed name l.sort))))) (text_same name one old new same l.sort)
-      ∙ ap (λ u. cond (is_text old l.sort) both (element_types (element_of u))) (form_same name one old new same l.sort)
-      ∙ ap (λ u. cond (is_text old l.sort) both (element_types u)) (element_same name (form_of_value old l.sort))
-      ∙ ap (cond (is_text old l.sort) both) (element_types_same o)
-      ∙ branches (some_types name) (is_text old l.sort) both (element_types o)
+      let numbers = number_types (value_type x) in
+      let new_numbers = number_types (value_type y) in
+      let elements = element_types (element_of (form_of_value old x)) in
+      let new_elements = element_types (element_of (form_of_value new y)) in
+      ap (λ b. cond b both (cond (is_whole new y) new_numbers new_elements)) (text_same name one old new same x)
+      ∙ ap (λ b. cond (is_text old x) both (cond b new_numbers new_elements)) (whole_same name one old new same x)
+      ∙ either_same (is_text old x) both (cond (is_whole old x) new_numbers new_elements) both (cond (is_whole old x) numbers elements) refl
+      (either_same (is_whole old x) new_numbers new_elements numbers elements (numbers_same x) (elements_same x))
 
   element_unassigned_kept : (x : Part) (t : Option TypeTree) (r : TypeTree) → element_unassigned new (part_renamed name x) (maybe name t) (renamed name r) ≡ element_unassigned old x t r
   element_unassigned_kept x None r = refl
@@ -203,27 +230,44 @@ module _ (name : ℕ → ℕ) (one : IsOneToOne name) (old new : Rights) (same :
       let g = elements_kept x ts rs in
       cc
 
-  range_assigned_kept : (ts : List Part) (x : Part) (o : Option (List TypeTree)) → range_assigned new (every name ts) (part_renamed name x) (some_types name o) ≡ range_assigned old ts x o
-  range_assigned_kept ts x None = at_part_kept name _ x
-  range_assigned_kept ts x (Some rs) = elements_kept x ts rs
+  number_unassigned_kept : (ts : List Part) (x : Part) (rs : List TypeTree) → number_unassigned new (every name ts) (part_renamed name x) (types_renamed name rs) ≡ number_unassigned old ts x rs
+  number_unassigned_kept ts x rs = let e = undefaulted_kept name one old new same x in let f = elements_kept x ts rs in cc
+
+  numbers_kept : (i j : ℕ) (ts : List Part) (x : Part) (rs : List TypeTree) → numbers_unassigned new i j (every name ts) (part_renamed name x) (types_renamed name rs) ≡ numbers_unassigned old i j ts x rs
+  numbers_kept i j ts (typed f a b l ps) rs =
+      let x = typed f a b l ps in
+      let c = count_kept name ts in
+      let n = open_number_same name l.sort in
+      let t = number_target_same name ts in
+      let u = unassigned_same name one old new same (number_target ts) x in
+      let v = number_unassigned_kept ts x rs in
+      cc
+
+  range_assigned_kept : (i j : ℕ) (ts : List Part) (x : Part) (o : Option (List TypeTree)) → range_assigned new i j (every name ts) (part_renamed name x) (some_types name o) ≡ range_assigned old i j ts x o
+  range_assigned_kept i j ts x None = at_part_kept name _ x
+  range_assigned_kept i j ts (typed f a b l ps) (Some rs) =
+      let w = whole_same name one old new same l.sort in
+      let n = numbers_kept i j ts (typed f a b l ps) rs in
+      let e = elements_kept (typed f a b l ps) ts rs in
+      cc
 
   targets_kept : (b : Bool) (ts : List Part) → targets_failing new b (every name ts) ≡ targets_failing old b ts
   targets_kept true ts = refl
   targets_kept false ts = each_kept name (not_a_target old) (not_a_target new) not_target_kept ts
 
-  range_kept : (b : Bool) (ts xs : List Part) → range_failing new b (every name ts) (every name xs) ≡ range_failing old b ts xs
-  range_kept b ts [] = refl
-  range_kept b ts (x ∷ xs) =
+  range_kept : (i j : ℕ) (b : Bool) (ts xs : List Part) → range_failing new i j b (every name ts) (every name xs) ≡ range_failing old i j b ts xs
+  range_kept i j b ts [] = refl
+  range_kept i j b ts (x ∷ xs) =
       let e = targets_kept b ts in
       let f = range_types_same x in
-      let g = range_assigned_kept ts x (range_types old x) in
+      let g = range_assigned_kept i j ts x (range_types old x) in
       cc
 
-  loop_kept : (f : Form) (ys : Parts) → loop_failing new f (parts name ys) ≡ loop_failing old f ys
-  loop_kept (form.Range b n) ys =
-      ap (λ ts. range_failing new b ts (drop n (present (parts name ys)))) (front_kept name n ys) ∙ ap (range_failing new b (every name (take n (present ys)))) (back_kept name n ys)
-      ∙ range_kept b (take n (present ys)) (drop n (present ys))
-  loop_kept f ys = second_condition_kept ys
+  loop_kept : (f : Form) (i j : ℕ) (ys : Parts) → loop_failing new f i j (parts name ys) ≡ loop_failing old f i j ys
+  loop_kept (form.Range b n) i j ys =
+      ap (λ ts. range_failing new i j b ts (drop n (present (parts name ys)))) (front_kept name n ys) ∙ ap (range_failing new i j b (every name (take n (present ys)))) (back_kept name n ys)
+      ∙ range_kept i j b (take n (present ys)) (drop n (present ys))
+  loop_kept f i j ys = second_condition_kept ys
 
 -- ---- the rules that fail
 
@@ -290,7 +334,7 @@ module _ (name : ℕ → ℕ) (f g : Frame) (c : RenamedFrames name f g) where
   failing_kept (kind.Specification declaring.Type) r i j ys = two_kept name (λ (z : List TypeFault). z) [] (λ n x. type_failing f i x) (λ n x. type_failing g i x) (λ n x. type_kept_so i x) ys
   failing_kept kind.Return r i j ys = returned_kept i j ys
   failing_kept kind.If r i j ys = second_condition_kept name c.one_to_one old new c.rights ys
-  failing_kept kind.For r i j ys = loop_kept name c.one_to_one old new c.rights r ys
+  failing_kept kind.For r i j ys = loop_kept name c.one_to_one old new c.rights r i j ys
   failing_kept kind.Switch r i j ys = second_tag_kept name c.one_to_one old new c.rights ys
   failing_kept kind.Case r i j ys =
       ap (λ z. each (case_failing new z) (take (names_in r) (present (parts name ys)))) c.tag ∙ ap (each (case_failing new (stands_renamed name f.tag))) (front_kept name (names_in r) ys)

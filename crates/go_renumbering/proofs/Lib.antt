@@ -4,6 +4,7 @@ pub mod Settling
 pub mod Indexes
 pub mod Operators
 pub mod Conversions
+pub mod Extremes
 pub mod Calls
 pub mod Literals
 pub mod TypeNodes

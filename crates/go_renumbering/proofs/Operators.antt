@@ -19,7 +19,7 @@ use Rattle.go_typed.specs.Trees as sort
 use Rattle.go_exprs_rules.specs.declared.family.OpenKind.{OpenKind}
 use Rattle.go_exprs_rules.specs.declared.family.OpenKind.TheVariants as untyped_kind
 use Rattle.go_exprs_rules.specs.Operators.{Common, in_type, in_kind, common_kind, kind_common, one_typed, open_kinds, common_by, common, family_in, refused, open_value, result_in, in_range, out_of_range, complement_mask, own_by, own, unary_value, unary_failing_in, unary_failing, unary_sort_in, unary_sort, unary_take, zero_divisor, binary_value, binary_failing_in, binary_failing, binary_sort_in, binary_sort, binary_take_in, binary_take}
-use Rattle.go_exprs_rules.specs.Operators.{is_count, shift_failing_in, shift_failing, shift_sort_in, shift_sort, shifted_take, nil_common, typed_compared, compared_in, incomparable, unfit, compared_refuse, compared_failing_in, compared_failing, compared_sort, compared_take_in, compared_take, is_shift, operation_failing, operation_sort, operation_takes}
+use Rattle.go_exprs_rules.specs.Operators.{is_count, shift_failing_in, shift_failing, shift_sort_in, shift_sort, shifted_take, nil_common, typed_compared, compared_in, unordered, incomparable, unfit, compared_refuse, compared_failing_in, compared_failing, compared_sort, compared_take_in, compared_take, is_shift, operation_failing, operation_sort, operation_takes}
 use Rattle.go_exprs_rules.specs.Settling.{Part, Take, stay, default, as_type}
 use Rattle.go_exprs_rules.specs.Sorts.{Stands, open_kind, own_type, is_constant, is_nil, default_type, form_of_value, suits, uint}
 use Rattle.go_renumbering.specs.Renumbered.{stands_renamed, part_renamed}
@@ -28,17 +28,17 @@ use Rattle.go_renumbering.proofs.Sorts.{maybe, open_same, constant_same, own_sam
 use Rattle.go_renumbering.proofs.Settling.{take_renamed, unrepresented_kept, default_unrepresented}
 
 module _ (name : ℕ → ℕ) where
-  abbrev common_renamed : Common → Common
+  abbrev pub common_renamed : Common → Common
   common_renamed (in_type t) = in_type (renamed name t)
   common_renamed (in_kind k) = in_kind k
 
-  abbrev some_common : Option Common → Option Common
+  abbrev pub some_common : Option Common → Option Common
   some_common o = option_map common_renamed o
 
   abbrev pub takes_renamed : List Take → List Take
   takes_renamed ks = map (take_renamed name) ks
 
-  kind_common_same : (o : Option OpenKind) → kind_common o ≡ some_common (kind_common o)
+  pub kind_common_same : (o : Option OpenKind) → kind_common o ≡ some_common (kind_common o)
   kind_common_same None = refl
   kind_common_same (Some k) = refl
 
@@ -69,10 +69,10 @@ module _ (name : ℕ → ℕ) where
   own_by_same None None = refl
   own_by_same None (Some k) = refl
 
-  own_common : (x : Stands) → own (stands_renamed name x) ≡ some_common (own x)
+  pub own_common : (x : Stands) → own (stands_renamed name x) ≡ some_common (own x)
   own_common x = ap (own_by (own_type (stands_renamed name x))) (open_same name x) ∙ ap (λ o. own_by o (open_kind x)) (own_same name x) ∙ own_by_same (own_type x) (open_kind x)
 
-  constants_same : (x : Stands) → is_constant (stands_renamed name x) ≡ is_constant x
+  pub constants_same : (x : Stands) → is_constant (stands_renamed name x) ≡ is_constant x
   constants_same x = let e = constant_same name x in cc
 
   pub unary_take_kept : (x : Stands) → unary_take (stands_renamed name x) ≡ take_renamed name (unary_take x)
@@ -126,11 +126,11 @@ module _ (name : ℕ → ℕ) (one : IsOneToOne name) (old new : Rights) (same :
 
   -- ---- where operands meet
 
-  meet : (b : Bool) (t : TypeTree) → cond b (Some (in_type (renamed name t))) None ≡ then (cond b (Some (in_type t)) None)
+  pub meet : (b : Bool) (t : TypeTree) → cond b (Some (in_type (renamed name t))) None ≡ then (cond b (Some (in_type t)) None)
   meet true t = refl
   meet false t = refl
 
-  one_typed_same : (t : TypeTree) (o : Option OpenKind) → one_typed new (renamed name t) o ≡ then (one_typed old t o)
+  pub one_typed_same : (t : TypeTree) (o : Option OpenKind) → one_typed new (renamed name t) o ≡ then (one_typed old t o)
   one_typed_same t None = refl
   one_typed_same t (Some k) = ap (λ b. cond b (Some (in_type (renamed name t))) None) (suits_same name one old new same k t) ∙ meet (suits old k t) t
 
@@ -261,6 +261,9 @@ module _ (name : ℕ → ℕ) (one : IsOneToOne name) (old new : Rights) (same :
   compared_in_same sort.Nil y = nil_meets y
   compared_in_same x sort.Nil = nil_meets x
   compared_in_same x y = values_meet x y
+
+  pub unordered_same : (i j : ℕ) (c : Common) → unordered new i j (common_renamed name c) ≡ unordered old i j c
+  unordered_same i j c = let e = family_in_same c in cc
 
   incomparable_same : (i j : ℕ) (c : Common) → incomparable new i j (common_renamed name c) ≡ incomparable old i j c
   incomparable_same i j (in_type t) = let e = comparable_same name one old new same t in cc

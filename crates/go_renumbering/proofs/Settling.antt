@@ -8,8 +8,8 @@ use Rattle.go_typed.specs.Trees.{Label, typed, Typeds, label_mapped, sort_of}
 use Rattle.go_typed.specs.Trees as sort
 use Rattle.go_exprs_rules.specs.declared.family.OpenKind.{OpenKind}
 use Rattle.go_base.specs.declared.fault.FaultCode.{FaultCode}
-use Rattle.go_exprs_rules.specs.Names.{is_no_value, is_no_callee, is_no_target, is_no_statement, is_no_type, are_results, one_value, is_row_empty, place_failing}
-use Rattle.go_exprs_rules.specs.Scopes.{Hint, several, type_place, loose, inside, loose_inside, callee, statement, target, declares, free}
+use Rattle.go_exprs_rules.specs.Names.{is_no_value, is_no_callee, is_no_target, is_no_statement, is_no_type, are_results, one_value, too_many, is_row_empty, place_failing}
+use Rattle.go_exprs_rules.specs.Scopes.{Hint, several, type_place, loose, inside, one_inside, loose_inside, callee, statement, target, declares, free}
 use Rattle.go_exprs_rules.specs.Settling.{Part, at_part, settled, all_settled, unrepresented_constant, unrepresented, all_unrepresented, Take, stay, default, as_type, defaulted, given, undefaulted_by, undefaulted, untyped_unassignable, unassignable_by, unassignable}
 use Rattle.go_exprs_rules.specs.Sorts.{Stands, takes_type, open_kind, constant_of, retyped, default_type}
 use Rattle.go_types_relations.specs.Tests.{underlying_of}
@@ -77,6 +77,10 @@ module _ (name : ℕ → ℕ) where
   one_value_same : (b : Bool) (x : Stands) (i j : ℕ) → one_value b (stands_renamed name x) i j ≡ one_value b x i j
   one_value_same true x i j = refl
   one_value_same false x i j = let r = results_are_same x in cc
+
+  too_many_same : (b : Bool) (x : Stands) (i j : ℕ) → too_many b (stands_renamed name x) i j ≡ too_many b x i j
+  too_many_same true x i j = refl
+  too_many_same false x i j = one_value_same false x i j
 
 module _ (name : ℕ → ℕ) (one : IsOneToOne name) (old new : Rights) (same : AreRenamed name old new) where
   constant_kept : (t : TypeTree) (i j : ℕ) (o : Option Const) → unrepresented_constant new (renamed name t) i j o ≡ unrepresented_constant old t i j o
@@ -146,6 +150,7 @@ module _ (name : ℕ → ℕ) (one : IsOneToOne name) (old new : Rights) (same :
   place_kept callee i j x = ap (λ b. one_value b (stands_renamed name x) i j) (no_callee_same x) ∙ one_value_same name (is_no_callee old x) x i j
   place_kept target i j x = ap (λ b. one_value b (stands_renamed name x) i j) (no_target_same x) ∙ one_value_same name (is_no_target old x) x i j
   place_kept inside i j x = refl
+  place_kept one_inside i j x = ap (λ b. too_many b (stands_renamed name x) i j) (no_value_same x) ∙ too_many_same name (is_no_value old x) x i j
   place_kept loose_inside i j x = refl
   place_kept declares i j x = refl
   place_kept free i j x = refl

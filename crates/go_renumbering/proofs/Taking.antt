@@ -1,6 +1,6 @@
 -- What the parts of statements take, with other numbers of declared types.
 use Rattle.std.proofs.Common.{◌≡◌, ◌∙◌, ℕ, ◌-◌, List, [], ◌∷◌, ◌++◌, map, length, Option, Some, None, refl, sym, ap, cond}
-use Rattle.std.specs.Prelude.{take, drop, replicate, ◌==◌}
+use Rattle.std.specs.Prelude.{take, drop, replicate, nat_lt, ◌==◌}
 use Rattle.std.proofs.lemmas.List.{map-append}
 use Rattle.go_grammar.specs.declared.kind.Arithmetic.{Arithmetic}
 use Rattle.go_grammar.specs.declared.kind.Kind.{Kind}
@@ -21,7 +21,7 @@ use Rattle.go_exprs_rules.specs.Sorts.{own_type}
 use Rattle.go_exprs_rules.specs.Tables.{Parts, present, made}
 use Rattle.go_stmts_defs.specs.Assigning.{Wanted, Taking, takes, stands, rests, type_or_default, declared_names, values_take, constants_take}
 use Rattle.go_stmts_defs.specs.Frames.{Frame}
-use Rattle.go_stmts_defs.specs.Rules.{target_type, known_type, type_there, values_there, names_in, split_at, rest, assign_takes, define_takes, variables_take, type_or_rest, specified_constants, returned, type_stands, elements_stand, last_part, range_stands, range_types, loop_takes, taking, judges, own_faults, failing, given_part, given_optional, all_given, built_by}
+use Rattle.go_stmts_defs.specs.Rules.{target_type, known_type, type_there, values_there, names_in, split_at, rest, assign_takes, define_takes, variables_take, type_or_rest, specified_constants, returned, type_stands, elements_stand, last_part, range_stands, range_types, is_first_number, first_type, target_there, operand_takes, loop_takes, taking, judges, own_faults, failing, given_part, given_optional, all_given, built_by}
 use Rattle.go_renumbering.specs.Renumbered.{part_renamed}
 use Rattle.go_renumbering.proofs.LaidOut.{two_kept}
 use Rattle.go_renumbering.proofs.Nodes.{made_kept, judged_kept}
@@ -32,7 +32,7 @@ use Rattle.go_renumbering.proofs.Sorts.{maybe, own_same}
 use Rattle.go_renumbering.specs.Frames.{RenamedFrames}
 use Rattle.go_renumbering.proofs.Arranging.{taken_mapped}
 use Rattle.go_renumbering.proofs.Assigning.{mapped_length, wanted_renamed, types_renamed, some_types, taking_renamed, takings_renamed, type_or_default_same, values_take_same, constants_take_same, declared_names_same}
-use Rattle.go_renumbering.proofs.Judging.{repeated_mapped, target_types, known_types, type_there_same, values_there_same, front_kept, back_kept, range_types_same, failing_kept}
+use Rattle.go_renumbering.proofs.Judging.{dropped_mapped, repeated_mapped, target_type_same, target_types, open_number_same, known_types, type_there_same, values_there_same, front_kept, back_kept, range_types_same, failing_kept}
 
 module _ (name : ℕ → ℕ) where
   abbrev now : List Taking → List Taking
@@ -88,9 +88,32 @@ module _ (name : ℕ → ℕ) where
   last_same (x ∷ []) = refl
   last_same (x ∷ y ∷ ys) = last_same (y ∷ ys)
 
-  loop_same : (f : Form) → loop_takes f ≡ now (loop_takes f)
-  loop_same (form.Range b n) = joined (rest n) (takes default ∷ []) (rest n) (takes default ∷ []) (rest_same n) refl
-  loop_same f = refl
+  first_number_same : (ys : Parts) → is_first_number (parts name ys) ≡ is_first_number ys
+  first_number_same [] = refl
+  first_number_same (None ∷ ys) = refl
+  first_number_same (Some (typed f i j l ps) ∷ ys) = open_number_same name l.sort
+
+  first_type_same : (ys : Parts) → first_type (parts name ys) ≡ maybe name (first_type ys)
+  first_type_same [] = refl
+  first_type_same (None ∷ ys) = refl
+  first_type_same (Some t ∷ ys) = target_type_same name t
+
+  target_there_same : (n : ℕ) (ys : Parts) → target_there n (parts name ys) ≡ maybe name (target_there n ys)
+  target_there_same n ys = ap (λ o. cond (nat_lt 0 n) o None) (first_type_same ys) ∙ branches (maybe name) (nat_lt 0 n) (first_type ys) None
+
+  operand_same : (n : ℕ) (ys : Parts) → operand_takes n (parts name ys) ≡ taking_renamed name (operand_takes n ys)
+  operand_same n ys =
+      let b = is_first_number (drop n ys) in
+      let k = type_or_default (target_there n ys) in
+      ap (λ zs. cond (is_first_number zs) (type_or_default (target_there n (parts name ys))) (takes default)) (dropped_mapped (optional name) n ys)
+      ∙ ap (λ c. cond c (type_or_default (target_there n (parts name ys))) (takes default)) (first_number_same (drop n ys))
+      ∙ ap (λ t. cond b (type_or_default t) (takes default)) (target_there_same n ys)
+      ∙ ap (λ z. cond b z (takes default)) (type_or_default_same name (target_there n ys))
+      ∙ branches (taking_renamed name) b k (takes default)
+
+  loop_same : (f : Form) (ys : Parts) → loop_takes f (parts name ys) ≡ now (loop_takes f ys)
+  loop_same (form.Range b n) ys = joined (rest n) (operand_takes n ys ∷ []) (rest n) (operand_takes n (parts name ys) ∷ []) (rest_same n) (ap (λ k. k ∷ []) (operand_same n ys))
+  loop_same f ys = refl
 
   each_take : (ks : List Take) → map takes (takes_renamed name ks) ≡ now (map takes ks)
   each_take [] = refl
@@ -165,7 +188,7 @@ module _ (name : ℕ → ℕ) where
         ∙ specified_same (names_in r) (type_there (names_in r) ys) (values_there (names_in r) ys)
     taking_kept kind.Return r ys =
         ap (λ ts. returned ts (present (parts name ys))) c.results ∙ ap (returned (types_renamed name f.results)) (present_kept name ys) ∙ returned_same f.results (present ys)
-    taking_kept kind.For r ys = loop_same r
+    taking_kept kind.For r ys = loop_same r ys
     taking_kept kind.DefiningRange r ys =
         ap (λ n. range_stands new (n - 1) (last_part (present (parts name ys)))) (mapped_length (optional name) ys)
         ∙ ap (λ xs. range_stands new (length ys - 1) (last_part xs)) (present_kept name ys) ∙ ap (range_stands new (length ys - 1)) (last_same (present ys)) ∙ range_same (length ys - 1) (last_part (present ys))

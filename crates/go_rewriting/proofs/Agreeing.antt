@@ -9,7 +9,7 @@ use Rattle.go_grammar.specs.Categories.{place_of}
 use Rattle.go_grammar.specs.Rules.{Items, Rule, End, Then, Maybe, Unless, Many, item}
 use Rattle.go_grammar.specs.Trees.{Tree, node, Trees, none, more, skip, last, parts, onto}
 use Rattle.go_grammar.specs.Grammar.{rule, agrees, are_names, count, first_parts, Derives, Spells, Goes}
-use Rattle.go_grammar.proofs.Rows.{and_both}
+use Rattle.go_grammar.proofs.Public.{and_both}
 use Rattle.go_rewriting.specs.Replacing.{agree, agree_all}
 use Rattle.go_rewriting.specs.Places.{Patch, keep, put, inside, Patches, done, part, run, items_behind, carry, carries, become, become_all, agreed, all_agreed}
 use Rattle.go_rewriting.specs.Sites.{Local, whole, items, Site, parts_of, next_patch, other_patches, nth_patch, set_patch, patches_behind, add_run, insert, patch_of, is_free, may_change, is_free_for, is_clear, is_clear_in, all_clear}

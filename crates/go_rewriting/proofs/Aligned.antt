@@ -10,12 +10,7 @@ use Rattle.go_tokens.specs.Lexing.{join, width, Cut, is_token, token_kind, ends_
 use Rattle.go_tokens.specs.Tokens.{AreOrdered, span_of}
 use Rattle.go_tokens.specs.Replacing.{Item, read, semicolon, items, Range, pieces_of, begins_with_token, IsOld, IsNew, Part, Kept, Replaced, old_pieces, Fits}
 use Rattle.go_tokens.specs.Editing.{IsWritten, Matches}
-use Rattle.go_tokens.proofs.Widths.{width-append, width-nil}
-use Rattle.go_tokens.proofs.Ordered.{piece_some, tokens_ordered}
-use Rattle.go_tokens.proofs.SoFar.{join_two}
-use Rattle.go_tokens.proofs.Unique.{one_cut}
-use Rattle.go_tokens.proofs.Replace.{cut_second, items_append, items_range, line_ends_append, line_ends_old, old_blanks}
-use Rattle.go_tokens.proofs.Texts.{read_all}
+use Rattle.go_tokens.proofs.Public.{width-append, width-nil, piece_some, tokens_ordered, join_two, one_cut, cut_second, items_append, items_range, line_ends_append, line_ends_old, old_blanks, read_all}
 use Rattle.go_rewriting.specs.Rewriting.{Rewrite, own, new_items, edits, IsRange, TextsFit}
 use Rattle.go_rewriting.proofs.Numbers.{same_start, same_end, token_behind, range_items, front_line, own_range}
 use Rattle.go_rewriting.proofs.Parts.{Swap, swaps_of, swaps}

@@ -5,7 +5,7 @@ use Rattle.go_grammar.specs.declared.kind.Kind.{Kind}
 use Rattle.go_grammar.specs.declared.kind.Kind.TheVariants as kind
 use Rattle.go_grammar.specs.Trees.{Tree, node, Trees, none, more, skip}
 use Rattle.go_grammar.specs.Grammar.{agrees, is_name, is_parameter, are_names, count, are_types, are_entries, ends_from, first_parts}
-use Rattle.go_grammar.proofs.Rows.{and_both}
+use Rattle.go_grammar.proofs.Public.{and_both}
 use Rattle.go_rewriting.specs.Replacing.{agree, agree_all, subtree_at, subtree_in}
 use Rattle.go_rewriting.specs.Places.{Patch, keep, put, inside, Patches, done, part, run, carry, carries, become, become_all, agreed, all_agreed}
 use Rattle.go_rewriting.specs.Sites.{whole, Site, parts_of, next_patch, other_patches, nth_patch, set_patch, insert, patch_of}

@@ -11,7 +11,7 @@ use Rattle.go_grammar.specs.Categories.{within, place_of}
 use Rattle.go_grammar.specs.Rules.{Items, Each, Many}
 use Rattle.go_grammar.specs.Trees.{Tree, node, Trees, none, more, skip, first, last, depth, depths, onto}
 use Rattle.go_grammar.specs.Grammar.{rule, IsAt, Words, Derives, Spells, Goes, IsFile}
-use Rattle.go_grammar.proofs.Ranges.{words_order, derives_order, spells_order, goes_order}
+use Rattle.go_grammar.proofs.Public.{words_order, derives_order, spells_order, goes_order}
 use Rattle.go_rewriting.specs.Places.{carry, carries}
 use Rattle.go_rewriting.specs.Lists.{InOrder, Ordered}
 use Rattle.go_rewriting.proofs.Kept.{derives_kept, soft_same}

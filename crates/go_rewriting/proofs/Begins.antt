@@ -7,8 +7,7 @@ use Rattle.go_grammar.specs.declared.kind.Category.{Category}
 use Rattle.go_grammar.specs.Trees.{Tree, first}
 use Rattle.go_grammar.specs.Grammar.{IsAt, Derives}
 use Rattle.go_grammar.specs.Reader.{begins}
-use Rattle.go_grammar.proofs.Rows.{all, categories, categories_at}
-use Rattle.go_grammar.proofs.Starts.{begins_at}
+use Rattle.go_grammar.proofs.Public.{all, categories, categories_at, begins_at}
 
 abbrev not_begun : Category → Bool
 not_begun c = if begins c (Some token.RightBrace) then false else true

@@ -11,8 +11,7 @@ use Rattle.go_grammar.specs.Rules.{Items, item}
 use Rattle.go_grammar.specs.Trees.{Tree, Trees, none, more, skip, first, last}
 use Rattle.go_grammar.specs.Grammar.{result_words, Derives}
 use Rattle.go_grammar.specs.Words.{is_word, is_among}
-use Rattle.go_grammar.proofs.Ranges.{lies_within}
-use Rattle.go_grammar.proofs.Rows.{and_both}
+use Rattle.go_grammar.proofs.Public.{lies_within, and_both}
 use Rattle.go_rewriting.specs.Replacing.{moved, Run}
 use Rattle.go_rewriting.specs.Places.{carry, carries}
 use Rattle.go_rewriting.specs.Lists.{no_clause, Elsewhere}

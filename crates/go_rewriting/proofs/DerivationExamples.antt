@@ -16,7 +16,7 @@ use Rattle.go_grammar.specs.Grammar.{IsAt, Derives, IsFile}
 use Rattle.go_grammar.specs.Words.{is_word}
 use Rattle.go_grammar.specs.Categories.{place_of}
 use Rattle.go_grammar.specs.Reader.{read}
-use Rattle.go_grammar.proofs.Sound.{read_stands}
+use Rattle.go_grammar.proofs.Public.{read_stands}
 use Rattle.go_rewriting.specs.Places.{put, become, Fits, Ascending, Change, changed, moved_by, ranges}
 use Rattle.go_rewriting.specs.Replacing.{Edge, takes_level, Run}
 use Rattle.go_rewriting.specs.Sites.{Site, whole, items, patch_of, Sits}

@@ -9,7 +9,7 @@ use Rattle.go_grammar.specs.Categories.{within, place_of}
 use Rattle.go_grammar.specs.Rules.{Items, Lines, Open, Each, Again, Rule, End, Then, Maybe, Unless, Many, item}
 use Rattle.go_grammar.specs.Trees.{Tree, node, Trees, none, more, skip, first, last}
 use Rattle.go_grammar.specs.Grammar.{rule, Words, Close, Between, Early, Derives, Spells, Goes}
-use Rattle.go_grammar.proofs.Rows.{all, kinds, kinds_at, categories, categories_at, and_both}
+use Rattle.go_grammar.proofs.Public.{all, kinds, kinds_at, categories, categories_at, and_both}
 use Rattle.go_rewriting.specs.Replacing.{Run}
 use Rattle.go_rewriting.specs.Endings.{ends_well, Ending}
 

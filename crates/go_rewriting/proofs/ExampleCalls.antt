@@ -16,10 +16,10 @@ use Rattle.go_tokens.specs.Lexing.{width, span, token, Lexes}
 use Rattle.go_tokens.specs.Tokens.{kinds}
 use Rattle.go_tokens.specs.Replacing.{joins}
 use Rattle.go_tokens.specs.Editing.{Stands, old_text, new_text}
-use Rattle.go_tokens.proofs.Examples.{lexes_by_test}
+use Rattle.go_tokens.proofs.Public.{lexes_by_test}
 use Rattle.go_grammar.specs.declared.kind.Category.TheVariants as category
 use Rattle.go_grammar.specs.Grammar.{IsFile}
-use Rattle.go_grammar.proofs.Sound.{read_stands}
+use Rattle.go_grammar.proofs.Public.{read_stands}
 use Rattle.go_rewriting.specs.Replacing.{subtree_at}
 use Rattle.go_rewriting.specs.Places.{IsDeclaration}
 use Rattle.go_rewriting.specs.Rewriting.{edits, TextFits, TreeFits, NewFile}

@@ -12,11 +12,11 @@ use Rattle.go_tokens.specs.Literals.{letter_base, is_digit_of}
 use Rattle.go_tokens.specs.Pieces.{begun_by, goes}
 use Rattle.go_tokens.specs.Lexing.{width, span, token, Lexes}
 use Rattle.go_tokens.specs.Tokens.{kinds}
-use Rattle.go_tokens.proofs.Examples.{lexes_by_test}
+use Rattle.go_tokens.proofs.Public.{lexes_by_test}
 use Rattle.go_grammar.specs.declared.kind.Category.TheVariants as category
 use Rattle.go_grammar.specs.Trees.{kind_of, first, last, parts}
 use Rattle.go_grammar.specs.Grammar.{Derives}
-use Rattle.go_grammar.proofs.Sound.{read_stands}
+use Rattle.go_grammar.proofs.Public.{read_stands}
 use Rattle.go_rewriting.specs.Replacing.{moved, Run}
 use Rattle.go_rewriting.specs.Places.{carries}
 use Rattle.go_rewriting.specs.Lists.{Subtree, in_block, run_at}

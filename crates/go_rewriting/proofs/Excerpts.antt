@@ -13,12 +13,7 @@ use Rattle.go_tokens.specs.Lexing.{join, width, Cut, token_kind, ends_statement,
 use Rattle.go_tokens.specs.Tokens.{kinds}
 use Rattle.go_tokens.specs.Replacing.{Item, read, semicolon, items, pieces_of}
 use Rattle.go_tokens.specs.Editing.{Spans, Stands}
-use Rattle.go_tokens.proofs.Widths.{width-append, width-nil}
-use Rattle.go_tokens.proofs.Ordered.{piece_some, tokens_ordered}
-use Rattle.go_tokens.proofs.SoFar.{join_two}
-use Rattle.go_tokens.proofs.Replace.{cut_first, cut_second, cut_front, all_both, items_append, items_range, line_ends_append, line_ends_old, old_blanks}
-use Rattle.go_tokens.proofs.Texts.{read_all}
-use Rattle.go_tokens.proofs.Places.{OldRange, old_range}
+use Rattle.go_tokens.proofs.Public.{width-append, width-nil, piece_some, tokens_ordered, join_two, cut_first, cut_second, cut_front, all_both, items_append, items_range, line_ends_append, line_ends_old, old_blanks, read_all, OldRange, old_range}
 use Rattle.go_rewriting.specs.Rewriting.{own, IsRange}
 use Rattle.go_rewriting.specs.Excerpts.{closing, Excerpt}
 use Rattle.go_rewriting.proofs.Numbers.{token_behind, range_items, front_line, own_range}

@@ -12,8 +12,7 @@ use Rattle.go_grammar.specs.Rules.{Items, Lines, Open, Each, Again, Rule, End, T
 use Rattle.go_grammar.specs.Trees.{Tree, node, Trees, none, more, skip, first, last}
 use Rattle.go_grammar.specs.Grammar.{rule, agrees, ends, result_words, IsAt, Words, Only, Gap, Close, Between, Early, Derives, Spells, Goes, is_name, is_parameter, are_names, count, are_types, are_entries, ends_from, first_parts}
 use Rattle.go_grammar.specs.Words.{is_word, is_among}
-use Rattle.go_grammar.proofs.Rows.{same_category}
-use Rattle.go_grammar.proofs.Ranges.{words_order, gap_order, close_order, between_order, derives_order, spells_order, goes_order}
+use Rattle.go_grammar.proofs.Public.{same_category, words_order, gap_order, close_order, between_order, derives_order, spells_order, goes_order}
 use Rattle.go_rewriting.specs.Replacing.{Edge}
 use Rattle.go_rewriting.specs.Places.{Stays, carry, carries}
 use Rattle.go_rewriting.proofs.Results.{led, rule_led, led_words, Closed, closed_behind, not_yet, ends_closed}

@@ -14,8 +14,7 @@ use Rattle.go_grammar.specs.Rules.{Items, Lines, Open, Each, Again, Rule, End, T
 use Rattle.go_grammar.specs.Trees.{Tree, node, Trees, none, more, skip, first, last}
 use Rattle.go_grammar.specs.Grammar.{rule, result_words, Words, Gap, Between, Early, Derives, Spells, Goes}
 use Rattle.go_grammar.specs.Words.{is_among}
-use Rattle.go_grammar.proofs.Rows.{all, kinds, kinds_at, categories, categories_at, and_both, same_category}
-use Rattle.go_grammar.proofs.Ranges.{words_order, gap_order, close_order, between_order, derives_order, spells_order, goes_order}
+use Rattle.go_grammar.proofs.Public.{all, kinds, kinds_at, categories, categories_at, and_both, same_category, words_order, gap_order, close_order, between_order, derives_order, spells_order, goes_order}
 use Rattle.go_rewriting.specs.Replacing.{moved, Edge, Run}
 use Rattle.go_rewriting.specs.Lists.{no_clause, Elsewhere, in_block, in_clause}
 use Rattle.go_rewriting.specs.Places.{carry, carries}

@@ -11,9 +11,7 @@ use Rattle.go_tokens.specs.Lexing.{join, width, is_token, token_kind, ends_state
 use Rattle.go_tokens.specs.Tokens.{AreOrdered, span_of}
 use Rattle.go_tokens.specs.Replacing.{Item, semicolon, items_of, items, is_blank, Range, pieces_of, begins_with_token}
 use Rattle.go_tokens.specs.Editing.{IsWritten}
-use Rattle.go_tokens.proofs.Widths.{width-append, width-nil}
-use Rattle.go_tokens.proofs.Ordered.{piece_some}
-use Rattle.go_tokens.proofs.Replace.{items_append, line_ends_append, line_ends_token, line_ends_blanks, items_blanks, token_items, no_semicolon}
+use Rattle.go_tokens.proofs.Public.{width-append, width-nil, piece_some, items_append, line_ends_append, line_ends_token, line_ends_blanks, items_blanks, token_items, no_semicolon}
 use Rattle.go_rewriting.proofs.Changes.{get_right}
 use Rattle.go_rewriting.specs.Rewriting.{is_written, own}
 

@@ -7,7 +7,7 @@ use Rattle.go_grammar.specs.Categories.{place_of}
 use Rattle.go_grammar.specs.Rules.{Items, Rule, End, Then, Maybe, Unless, Many, item}
 use Rattle.go_grammar.specs.Trees.{Tree, node, Trees, none, more, skip, first, last}
 use Rattle.go_grammar.specs.Grammar.{rule, Derives, Spells, Goes}
-use Rattle.go_grammar.proofs.Ranges.{words_order, gap_order, between_order, spells_order, goes_order, derives_grows}
+use Rattle.go_grammar.proofs.Public.{words_order, gap_order, between_order, spells_order, goes_order, derives_grows}
 use Rattle.go_rewriting.specs.Lists.{InOrder, Ordered}
 use Rattle.go_rewriting.specs.Places.{Patch, keep, put, inside, Patches, done, part, run, items_behind, items_end, Range, places, places_in, Outside, Stays, Ascending}
 use Rattle.go_rewriting.proofs.Kept.{Stay}

@@ -7,7 +7,7 @@ use Rattle.go_tokens.specs.declared.token.Token.{Token}
 use Rattle.go_tokens.specs.Tokens.{kinds}
 use Rattle.go_tokens.specs.Lexing.{token_kind, ends_statement, line_ends}
 use Rattle.go_tokens.specs.Replacing.{Item, read, semicolon, items, pieces_of, Part, Kept, Replaced, old_pieces, Fits, spliced}
-use Rattle.go_tokens.proofs.Replace.{old_blanks}
+use Rattle.go_tokens.proofs.Public.{old_blanks}
 use Rattle.go_rewriting.specs.Places.{Range as RangeOf, Ascending, Change, changed, ranges}
 use Rattle.go_rewriting.specs.Rewriting.{Rewrite, own, words, new_items, rewritten, changes}
 use Rattle.go_rewriting.proofs.Numbers.{range_items}

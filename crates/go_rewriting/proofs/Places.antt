@@ -8,8 +8,7 @@ use Rattle.go_grammar.specs.Categories.{place_of}
 use Rattle.go_grammar.specs.Rules.{Items, Rule, End, Then, Maybe, Unless, Many, item}
 use Rattle.go_grammar.specs.Trees.{Tree, node, Trees, none, more, skip, first, last, onto}
 use Rattle.go_grammar.specs.Grammar.{rule, agrees, Words, Gap, Derives, Spells, Goes}
-use Rattle.go_grammar.proofs.Rows.{and_both, same_category}
-use Rattle.go_grammar.proofs.Ranges.{words_order, gap_order, between_order, derives_order, spells_order, goes_order}
+use Rattle.go_grammar.proofs.Public.{and_both, same_category, words_order, gap_order, between_order, derives_order, spells_order, goes_order}
 use Rattle.go_rewriting.specs.Replacing.{Edge, Run}
 use Rattle.go_rewriting.specs.Places.{Patch, keep, put, inside, Patches, done, part, run, has_items, items_behind, items_end, become, become_all, places, Outside, Stays, agreed, all_agreed, Fits, FitAll}
 use Rattle.go_rewriting.proofs.Kept.{Stay, Soft, narrow, soft_same, soft_at, ends_soft, among_soft, words_kept, gap_kept, between_kept, derives_kept, spells_kept, goes_kept, first_carry, last_carry}

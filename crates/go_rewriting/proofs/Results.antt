@@ -14,8 +14,7 @@ use Rattle.go_grammar.specs.Rules.{Items, Lines, Rule, End, Then, Maybe, Unless,
 use Rattle.go_grammar.specs.Trees.{Tree, node, Trees, none, more, skip, last}
 use Rattle.go_grammar.specs.Grammar.{rule, result_words, IsAt, Words, Derives, Spells, Goes}
 use Rattle.go_grammar.specs.Words.{is_word}
-use Rattle.go_grammar.proofs.Rows.{all, kinds, kinds_at, and_both, same_category, same_category-is}
-use Rattle.go_grammar.proofs.Words.{at-is_word}
+use Rattle.go_grammar.proofs.Public.{all, kinds, kinds_at, and_both, same_category, same_category-is, at-is_word}
 
 abbrev same_words : List TokenKind → List TokenKind → Bool
 same_words [] [] = true

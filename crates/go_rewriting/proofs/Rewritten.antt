@@ -9,7 +9,7 @@ use Rattle.go_tokens.specs.Replacing.{read}
 use Rattle.go_tokens.specs.Lexing.{Lexes}
 use Rattle.go_tokens.specs.Tokens.{kinds}
 use Rattle.go_tokens.specs.Editing.{old_text, new_text}
-use Rattle.go_tokens.proofs.Encodings.{one_text}
+use Rattle.go_tokens.proofs.Public.{one_text}
 use Rattle.go_grammar.specs.declared.kind.Category.{Category}
 use Rattle.go_grammar.specs.declared.kind.Category.TheVariants as category
 use Rattle.go_grammar.specs.Trees.{Tree, depth}

@@ -7,7 +7,7 @@ use Rattle.go_grammar.specs.Categories.{place_of}
 use Rattle.go_grammar.specs.Rules.{Items, Rule, End, Then, Maybe, Unless, Many, item}
 use Rattle.go_grammar.specs.Trees.{Tree, node, Trees, none, more, skip, first, last, parts}
 use Rattle.go_grammar.specs.Grammar.{rule, Derives, Spells, Goes}
-use Rattle.go_grammar.proofs.Ranges.{words_order, gap_order, between_order, spells_order, goes_order, derives_grows}
+use Rattle.go_grammar.proofs.Public.{words_order, gap_order, between_order, spells_order, goes_order, derives_grows}
 use Rattle.go_rewriting.specs.Replacing.{Edge, subtree_at, subtree_in, asked_at, asked_in, Run}
 use Rattle.go_rewriting.specs.Places.{done, has_items, items_behind, items_end, Range, range, FitAll}
 use Rattle.go_rewriting.specs.Sites.{patches_behind, add_run, run_range}

@@ -12,9 +12,7 @@ use Rattle.go_grammar.specs.Rules.{Items}
 use Rattle.go_grammar.specs.Trees.{Tree, Trees, none, more, skip, first, last}
 use Rattle.go_grammar.specs.Grammar.{IsAt, Only, Derives}
 use Rattle.go_grammar.specs.Words.{is_word}
-use Rattle.go_grammar.proofs.Rows.{and_both}
-use Rattle.go_grammar.proofs.Sound.{read_stands}
-use Rattle.go_grammar.proofs.Words.{at-is_word}
+use Rattle.go_grammar.proofs.Public.{and_both, read_stands, at-is_word}
 use Rattle.go_rewriting.specs.Replacing.{Edge, Run}
 use Rattle.go_rewriting.specs.Lists.{in_block, in_clause}
 use Rattle.go_rewriting.specs.Readings.{statement_at, statements, read_at}

@@ -10,7 +10,7 @@ use Rattle.go_grammar.specs.declared.kind.Category.TheVariants as category
 use Rattle.go_grammar.specs.Rules.{Items, item}
 use Rattle.go_grammar.specs.Trees.{Tree, node, Trees, none, more, skip, first, last, depth, depths, weight}
 use Rattle.go_grammar.specs.Grammar.{IsAt, Derives, Between, Gap, IsFile}
-use Rattle.go_grammar.proofs.Ranges.{gap_order, between_order, derives_order, lies_within}
+use Rattle.go_grammar.proofs.Public.{gap_order, between_order, derives_order, lies_within}
 use Rattle.go_rewriting.specs.Replacing.{Run}
 use Rattle.go_rewriting.specs.Places.{Patch, carry, carries, become, places, Outside, Ascending, agreed, Fits, Change, changed, moved_by, ranges, with_declaration}
 use Rattle.go_rewriting.specs.Sites.{Site, patch_of, site_ranges, AllSit}

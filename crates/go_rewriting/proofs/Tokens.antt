@@ -8,11 +8,7 @@ use Rattle.go_tokens.specs.Lexing.{join, width, tokens, Lexes}
 use Rattle.go_tokens.specs.Tokens.{AreOrdered, span_of, kinds}
 use Rattle.go_tokens.specs.Replacing.{Item, read, items, IsAppended, Part, Kept, Replaced, old_pieces, Fits, spliced}
 use Rattle.go_tokens.specs.Editing.{old_text, new_text, IsAmong, Spans, Allows, EditedLexing}
-use Rattle.go_tokens.proofs.Widths.{width-nil}
-use Rattle.go_tokens.proofs.Ordered.{tokens_ordered}
-use Rattle.go_tokens.proofs.Unique.{one_cut}
-use Rattle.go_tokens.proofs.Texts.{read_all}
-use Rattle.go_tokens.proofs.Places.{edited}
+use Rattle.go_tokens.proofs.Public.{width-nil, tokens_ordered, one_cut, read_all, edited}
 use Rattle.go_rewriting.specs.Places.{Ascending, changed, ranges}
 use Rattle.go_rewriting.specs.Rewriting.{Rewrite, edits, changes, rewritten, IsRange, TextsFit, IsTail, NewTokens}
 use Rattle.go_rewriting.proofs.Numbers.{earlier}

@@ -7,7 +7,7 @@ use Rattle.go_grammar.specs.declared.kind.Category.{Category}
 use Rattle.go_grammar.specs.Categories.{place_of}
 use Rattle.go_grammar.specs.Trees.{Tree, node}
 use Rattle.go_grammar.specs.Grammar.{rule}
-use Rattle.go_grammar.proofs.Ranges.{derives_grows}
+use Rattle.go_grammar.proofs.Public.{derives_grows}
 use Rattle.go_rewriting.specs.Replacing.{Edge, subtree_at}
 use Rattle.go_rewriting.specs.Places.{carries, Range, range, Outside, Ascending, Fits, Change, changed, moved_by, ranges}
 use Rattle.go_rewriting.specs.Sites.{Local, whole, items, range_in, local_range, site_ranges, alone, AllSit}

@@ -1,4 +1,6 @@
 pub mod Gathering
+pub mod HiddenNames
+pub mod HiddenPlaces
 pub mod Least
 pub mod LookupRules
 pub mod MovedMeanings
@@ -10,3 +12,5 @@ pub mod Sited
 pub mod Statements
 pub mod Twice
 pub mod UsedSpots
+pub mod RepeatedLists
+pub mod Public

@@ -1,5 +1,6 @@
 pub mod Decided
 pub mod Gathered
+pub mod Lists
 pub mod LookupRules
 pub mod Noted
 pub mod Numbering

@@ -7,12 +7,14 @@
 
 mod branches;
 mod clauses;
+mod constants;
 mod cycles;
 mod duplicates;
 pub mod error;
 pub mod failure;
 mod file_rule;
 pub mod laws;
+mod lists;
 mod lookups;
 mod members;
 pub mod names;

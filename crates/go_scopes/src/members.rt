@@ -21,7 +21,7 @@ pub struct Members<'a> {
 }
 
 /// Adds a name of a group.
-fn add_name<'a>(
+pub fn add_name<'a>(
     names: &mut HashSet<(u32, &'a [u8])>,
     group: u32,
     name: &'a [u8],

@@ -17,6 +17,7 @@ ghost use Rattle.go_scopes.specs.Views.{failure_of};
 
 use crate::branches::{branches, limit};
 use crate::clauses::clause_faults;
+use crate::constants::hidden_lists;
 use crate::cycles::cycles;
 use crate::duplicates::duplicates;
 use crate::error::ResolveError;
@@ -133,7 +134,7 @@ fn unused_faults(
     Ok(unused_imports(alloc, variables, asked, units)?)
 }
 
-/// The rules on what stands where it may not, twice, or too often.
+/// The rules on what stands where it may not, twice, or too often, and on lists that are repeated.
 fn placed_faults(
     alloc: Global,
     found: Option<Fault>,
@@ -144,7 +145,8 @@ fn placed_faults(
 {
     let placed = branches(alloc, found, units)?;
     let twice = duplicates(alloc, placed, units)?;
-    Ok(limit(twice, units))
+    let limited = limit(twice, units);
+    Ok(hidden_lists(alloc, limited, units)?)
 }
 
 /// The least fault of the rules on names. The declarations are `declared`, and `all` has the names before each `:=` too.

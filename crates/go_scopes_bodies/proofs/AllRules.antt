@@ -4,6 +4,7 @@ use Rattle.std.specs.Prelude.{false, slice_get}
 use Rattle.go_base.specs.declared.fault.FaultCode.{FaultCode}
 use Rattle.go_base.specs.declared.fault.FaultCode.TheVariants as code
 use Rattle.go_tree.specs.Branches.{branches, limit}
+use Rattle.go_tree.specs.Constants.{hidden_lists}
 use Rattle.go_tree.specs.Declarations.{Found, found, declarations}
 use Rattle.go_tree.specs.Duplicates.{second_members, second_defaults, duplicates}
 use Rattle.go_tree.specs.Failures.{Failure, failing, of_files}
@@ -18,7 +19,7 @@ use Rattle.go_heads.specs.Heads.{File}
 use Rattle.go_heads.specs.Locals.{AreNamed}
 use Rattle.go_heads.specs.Objects.{units_of}
 use Rattle.go_heads.specs.Tokens.{function_files}
-use Rattle.go_scopes_bodies.specs.Faults.{own_asked, own_misplaced, own_second_defaults, own_second_members, own_second_declarations, own_none_new, own_undeclared, own_outside_names, own_outside_members, own_not_called, own_initialisers, own_unused, shared, outside_asked, all_asked, outside_declared, outer_in, GoesByFunctions, own_faults, NothingFailsOutside, IsFaultlessByFunctions, FaultsAreThoseOfFunctions}
+use Rattle.go_scopes_bodies.specs.Faults.{own_asked, own_misplaced, own_second_defaults, own_second_members, own_hidden_lists, own_second_declarations, own_none_new, own_undeclared, own_outside_names, own_outside_members, own_not_called, own_initialisers, own_unused, shared, outside_asked, all_asked, outside_declared, outer_in, GoesByFunctions, own_faults, NothingFailsOutside, IsFaultlessByFunctions, FaultsAreThoseOfFunctions}
 use Rattle.go_scopes_bodies.specs.Meant.{Outer}
 use Rattle.go_scopes_bodies.specs.Outside.{outside_units}
 use Rattle.go_scopes_bodies.proofs.Each.{by_functions}
@@ -29,6 +30,7 @@ use Rattle.go_scopes_bodies.proofs.Members.{members_by_functions}
 use Rattle.go_scopes_bodies.proofs.New.{none_new_by_functions}
 use Rattle.go_scopes_bodies.proofs.Nothing.{nothing_outside}
 use Rattle.go_scopes_bodies.proofs.Once.{declared_once_by_functions}
+use Rattle.go_scopes_bodies.proofs.Repeated.{lists_by_functions}
 use Rattle.go_scopes_bodies.proofs.Reported.{none_reported, none_failing}
 use Rattle.go_scopes_bodies.proofs.Rules.{branches_by_functions, second_defaults_by_functions}
 use Rattle.go_scopes_bodies.proofs.Unused.{unused_by_functions}
@@ -90,6 +92,7 @@ record HasNone (a : Alone) (outer : Outer) : Type 0 where
   branches : own_misplaced a ≡ []
   members : own_second_members a ≡ []
   defaults : own_second_defaults a ≡ []
+  lists : own_hidden_lists a ≡ []
 
 own_to : (a : Alone) (outer : Outer) → own_faults a outer ≡ [] → HasNone a outer
 own_to a outer e =
@@ -98,11 +101,13 @@ own_to a outer e =
     let u : List Failure = failing code.UnusedVariable (own_unused a outer) in
     let b : List Failure = failing code.Branch (own_misplaced a) in
     let d : List Failure = failing code.Duplicate (own_second_members a ++ own_second_defaults a) in
-    let e4 = none_left (((r ++ l) ++ u) ++ b) d e in
+    let h : List Failure = failing code.Outside (own_hidden_lists a) in
+    let e5 = none_left ((((r ++ l) ++ u) ++ b) ++ d) h e in
+    let e4 = none_left (((r ++ l) ++ u) ++ b) d e5 in
     let e3 = none_left ((r ++ l) ++ u) b e4 in
     let e2 = none_left (r ++ l) u e3 in
     let first = of_code code.Redeclared (own_second_declarations a ++ own_none_new a) (none_left r l e2) in
-    let last = of_code code.Duplicate (own_second_members a ++ own_second_defaults a) (none_right (((r ++ l) ++ u) ++ b) d e) in
+    let last = of_code code.Duplicate (own_second_members a ++ own_second_defaults a) (none_right (((r ++ l) ++ u) ++ b) d e5) in
     record {
       once = none_left (own_second_declarations a) (own_none_new a) first;
       new = none_right (own_second_declarations a) (own_none_new a) first;
@@ -111,6 +116,7 @@ own_to a outer e =
       branches = of_code code.Branch (own_misplaced a) (none_right ((r ++ l) ++ u) b e4);
       members = none_left (own_second_members a) (own_second_defaults a) last;
       defaults = none_right (own_second_members a) (own_second_defaults a) last;
+      lists = of_code code.Outside (own_hidden_lists a) (none_right ((((r ++ l) ++ u) ++ b) ++ d) h e);
     }
 
 own_from : (a : Alone) (outer : Outer) → HasNone a outer → own_faults a outer ≡ []
@@ -120,13 +126,15 @@ own_from a outer h =
     let u : List Failure = failing code.UnusedVariable (own_unused a outer) in
     let b : List Failure = failing code.Branch (own_misplaced a) in
     let d : List Failure = failing code.Duplicate (own_second_members a ++ own_second_defaults a) in
-    none_both (((r ++ l) ++ u) ++ b) d
+    none_both ((((r ++ l) ++ u) ++ b) ++ d) (failing code.Outside (own_hidden_lists a))
+    (none_both (((r ++ l) ++ u) ++ b) d
     (none_both ((r ++ l) ++ u) b
     (none_both (r ++ l) u
     (none_both r l (to_code code.Redeclared (own_second_declarations a ++ own_none_new a) (none_both (own_second_declarations a) (own_none_new a) h.once h.new)) (looked_from (own_asked a outer) h.looked))
     (to_code code.UnusedVariable (own_unused a outer) h.used))
     (to_code code.Branch (own_misplaced a) h.branches))
-    (to_code code.Duplicate (own_second_members a ++ own_second_defaults a) (none_both (own_second_members a) (own_second_defaults a) h.members h.defaults))
+    (to_code code.Duplicate (own_second_members a ++ own_second_defaults a) (none_both (own_second_members a) (own_second_defaults a) h.members h.defaults)))
+    (to_code code.Outside (own_hidden_lists a) h.lists)
 
 -- what no fault of a package is
 record NoneFails (us : List names.Unit) (ds : List Found) (asks : List Asked) : Type 0 where
@@ -142,6 +150,7 @@ record NoneFails (us : List names.Unit) (ds : List Found) (asks : List Asked) : 
   members : of_files (second_members []) 0 us ≡ []
   defaults : of_files second_defaults 0 us ≡ []
   statements : limit us ≡ []
+  lists : hidden_lists us ≡ []
   cycles : cycles asks (length ds + length ds) ds ≡ []
 
 module _ (fs : List File) where
@@ -178,7 +187,9 @@ module _ (fs : List File) where
       let b : List Failure = failing code.Branch (branches us) in
       let d : List Failure = failing code.Duplicate (duplicates us) in
       let m : List Failure = failing code.Limit (limit us) in
-      let before_limit = none_left (b ++ d) m placed in
+      let o : List Failure = failing code.Outside (hidden_lists us) in
+      let before_lists = none_left ((b ++ d) ++ m) o placed in
+      let before_limit = none_left (b ++ d) m before_lists in
       let twice = of_code code.Duplicate (duplicates us) (none_right b d before_limit) in
       let v : List Failure = failing code.UnusedVariable (unused_variables asks ds) in
       let i : List Failure = failing code.UnusedImport (unused_imports asks us) in
@@ -194,7 +205,8 @@ module _ (fs : List File) where
         branches = of_code code.Branch (branches us) (none_left b d before_limit);
         members = none_left (of_files (second_members []) 0 us) (of_files second_defaults 0 us) twice;
         defaults = none_right (of_files (second_members []) 0 us) (of_files second_defaults 0 us) twice;
-        statements = of_code code.Limit (limit us) (none_right (b ++ d) m placed);
+        statements = of_code code.Limit (limit us) (none_right (b ++ d) m before_lists);
+        lists = of_code code.Outside (hidden_lists us) (none_right ((b ++ d) ++ m) o placed);
         cycles = of_code code.Cycle (cycles asks (length ds + length ds) ds) (none_right (((redeclared_faults ++ l) ++ u) ++ p) c x.1);
       }
 
@@ -215,9 +227,11 @@ module _ (fs : List File) where
       h.new in
       let unused : u ≡ [] = none_both v i (to_code code.UnusedVariable (unused_variables asks ds) h.used) (to_code code.UnusedImport (unused_imports asks us) h.imports) in
       let placed : p ≡ [] =
-      none_both (b ++ d) m
+      none_both ((b ++ d) ++ m) (failing code.Outside (hidden_lists us))
+      (none_both (b ++ d) m
       (none_both b d (to_code code.Branch (branches us) h.branches) (to_code code.Duplicate (duplicates us) (none_both (of_files (second_members []) 0 us) (of_files second_defaults 0 us) h.members h.defaults)))
-      (to_code code.Limit (limit us) h.statements) in
+      (to_code code.Limit (limit us) h.statements))
+      (to_code code.Outside (hidden_lists us) h.lists) in
       let all : name_faults us ≡ [] =
       none_both (((redeclared_faults ++ l) ++ u) ++ p) c
       (none_both ((redeclared_faults ++ l) ++ u) p
@@ -241,6 +255,7 @@ record AreJudged (fs : List File) : Type 0 where
   branches : GoesByFunctions fs (λ n f. own_misplaced (function_alone f)) (branches (outside_units fs)) (branches (units_of fs))
   members : GoesByFunctions fs (λ n f. own_second_members (function_alone f)) (of_files (second_members []) 0 (outside_units fs)) (of_files (second_members []) 0 (units_of fs))
   defaults : GoesByFunctions fs (λ n f. own_second_defaults (function_alone f)) (of_files second_defaults 0 (outside_units fs)) (of_files second_defaults 0 (units_of fs))
+  lists : GoesByFunctions fs (λ n f. own_hidden_lists (function_alone f)) (hidden_lists (outside_units fs)) (hidden_lists (units_of fs))
 
 are_judged : (fs : List File) → AreRead fs → AreNamed fs → AreJudged fs
 are_judged fs h g = record {
@@ -255,6 +270,7 @@ are_judged fs h g = record {
   branches = by_functions fs (λ n f. own_misplaced (function_alone f)) (branches (outside_units fs)) (branches (units_of fs)) (branches_by_functions fs h g);
   members = by_functions fs (λ n f. own_second_members (function_alone f)) (of_files (second_members []) 0 (outside_units fs)) (of_files (second_members []) 0 (units_of fs)) (members_by_functions fs h g);
   defaults = by_functions fs (λ n f. own_second_defaults (function_alone f)) (of_files second_defaults 0 (outside_units fs)) (of_files second_defaults 0 (units_of fs)) (second_defaults_by_functions fs h g);
+  lists = by_functions fs (λ n f. own_hidden_lists (function_alone f)) (hidden_lists (outside_units fs)) (hidden_lists (units_of fs)) (lists_by_functions fs h g);
 }
 
 module _ (fs : List File) (judged : AreJudged fs) (nothing : NothingFailsOutside fs) where
@@ -271,6 +287,7 @@ module _ (fs : List File) (judged : AreJudged fs) (nothing : NothingFailsOutside
       let branches = judged.branches.apart x.branches in
       let members = judged.members.apart x.members in
       let defaults = judged.defaults.apart x.defaults in
+      let lists = judged.lists.apart x.lists in
       record {
         outside = record {
           clauses = x.clauses;
@@ -294,6 +311,7 @@ module _ (fs : List File) (judged : AreJudged fs) (nothing : NothingFailsOutside
               branches = branches.1 k n f e i;
               members = members.1 k n f e i;
               defaults = defaults.1 k n f e i;
+              lists = lists.1 k n f e i;
             });
       }
 
@@ -321,6 +339,7 @@ module _ (fs : List File) (judged : AreJudged fs) (nothing : NothingFailsOutside
         members = judged.members.together y.outside.members_once (λ k n f e i. (own k n f e i).members);
         defaults = judged.defaults.together nothing.defaults (λ k n f e i. (own k n f e i).defaults);
         statements = y.statements;
+        lists = judged.lists.together nothing.lists (λ k n f e i. (own k n f e i).lists);
         cycles = y.needs;
       }
 

@@ -13,7 +13,9 @@ mod New
 mod Lookups
 mod Unused
 mod Initial
+mod Apart
 mod Members
+mod Repeated
 mod Reported
 mod AllRules
 mod Quiet

@@ -101,7 +101,7 @@ module _ (place : Asked → Place) (T : Role → List ℕ → Bool → List ℕ 
 
   uses_in : (a lo hi : ℕ) (es : List Event) → NamesIn lo hi (map (moved_event a) es) → AllLie a hi (map (moved_event a) es) → UsesIn (hi - a) es
   uses_in a lo hi [] h g = tt
-  uses_in a lo hi (event.Use u ∷ es) h g = (omega (arith, h.1), ends_in a hi (a + u.name) u.role g.0, uses_in a lo hi es h.2 g.1)
+  uses_in a lo hi (event.Use u ∷ es) h g = (omega (arith, h.1), ends_in a hi (a + u.name) u.role g.0.0, uses_in a lo hi es h.2 g.1)
   uses_in a lo hi (event.Declaration d ∷ es) h g = uses_in a lo hi es h.2 g.1
   uses_in a lo hi (event.Import i ∷ es) h g = uses_in a lo hi es h g.1
   uses_in a lo hi (event.Member m o i ∷ es) h g = uses_in a lo hi es h g.1
@@ -223,7 +223,7 @@ module _ (place : Asked → Place) (T : Role → List ℕ → Bool → List ℕ 
     used =
         let laid : IsLaidOut f.tree = derives_laid (kinds l.tokens) f.tree category.Declaration lies.stands.sits.derives in
         let o : AreInOrder a (last f.tree) (told_in f.file f.tree) = events_order (file_context (last f.file.tree)) f.tree laid in
-        let lie : AllLie a (last f.tree) (told_in f.file f.tree) = tree_lies a (last f.tree) (file_context (last f.file.tree)) f.tree laid (omega arith) (omega arith) tt tt tt in
+        let lie : AllLie a (last f.tree) (told_in f.file f.tree) = tree_lies a (last f.tree) (file_context (last f.file.tree)) f.tree laid (omega arith) (omega arith) tt tt tt (tt, tt, tt) in
         uses_in a a (last f.tree) (function_events by_itself) (subst (NamesIn a (last f.tree)) told_same (ordered_names a a (last f.tree) (told_in f.file f.tree) (omega arith) o)) (subst (AllLie a (last f.tree)) told_same lie)
 
     pub tested_own : Iff (tested_rule ms n l (told_in f.file f.tree) ≡ []) (tested (own_asked by_itself outer) ≡ [])

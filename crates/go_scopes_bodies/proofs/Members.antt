@@ -24,15 +24,15 @@ use Rattle.go_heads.specs.Locals.{AreNamed}
 use Rattle.go_heads.specs.Names.{own_text, no_place}
 use Rattle.go_heads.specs.Objects.{units_of}
 use Rattle.go_heads.specs.Told.{file_events}
-use Rattle.go_heads.proofs.Public.{Every, Stands, AllStand, file_stands, eq_moved, texts_at}
+use Rattle.go_heads.proofs.Public.{eq_moved, texts_at}
 use Rattle.go_heads.proofs.Public as heads
 use Rattle.go_scopes_bodies.specs.Faults.{own_has_member, own_is_duplicate, second_members_by, own_second_members}
 use Rattle.go_scopes_bodies.specs.Outside.{outside_events, outside_units}
+use Rattle.go_scopes_bodies.proofs.Apart.{LooksBack, BackRule, IsOwnBack, back_by_functions}
 use Rattle.go_scopes_bodies.proofs.Each.{Iff, EachOwn}
-use Rattle.go_scopes_bodies.proofs.Lists.{none_left, none_right, none_both, place_both, place_to, or_assoc, second_false}
+use Rattle.go_scopes_bodies.proofs.Lists.{place_both, place_to, or_assoc, second_false}
 use Rattle.go_scopes_bodies.proofs.Lying.{AllLie, tree_lies}
-use Rattle.go_scopes_bodies.proofs.Pieces.{Piece, around, function, told_by, told_around, trees_of, ArePlaced, file_pieces}
-use Rattle.go_scopes_bodies.proofs.Rules.{IsFileRule, told_in, rule_by_files}
+use Rattle.go_scopes_bodies.proofs.Rules.{told_in}
 
 -- ---- events one behind the other
 
@@ -143,89 +143,17 @@ module _ (n : ℕ) (l : TokenList) where
       by (event.Misplaced i j) ps qs = refl
       by (event.SecondDefault i) ps qs = refl
 
-  -- ---- the pieces of a file
-
-  abbrev FailsNowhere : List Event → Type 0
-  FailsNowhere es = second_members [] n l es ≡ []
-
-  -- one piece, and those behind it
-  split : (z y : ℕ) (b es fs : List Event) → GroupsBefore z b → GroupsFrom z es → second_members b n l (es ++ fs) ≡ second_members [] n l es ++ second_members (b ++ es) n l fs
-  split z y b es fs h k = members_both b es fs ∙ ap (λ ps. ps ++ second_members (b ++ es) n l fs) (alone_same z b es h k)
-
-  module _ (tells : Tree → List Event) (lies : (t : Tree) → IsLaidOut t → AllLie (first t) (last t) (tells t)) where
-    -- the places of each piece by itself
-    abbrev EachPiece : List Piece → Type 0
-    EachPiece [] = Unit {0}
-    EachPiece (around es ∷ ps) = FailsNowhere es × EachPiece ps
-    EachPiece (function t ∷ ps) = FailsNowhere (tells t) × EachPiece ps
-
-    pub pieces_apart : (z : ℕ) (b : List Event) (ps : List Piece) → ArePlaced z ps → GroupsBefore z b → second_members b n l (told_by tells ps) ≡ [] → EachPiece ps
-    pieces_apart z b [] p h e = tt
-    pieces_apart z b (around es ∷ ps) p h e =
-        let x = p.0 in
-        let k : GroupsFrom z es = lie_from z x.from x.upto es x.behind x.lie in
-        let both : second_members [] n l es ++ second_members (b ++ es) n l (told_by tells ps) ≡ [] = sym (split z z b es (told_by tells ps) h k) ∙ e in
-        let le : z ≤ x.upto = let f : z ≤ x.from = x.behind in let g : x.from ≤ x.upto = x.grows in omega (arith, f, g) in (
-          none_left (second_members [] n l es) (second_members (b ++ es) n l (told_by tells ps)) both,
-          pieces_apart x.upto (b ++ es) ps p.1 (before_append x.upto b es (before_later z x.upto b le h) (lie_before x.from x.upto es x.lie)) (none_right (second_members [] n l es) (second_members (b ++ es) n l (told_by tells ps)) both),
-        )
-    pieces_apart z b (function t ∷ ps) p h e =
-        let es : List Event = tells t in
-        let lie : AllLie (first t) (last t) es = lies t p.1 in
-        let k : GroupsFrom z es = lie_from z (first t) (last t) es p.0 lie in
-        let both : second_members [] n l es ++ second_members (b ++ es) n l (told_by tells ps) ≡ [] = sym (split z z b es (told_by tells ps) h k) ∙ e in
-        let le : z ≤ last t = let f : z ≤ first t = p.0 in let g : first t < last t = laid_grows t p.1 in omega (arith, f, g) in (
-          none_left (second_members [] n l es) (second_members (b ++ es) n l (told_by tells ps)) both,
-          pieces_apart (last t) (b ++ es) ps p.2 (before_append (last t) b es (before_later z (last t) b le h) (lie_before (first t) (last t) es lie)) (none_right (second_members [] n l es) (second_members (b ++ es) n l (told_by tells ps)) both),
-        )
-
-    pub pieces_together : (z : ℕ) (b : List Event) (ps : List Piece) → ArePlaced z ps → GroupsBefore z b → EachPiece ps → second_members b n l (told_by tells ps) ≡ []
-    pieces_together z b [] p h e = refl
-    pieces_together z b (around es ∷ ps) p h e =
-        let x = p.0 in
-        let le : z ≤ x.upto = let f : z ≤ x.from = x.behind in let g : x.from ≤ x.upto = x.grows in omega (arith, f, g) in
-        split z z b es (told_by tells ps) h (lie_from z x.from x.upto es x.behind x.lie)
-        ∙ none_both (second_members [] n l es) (second_members (b ++ es) n l (told_by tells ps)) e.0
-        (pieces_together x.upto (b ++ es) ps p.1 (before_append x.upto b es (before_later z x.upto b le h) (lie_before x.from x.upto es x.lie)) e.1)
-    pieces_together z b (function t ∷ ps) p h e =
-        let es : List Event = tells t in
-        let lie : AllLie (first t) (last t) es = lies t p.1 in
-        let le : z ≤ last t = let f : z ≤ first t = p.0 in let g : first t < last t = laid_grows t p.1 in omega (arith, f, g) in
-        split z z b es (told_by tells ps) h (lie_from z (first t) (last t) es p.0 lie)
-        ∙ none_both (second_members [] n l es) (second_members (b ++ es) n l (told_by tells ps)) e.0
-        (pieces_together (last t) (b ++ es) ps p.2 (before_append (last t) b es (before_later z (last t) b le h) (lie_before (first t) (last t) es lie)) e.1)
-
-    -- the same without the functions
-    pub around_apart : (z : ℕ) (b : List Event) (ps : List Piece) → ArePlaced z ps → GroupsBefore z b → EachPiece ps → second_members b n l (told_around ps) ≡ []
-    around_apart z b [] p h e = refl
-    around_apart z b (around es ∷ ps) p h e =
-        let x = p.0 in
-        let le : z ≤ x.upto = let f : z ≤ x.from = x.behind in let g : x.from ≤ x.upto = x.grows in omega (arith, f, g) in
-        split z z b es (told_around ps) h (lie_from z x.from x.upto es x.behind x.lie)
-        ∙ none_both (second_members [] n l es) (second_members (b ++ es) n l (told_around ps)) e.0
-        (around_apart x.upto (b ++ es) ps p.1 (before_append x.upto b es (before_later z x.upto b le h) (lie_before x.from x.upto es x.lie)) e.1)
-    around_apart z b (function t ∷ ps) p h e =
-        let le : z ≤ last t = let f : z ≤ first t = p.0 in let g : first t < last t = laid_grows t p.1 in omega (arith, f, g) in
-        around_apart (last t) b ps p.2 (before_later z (last t) b le h) e.1
-
-    pub each_function : (ps : List Piece) → EachPiece ps → Every (λ t. FailsNowhere (tells t)) (trees_of ps)
-    each_function [] e = tt
-    each_function (around es ∷ ps) e = each_function ps e.1
-    each_function (function t ∷ ps) e = (e.0, each_function ps e.1)
-
-    pub each_piece : (z : ℕ) (b : List Event) (ps : List Piece) → ArePlaced z ps → GroupsBefore z b → second_members b n l (told_around ps) ≡ [] → Every (λ t. FailsNowhere (tells t)) (trees_of ps) → EachPiece ps
-    each_piece z b [] p h e f = tt
-    each_piece z b (around es ∷ ps) p h e f =
-        let x = p.0 in
-        let k : GroupsFrom z es = lie_from z x.from x.upto es x.behind x.lie in
-        let both : second_members [] n l es ++ second_members (b ++ es) n l (told_around ps) ≡ [] = sym (split z z b es (told_around ps) h k) ∙ e in
-        let le : z ≤ x.upto = let f : z ≤ x.from = x.behind in let g : x.from ≤ x.upto = x.grows in omega (arith, f, g) in (
-          none_left (second_members [] n l es) (second_members (b ++ es) n l (told_around ps)) both,
-          each_piece x.upto (b ++ es) ps p.1 (before_append x.upto b es (before_later z x.upto b le h) (lie_before x.from x.upto es x.lie)) (none_right (second_members [] n l es) (second_members (b ++ es) n l (told_around ps)) both) f,
-        )
-    each_piece z b (function t ∷ ps) p h e f =
-        let le : z ≤ last t = let x : z ≤ first t = p.0 in let g : first t < last t = laid_grows t p.1 in omega (arith, x, g) in
-        (f.0, each_piece (last t) b ps p.2 (before_later z (last t) b le h) e f.1)
+members_back : (n : ℕ) (l : TokenList) → LooksBack (λ b es. second_members b n l es) GroupsBefore GroupsFrom
+members_back n l = record {
+  none = λ z. tt;
+  append = before_append;
+  later = before_later;
+  lie_before = lie_before;
+  lie_from = lie_from;
+  nothing = λ b. refl;
+  both = members_both n l;
+  alone = alone_same n l;
+}
 
 -- ---- a function by itself
 
@@ -313,60 +241,22 @@ module _ (n : ℕ) (l : TokenList) (a width : ℕ) (w : ℕ → List ℕ) (text 
 abbrev pub HasMembersOnce : ℕ → Function → Type 0
 HasMembersOnce n f = own_second_members (function_alone f) ≡ []
 
-module _ (all : List File) (n : ℕ) (f : File) (r : IsRead f) (there : slice_get all n ≡ Some f) where
-  abbrev StandIn : List Tree → Type 0
-  StandIn ts = AllStand (kinds f.tokens.tokens) (in_bodies (parts f.tree)) (last f.tree) (file_events f) ts
+abbrev members_rule : BackRule
+members_rule n l b es = second_members b n l es
 
-  abbrev in_f : Tree → Function
-  in_f t = record { file = f; tree = t }
-
-  abbrev There : Tree → Type 0
-  There t = second_members [] n f.tokens (told_in f t) ≡ []
-
-  lies : (t : Tree) → IsLaidOut t → AllLie (first t) (last t) (told_in f t)
-  lies t laid = tree_lies (first t) (last t) (file_context (last f.tree)) t laid (omega arith) (omega arith) tt tt tt
-
-  one_function : (t : Tree) → Stands (kinds f.tokens.tokens) (in_bodies (parts f.tree)) (last f.tree) (file_events f) t → Iff (There t) (HasMembersOnce n (in_f t))
-  one_function t stands =
-      let a : ℕ = first t in
-      let by_itself : Alone = alone f.tokens t in
-      let es : List Event = function_events by_itself in
-      let e : told_in f t ≡ map (moved_event a) es = heads.tell all n f r there t stands in
-      let lie : AllLie a (last t) (map (moved_event a) es) = subst (AllLie a (last t)) e (lies t (derives_laid (kinds f.tokens.tokens) t category.Declaration stands.sits.derives)) in
-      let k : MembersIn (last t - a) es = members_in a (last t) es lie in
-      record {
-        to = λ x. members_to n f.tokens a (last t - a) (own_text by_itself) (λ y lt. texts_at f.tokens a (last t - a) y lt) [] es tt k (ap (second_members [] n f.tokens) (sym e) ∙ x);
-        from = λ x. ap (second_members [] n f.tokens) e ∙ members_from n f.tokens a (last t - a) (own_text by_itself) (λ y lt. texts_at f.tokens a (last t - a) y lt) [] es tt k x;
-      }
-
-  to_own : (ts : List Tree) → StandIn ts → Every There ts → Every (HasMembersOnce n) (map in_f ts)
-  to_own [] h e = tt
-  to_own (t ∷ ts) h e = ((one_function t h.0).to e.0, to_own ts h.1 e.1)
-
-  from_own : (ts : List Tree) → StandIn ts → Every (HasMembersOnce n) (map in_f ts) → Every There ts
-  from_own [] h e = tt
-  from_own (t ∷ ts) h e = ((one_function t h.0).from e.0, from_own ts h.1 e.1)
-
-  pub one_file : Iff (second_members [] n f.tokens (file_events f) ≡ []) ((second_members [] n f.tokens (outside_events f) ≡ []) × Every (HasMembersOnce n) (functions_in f))
-  one_file =
-      let p = file_pieces (kinds f.tokens.tokens) f.tree r.tree in
-      let stand = file_stands (kinds f.tokens.tokens) f.tree r.tree in
-      record {
-        to =
-            λ e.
-            let x = pieces_apart n f.tokens (told_in f) lies 0 [] p.pieces p.placed tt (ap (second_members [] n f.tokens) (sym p.whole) ∙ e) in (
-              ap (second_members [] n f.tokens) p.outside ∙ around_apart n f.tokens (told_in f) lies 0 [] p.pieces p.placed tt x,
-              to_own (functions (parts f.tree)) stand (subst (Every There) (sym p.trees) (each_function n f.tokens (told_in f) lies p.pieces x)),
-            );
-        from =
-            λ e.
-            let x = each_piece n f.tokens (told_in f) lies 0 [] p.pieces p.placed tt (ap (second_members [] n f.tokens) (sym p.outside) ∙ e.0) (subst (Every There) p.trees (from_own (functions (parts f.tree)) stand e.1)) in
-            ap (second_members [] n f.tokens) p.whole ∙ pieces_together n f.tokens (told_in f) lies 0 [] p.pieces p.placed tt x;
-      }
+own_members : (fs : List File) → IsOwnBack fs members_rule GroupsBefore GroupsFrom members_back HasMembersOnce
+own_members fs n f r there t laid stands =
+    let a : ℕ = first t in
+    let by_itself : Alone = alone f.tokens t in
+    let es : List Event = function_events by_itself in
+    let e : told_in f t ≡ map (moved_event a) es = heads.tell fs n f r there t stands in
+    let lie : AllLie a (last t) (told_in f t) = tree_lies a (last t) (file_context (last f.tree)) t laid (omega arith) (omega arith) tt tt tt (tt, tt, tt) in
+    let k : MembersIn (last t - a) es = members_in a (last t) es (subst (AllLie a (last t)) e lie) in
+    record {
+      to = λ x. members_to n f.tokens a (last t - a) (own_text by_itself) (λ y lt. texts_at f.tokens a (last t - a) y lt) [] es tt k (ap (second_members [] n f.tokens) (sym e) ∙ x);
+      from = λ x. ap (second_members [] n f.tokens) e ∙ members_from n f.tokens a (last t - a) (own_text by_itself) (λ y lt. texts_at f.tokens a (last t - a) y lt) [] es tt k x;
+    }
 
 pub members_by_functions : (fs : List File) → AreRead fs → AreNamed fs
     → Iff (of_files (second_members []) 0 (units_of fs) ≡ []) ((of_files (second_members []) 0 (outside_units fs) ≡ []) × EachOwn HasMembersOnce 0 fs)
-members_by_functions fs h g = rule_by_files fs (second_members []) HasMembersOnce by_file 0 fs (λ k. let z : 0 + k ≡ k = omega arith in ap (slice_get fs) z) h g
-  where
-    by_file : IsFileRule fs (second_members []) HasMembersOnce
-    by_file n f r there named = one_file fs n f r there
+members_by_functions fs h g = back_by_functions fs members_rule GroupsBefore GroupsFrom members_back HasMembersOnce (own_members fs) h g

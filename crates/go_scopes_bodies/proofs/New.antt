@@ -198,13 +198,13 @@ module _ (fs : List File) (n : ℕ) (f : File) (read : IsRead f) (there : slice_
   names_in = ordered_names a a (last t) told (omega arith) (events_order (file_context end) t laid)
 
   lies : AllLie a (last t) told
-  lies = tree_lies a (last t) (file_context end) t laid (omega arith) (omega arith) tt tt tt
+  lies = tree_lies a (last t) (file_context end) t laid (omega arith) (omega arith) tt tt tt (tt, tt, tt)
 
   own_within : Every (StandsWithin (last t - a)) (own_names by_itself)
   own_within = within_found (own_text by_itself) a (last t) (function_events by_itself) (subst (NamesIn a (last t)) told_same names_in) (subst (AllLie a (last t)) told_same lies)
 
   all_lie : AllLie 0 end (stands.before ++ (told ++ stands.behind))
-  all_lie = subst (AllLie 0 end) stands.whole (tree_lies 0 end (file_context end) f.tree (derives_laid (kinds l.tokens) f.tree category.File read.tree.derives) (omega arith) (omega arith) tt tt tt)
+  all_lie = subst (AllLie 0 end) stands.whole (tree_lies 0 end (file_context end) f.tree (derives_laid (kinds l.tokens) f.tree category.File read.tree.derives) (omega arith) (omega arith) tt tt tt (tt, tt, tt))
 
   abbrev Headed : Declaration → Type 0
   Headed = IsHeaded (kinds l.tokens) (in_bodies (parts f.tree))

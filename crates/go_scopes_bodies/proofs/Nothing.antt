@@ -1,9 +1,10 @@
 -- Rules of names that fail nowhere outside of functions.
-use Rattle.std.proofs.Common.{◌≡◌, ◌∙◌, ℕ, suc, Bool, true, false, List, [], ◌∷◌, refl, sym, ap, subst}
+use Rattle.std.proofs.Common.{◌≡◌, ◌∙◌, ℕ, suc, Bool, true, false, List, [], ◌∷◌, ◌++◌, refl, sym, ap, subst}
 use Rattle.std.specs.Prelude.{if◌then◌else◌, ◌&&◌, not, nat_eq}
 use Rattle.go_tokens.specs.Tokens.{TokenList, kinds}
 use Rattle.go_grammar.specs.Trees.{Tree, last, parts}
 use Rattle.go_tree.specs.Branches.{misplaced, statements}
+use Rattle.go_tree.specs.Constants.{list_of, is_list, is_hidden, is_repetition, hidden_lists_by, hidden_in}
 use Rattle.go_tree.specs.Contexts.{is_package}
 use Rattle.go_tree.specs.Declarations.{Found, found, found_in, is_new, new_among}
 use Rattle.go_tree.specs.declared.context.Block.{Block}
@@ -16,9 +17,9 @@ use Rattle.go_tree.specs.declared.event.Event.{Event}
 use Rattle.go_tree.specs.declared.event.Event.TheVariants as event
 use Rattle.go_tree.specs.Duplicates.{second_defaults}
 use Rattle.go_tree.specs.Failures.{place_if, of_files}
-use Rattle.go_tree.specs.Lookups.{Asked, is_counted, is_used, unused_variables}
+use Rattle.go_tree.specs.Lookups.{Asked, is_local, is_counted, is_used, unused_variables}
 use Rattle.go_tree.specs.Redeclared.{is_by_define, has_new, none_new}
-use Rattle.go_tree.specs.Units.{word, bytes_at}
+use Rattle.go_tree.specs.Units.{Place, word, bytes_at}
 use Rattle.go_scopes_events.specs.Orders.{EachDeclared, IsOuter}
 use Rattle.go_scopes_events.proofs.Public.{each_append}
 use Rattle.go_heads.specs.Functions.{AreRead}
@@ -110,6 +111,25 @@ new_none ds n l (event.Statement i j ∷ es) h = new_none ds n l es h
 new_none ds n l (event.Misplaced i j ∷ es) h = new_none ds n l es h
 new_none ds n l (event.SecondDefault i ∷ es) h = new_none ds n l es h
 
+-- no name of the package stands in a function
+no_repetition : (b : Block) (x y z : Bool) → IsOuter b → ((is_local b && x && y) && z) ≡ false
+no_repetition block.Package x y z h = refl
+no_repetition (block.Local i) x y z h = absurd h
+
+lists_none : (text : ℕ → List ℕ) (place : ℕ → Place) (before es : List Event) → EachDeclared IsPlainName es → hidden_lists_by text place before es ≡ []
+lists_none text place before [] h = refl
+lists_none text place before (event.Declaration d ∷ es) h =
+    let more : List Event = before ++ event.Declaration d ∷ [] in
+    ap (λ b. place_if b (place d.name) (hidden_lists_by text place more es)) (no_repetition d.block (nat_eq d.column 0) (not (is_list d.statement d.source)) (is_hidden (list_of d) text before) h.0.0)
+    ∙ lists_none text place more es h.1
+lists_none text place before (event.Use u ∷ es) h = lists_none text place (before ++ event.Use u ∷ []) es h
+lists_none text place before (event.Import i ∷ es) h = lists_none text place (before ++ event.Import i ∷ []) es h
+lists_none text place before (event.Member m g i ∷ es) h = lists_none text place (before ++ event.Member m g i ∷ []) es h
+lists_none text place before (event.Bodiless i j ∷ es) h = lists_none text place (before ++ event.Bodiless i j ∷ []) es h
+lists_none text place before (event.Statement i j ∷ es) h = lists_none text place (before ++ event.Statement i j ∷ []) es h
+lists_none text place before (event.Misplaced i j ∷ es) h = lists_none text place (before ++ event.Misplaced i j ∷ []) es h
+lists_none text place before (event.SecondDefault i ∷ es) h = lists_none text place (before ++ event.SecondDefault i ∷ []) es h
+
 -- ---- what stands around functions
 
 around_quiet : (z : ℕ) (ps : List Piece) → ArePlaced z ps → AllQuiet (told_around ps)
@@ -171,4 +191,5 @@ nothing_outside fs h = record {
       λ asks.
       unused_by_files (found (units_of fs)) asks 0 (outside_units fs)
       ∙ each_file (unused_rule (found (units_of fs)) asks) (λ n f r. unused_none (found (units_of fs)) asks n f.tokens (outside_events f) (outside_plain f r)) 0 fs h;
+  lists = each_file hidden_in (λ n f r. lists_none (word f.tokens) (bytes_at n f.tokens) [] (outside_events f) (outside_plain f r)) 0 fs h;
 }

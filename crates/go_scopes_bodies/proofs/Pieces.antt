@@ -102,7 +102,7 @@ module _ (ts : List TokenKind) (p : ℕ → Bool) (e : ℕ) where
         outside = ap (λ es. events here d ++ es) r.outside;
         trees = r.trees;
         shared = (tree_shared here d (derives_outside ts d category.Declaration refl h.0.derives) inner (record { block = tt; role = tt; parameters = tt }), r.shared);
-        placed = (record { from = a; upto = b; behind = l.0; grows = let lt : a < b = laid_grows d l.1 in omega (arith, lt); lie = tree_lies a b here d l.1 (omega arith) (omega arith) tt tt tt; quiet = tree_quiet here d (derives_outside ts d category.Declaration refl h.0.derives) inner refl }, r.placed);
+        placed = (record { from = a; upto = b; behind = l.0; grows = let lt : a < b = laid_grows d l.1 in omega (arith, lt); lie = tree_lies a b here d l.1 (omega arith) (omega arith) tt tt tt (tt, tt, tt); quiet = tree_quiet here d (derives_outside ts d category.Declaration refl h.0.derives) inner refl }, r.placed);
       }
   row lo i j ps qs n (more (node x a b rs) ds) h l = absurd (true_false false h.0.derives.0 refl)
 
@@ -128,7 +128,7 @@ file_pieces ts (node kind.File i j (more (node kind.Imports a b rs) ds)) f =
       outside = ap (λ es. events here d ++ es) r.outside;
       trees = r.trees;
       shared = (tree_shared here d (derives_outside ts d category.Imports refl h) inner (record { block = tt; role = tt; parameters = tt }), r.shared);
-      placed = (record { from = a; upto = b; behind = omega arith; grows = let lt : a < b = laid_grows d laid.1.1 in omega (arith, lt); lie = tree_lies a b here d laid.1.1 (omega arith) (omega arith) tt tt tt; quiet = tree_quiet here d (derives_outside ts d category.Imports refl h) inner refl }, r.placed);
+      placed = (record { from = a; upto = b; behind = omega arith; grows = let lt : a < b = laid_grows d laid.1.1 in omega (arith, lt); lie = tree_lies a b here d laid.1.1 (omega arith) (omega arith) tt tt tt (tt, tt, tt); quiet = tree_quiet here d (derives_outside ts d category.Imports refl h) inner refl }, r.placed);
     }
 file_pieces ts (node kind.File i j (more (node k a b rs) ds)) f = absurd (true_false false f.derives.1.1.0 refl)
 file_pieces ts (node k i j ps) f = absurd (true_false false f.derives.0 refl)

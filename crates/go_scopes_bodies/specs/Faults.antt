@@ -16,6 +16,7 @@ use Rattle.go_tree.specs.declared.event.Use.{Use}
 use Rattle.go_tree.specs.declared.object.Extent.TheVariants as extent
 use Rattle.go_tree.specs.declared.object.Object.{Object}
 use Rattle.go_tree.specs.Branches.{misplaced, branches, statements, limit}
+use Rattle.go_tree.specs.Constants.{hidden_lists_by, hidden_lists}
 use Rattle.go_tree.specs.Contexts.{is_package}
 use Rattle.go_tree.specs.Declarations.{Found, found, new_among, declarations}
 use Rattle.go_tree.specs.Duplicates.{same_member, second_members, second_defaults}
@@ -101,6 +102,10 @@ second_members_by t before (e ∷ es) = second_members_by t (before ++ e ∷ [])
 abbrev pub own_second_members : Alone → List Place
 own_second_members a = second_members_by (own_text a) [] (function_events a)
 
+-- the specifications that repeat a list of which a constant hides a name
+abbrev pub own_hidden_lists : Alone → List Place
+own_hidden_lists a = hidden_lists_by (own_text a) (λ x. no_place) [] (function_events a)
+
 -- the names that are declared a second time in their block
 abbrev pub own_second_declarations : Alone → List Place
 own_second_declarations a = second_declarations [] (own_declarations a)
@@ -173,15 +178,16 @@ pub record GoesByFunctions (fs : List File) (own : ℕ → Function → List Pla
 abbrev pub own_faults : Alone → Outer → List Failure
 own_faults a outer =
     failing code.Redeclared (own_second_declarations a ++ own_none_new a) ++ lookup_faults (own_asked a outer) ++ failing code.UnusedVariable (own_unused a outer)
-    ++ failing code.Branch (own_misplaced a) ++ failing code.Duplicate (own_second_members a ++ own_second_defaults a)
+    ++ failing code.Branch (own_misplaced a) ++ failing code.Duplicate (own_second_members a ++ own_second_defaults a) ++ failing code.Outside (own_hidden_lists a)
 
--- Outside of functions there are no statements, no switches, no `:=` and no local variables.
+-- Outside of functions there are no statements, no switches, no `:=`, no local variables and no local constants.
 pub record NothingFailsOutside (fs : List File) : Type 0 where
   pub branches : branches (outside_units fs) ≡ []
   pub defaults : of_files second_defaults 0 (outside_units fs) ≡ []
   pub statements : of_files statements 0 (outside_units fs) ≡ []
   pub some_new : (ds : List Found) → none_new ds (found (outside_units fs)) ≡ []
   pub variables : (asks : List Asked) → unused_variables asks (outside_declared fs) ≡ []
+  pub lists : hidden_lists (outside_units fs) ≡ []
 
 -- No rule of names fails outside of functions, but for those on imports that are not used, on many statements, and on declarations that
 -- need themselves.

@@ -8,6 +8,7 @@ ghost use Rattle.go_grammar.specs.Grammar.{Derives};
 ghost use Rattle.go_grammar.specs.Trees.{Tree, node, Trees, onto};
 ghost use Rattle.go_rewriting.specs.Places.{carry};
 ghost use Rattle.go_tree.specs.Branches.{branches};
+ghost use Rattle.go_tree.specs.Constants.{hidden_lists};
 ghost use Rattle.go_tree.specs.declared.context.Context.{Context};
 ghost use Rattle.go_tree.specs.Declarations.{declarations, found};
 ghost use Rattle.go_tree.specs.Duplicates.{second_defaults, second_members};
@@ -24,7 +25,7 @@ ghost use Rattle.go_scopes_bodies.specs.Listed.{AreStatements, TellsStatements, 
 ghost use Rattle.go_scopes_bodies.specs.Meant.{MeansAt};
 ghost use Rattle.go_scopes_bodies.specs.Outside.{outside_units};
 ghost use Rattle.go_scopes_bodies.specs.Faults.{CountsStatements, FaultsAreThoseOfFunctions, GoesByFunctions, NothingFailsOutside, UsesImportByFunctions};
-ghost use Rattle.go_scopes_bodies.specs.Faults.{all_asked, outside_asked, outer_in, outside_declared, shared, own_misplaced, own_second_defaults, own_second_members, own_second_declarations};
+ghost use Rattle.go_scopes_bodies.specs.Faults.{all_asked, outside_asked, outer_in, outside_declared, shared, own_misplaced, own_second_defaults, own_second_members, own_hidden_lists, own_second_declarations};
 ghost use Rattle.go_scopes_bodies.specs.Faults.{own_none_new, own_undeclared, own_outside_names, own_outside_members, own_not_called, own_initialisers, own_unused};
 
 /// Each token of a function means what it means by itself, and by what names mean outside of functions in its file: the local of the
@@ -51,6 +52,12 @@ pub fn defaults_are_judged_by_functions()
 pub fn members_are_judged_by_functions()
     ensures { (fs : List File) → AreRead fs → AreNamed fs
         → GoesByFunctions fs (λ n f. own_second_members (function_alone f)) (of_files (second_members []) 0 (outside_units fs)) (of_files (second_members []) 0 (units_of fs)) }
+{}
+
+/// So is whether a specification of constants repeats a list of which a constant hides a name (Go specification: Constant
+/// declarations).
+pub fn repeated_lists_are_judged_by_functions()
+    ensures { (fs : List File) → AreRead fs → AreNamed fs → GoesByFunctions fs (λ n f. own_hidden_lists (function_alone f)) (hidden_lists (outside_units fs)) (hidden_lists (units_of fs)) }
 {}
 
 /// No name is declared twice in its block where none is in the block of the package, and none in a function by itself (Go
@@ -106,8 +113,8 @@ pub fn names_outside_of_functions_stay()
     ensures { (old new : List File) → AreRead old → AreRead new → heads old ≡ heads new → (n : ℕ) (w : List ℕ) → outer_in new n w ≡ outer_in old n w }
 {}
 
-/// Outside of functions no statement is misplaced, no switch has a second default, no `:=` lacks a new name and no local variable is
-/// unused: there are none.
+/// Outside of functions no statement is misplaced, no switch has a second default, no `:=` lacks a new name, no local variable is
+/// unused and no list has a hidden name: there are none.
 pub fn nothing_fails_outside_of_functions()
     ensures { (fs : List File) → AreRead fs → NothingFailsOutside fs }
 {}

@@ -8,7 +8,7 @@ ghost use Rattle.go_tree.specs.Objects.{predeclared_object};
 use go_tree::object::{Object, Predeclared};
 
 /// Those of the profile.
-const KNOWN: [(&[u8], Predeclared); 24] = [
+const KNOWN: [(&[u8], Predeclared); 26] = [
     (b"bool", Predeclared::Bool),
     (b"string", Predeclared::String),
     (b"int", Predeclared::Int),
@@ -32,11 +32,13 @@ const KNOWN: [(&[u8], Predeclared); 24] = [
     (b"copy", Predeclared::Copy),
     (b"len", Predeclared::Len),
     (b"make", Predeclared::Make),
+    (b"max", Predeclared::Max),
+    (b"min", Predeclared::Min),
     (b"panic", Predeclared::Panic),
 ];
 
 /// Those outside the profile.
-const UNKNOWN: [&[u8]; 20] = [
+const UNKNOWN: [&[u8]; 18] = [
     b"any",
     b"comparable",
     b"complex64",
@@ -50,8 +52,6 @@ const UNKNOWN: [&[u8]; 20] = [
     b"complex",
     b"delete",
     b"imag",
-    b"max",
-    b"min",
     b"new",
     b"print",
     b"println",

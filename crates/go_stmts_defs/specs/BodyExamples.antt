@@ -1,7 +1,9 @@
 -- Worked examples of typed trees: what is left of a declaration, and a function with most sorts of statements.
-use Rattle.std.specs.Prelude.{◌≡◌, ℕ, suc, true, false, List, [], ◌∷◌, codes, pos, Option, Some, None, Result, Ok, Err}
+use Rattle.std.specs.Prelude.{◌≡◌, ℕ, suc, true, false, List, [], ◌∷◌, map, codes, pos, Option, Some, None, Result, Ok, Err}
+use Rattle.std.specs.Option.{option_map}
 use Rattle.go_ints.specs.declared.kinds.Kind.TheVariants as integer_kind
 use Rattle.go_constants.specs.declared.values.Const.TheVariants as const
+use Rattle.go_grammar.specs.declared.kind.Arithmetic.TheVariants as arithmetic
 use Rattle.go_grammar.specs.declared.kind.Comparison.TheVariants as comparison
 use Rattle.go_grammar.specs.declared.kind.Kind.TheVariants as kind
 use Rattle.go_grammar.specs.declared.kind.Operator.TheVariants as operator
@@ -20,9 +22,9 @@ use Rattle.go_typed.specs.Funcs.{is_tiled, is_whole}
 use Rattle.go_typed.specs.Trees.{Sort, typed, Typeds}
 use Rattle.go_typed.specs.Trees as trees
 use Rattle.go_exprs_rules.specs.Settling.{Part}
-use Rattle.go_exprs_rules.specs.Sorts.{int}
+use Rattle.go_exprs_rules.specs.Sorts.{int, rune}
 use Rattle.go_exprs_rules.specs.Scopes.{free}
-use Rattle.go_exprs_rules.specs.Sentences.{Word, word, mark, predeclared_word, local_word, name, number, infix_of, s_word}
+use Rattle.go_exprs_rules.specs.Sentences.{Word, word, mark, predeclared_word, local_word, name, number, character, infix_of, u_word, x8_word, s_word}
 use Rattle.go_exprs_rules.specs.Sentences as expressions
 use Rattle.go_stmts_defs.specs.Bodies.{token_locals, body_answer_at}
 use Rattle.go_stmts_defs.specs.Reading.{Reading, read, reading}
@@ -93,6 +95,10 @@ small =
     (moved 2 (node kind.FunctionDeclaration 0 14 (two (node kind.Signature 2 10 (two (node kind.Parameters 2 9 (two (parameter 3) (parameter 6))) (name 9)))
     (block 10 14 (one (node kind.Return 11 13 (one (node kind.ExpressionList 12 13 (one (name 12))))))))))
 
+-- what the parts of a node stand for
+abbrev pub part_sorts : Part → List (Option (Sort TypeTree))
+part_sorts x = map (option_map trees.sort_of) (trees.list_of (trees.parts_of x))
+
 pub record BodyExamples : Type 0 where
   -- what its locals stand for
   pub locals : stated words function ≡ Ok (trees.Value int ∷ trees.Value int ∷ trees.OpenConstant (const.Int (pos 2) false) ∷ trees.Value int ∷ [])
@@ -114,6 +120,21 @@ pub record BodyExamples : Type 0 where
       tree_of (mark ∷ p_word ∷ mark ∷ word (codes "1") ∷ [])
       (node (kind.Declaration declaring.Constant) 0 4 (one (node (kind.Specification declaring.Constant) 1 4 (two (node kind.NameList 1 2 (one (declared_name 1))) (values 2 4 (one (number 3)))))))
       ≡ labelled form.Constants 0 4 trees.Nothing (trees.more (labelled (form.Declared 21) 1 2 (trees.OpenConstant (const.Int (pos 1) false)) trees.none) trees.none)
+  -- for x8 = range 3 { }
+  pub number_of_target :
+      part_sorts (tree_of (mark ∷ x8_word ∷ mark ∷ mark ∷ word (codes "3") ∷ mark ∷ mark ∷ [])
+      (node kind.For 0 7 (two (node kind.AssigningRange 1 5 (two (node kind.Targets 1 3 (one (node kind.ExpressionList 1 2 (one (name 1))))) (number 4))) (block 5 7 none))))
+      ≡ Some (trees.Value int8) ∷ Some (trees.Constant int8 (const.Int (pos 3) false)) ∷ Some trees.Nothing ∷ []
+  -- for p := range 'e' { }
+  pub rune_of_name :
+      part_sorts (tree_of (mark ∷ p_word ∷ mark ∷ mark ∷ word (codes "'e'") ∷ mark ∷ mark ∷ [])
+      (node kind.For 0 7 (two (node kind.DefiningRange 1 5 (two (node kind.NewNames 1 3 (one (node kind.ExpressionList 1 2 (one (name 1))))) (character 4))) (block 5 7 none))))
+      ≡ Some (trees.Value rune) ∷ Some (trees.Constant rune (const.Int (pos 101) true)) ∷ Some trees.Nothing ∷ []
+  -- for range 1 << u { }
+  pub number_alone :
+      part_sorts (tree_of (mark ∷ mark ∷ word (codes "1") ∷ mark ∷ u_word ∷ mark ∷ mark ∷ [])
+      (node kind.For 0 7 (two (node kind.Range 1 5 (one (infix_of (operator.Compute arithmetic.ShiftLeft) (number 2) (name 4)))) (block 5 7 none))))
+      ≡ Some (trees.Value int) ∷ Some trees.Nothing ∷ []
   pub signature : said (λ f. f.signature) small ≡ Some (types.function (row (int8 ∷ int8 ∷ [])) (row (int8 ∷ [])))
   pub parameters : said (λ f. f.parameters) small ≡ Some (Some 0 ∷ None ∷ [])
   pub sorts : said (λ f. f.locals) small ≡ Some (trees.Value int8 ∷ [])

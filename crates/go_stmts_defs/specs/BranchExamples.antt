@@ -47,8 +47,13 @@ pub record BranchExamples : Type 0 where
       (node kind.Switch 0 7 (two (node kind.LateTag 1 2 (skip none)) (node kind.Case 3 6 (one (node kind.ExpressionList 4 5 (one (name 4)))))))
       ≡ refused code.Operands 4 5
   -- for p := range n { p++ }
-  pub no_range :
+  pub numbers :
       stated (mark ∷ p_word ∷ mark ∷ mark ∷ n_word ∷ mark ∷ p_word ∷ mark ∷ mark ∷ [])
+      (node kind.For 0 9 (two (node kind.DefiningRange 1 5 (two (node kind.NewNames 1 3 (one (node kind.ExpressionList 1 2 (one (name 1))))) (name 4))) (block 5 9 (one (node (kind.StepStatement step.Increment) 6 8 (one (name 6)))))))
+      ≡ one_declared (sort.Value int)
+  -- for p := range b { p++ }
+  pub no_range :
+      stated (mark ∷ p_word ∷ mark ∷ mark ∷ b_word ∷ mark ∷ p_word ∷ mark ∷ mark ∷ [])
       (node kind.For 0 9 (two (node kind.DefiningRange 1 5 (two (node kind.NewNames 1 3 (one (node kind.ExpressionList 1 2 (one (name 1))))) (name 4))) (block 5 9 (one (node (kind.StepStatement step.Increment) 6 8 (one (name 6)))))))
       ≡ refused code.Operands 4 5
   -- for 1 = range s { }

@@ -13,7 +13,7 @@ use Rattle.go_tree.specs.declared.object.Predeclared.TheVariants as predeclared
 use Rattle.go_types.specs.Trees.{boolean, text, integer, declared}
 use Rattle.go_typed.specs.Trees as sort
 use Rattle.go_exprs_rules.specs.Sorts.{int}
-use Rattle.go_exprs_rules.specs.Sentences.{word, mark, predeclared_word, name, number, string, character, infix_of, n_word, x8_word, b_word, t_word, s_word, k_word, two_word, do_word}
+use Rattle.go_exprs_rules.specs.Sentences.{word, mark, predeclared_word, name, number, string, character, infix_of, n_word, u_word, x8_word, b_word, t_word, s_word, k_word, two_word, do_word}
 use Rattle.go_stmts_defs.specs.Sentences.{stated, stated_in, refused, good, one_declared, two_declared, one, two, assignment, definition, statement, block, declared_name, values, p_word, q_word, r_word}
 
 -- Assignment statements
@@ -193,11 +193,61 @@ pub record StatementExamples : Type 0 where
       stated (mark ∷ mark ∷ mark ∷ b_word ∷ mark ∷ mark ∷ [])
       (node kind.Switch 0 6 (skip (one (node kind.Case 2 5 (one (node kind.ExpressionList 3 4 (one (name 3))))))))
       ≡ good
-  -- for _, p := range 'e' { x8 = p }
+  -- for p := range 'e' { x8 = p }
   pub range_of_rune :
+      stated (mark ∷ p_word ∷ mark ∷ mark ∷ word (codes "'e'") ∷ mark ∷ x8_word ∷ mark ∷ p_word ∷ mark ∷ [])
+      (node kind.For 0 10 (two (node kind.DefiningRange 1 5 (two (node kind.NewNames 1 3 (one (node kind.ExpressionList 1 2 (one (name 1))))) (character 4))) (block 5 10 (one (assignment 6 8 9 (one (name 6)) (one (name 8)))))))
+      ≡ refused code.Assignable 8 9
+  -- for _, p := range 'e' { n = p }
+  pub second_of_rune :
+      stated (mark ∷ mark ∷ mark ∷ p_word ∷ mark ∷ mark ∷ word (codes "'e'") ∷ mark ∷ n_word ∷ mark ∷ p_word ∷ mark ∷ [])
+      (node kind.For 0 12 (two (node kind.DefiningRange 1 7 (two (node kind.NewNames 1 5 (one (node kind.ExpressionList 1 4 (two (name 1) (name 3))))) (character 6))) (block 7 12 (one (assignment 8 10 11 (one (name 8)) (one (name 10)))))))
+      ≡ refused code.Count 0 12
+  -- for _, p := range 'e' { x8 = p }
+  pub second_number :
       stated (mark ∷ mark ∷ mark ∷ p_word ∷ mark ∷ mark ∷ word (codes "'e'") ∷ mark ∷ x8_word ∷ mark ∷ p_word ∷ mark ∷ [])
       (node kind.For 0 12 (two (node kind.DefiningRange 1 7 (two (node kind.NewNames 1 5 (one (node kind.ExpressionList 1 4 (two (name 1) (name 3))))) (character 6))) (block 7 12 (one (assignment 8 10 11 (one (name 8)) (one (name 10)))))))
-      ≡ refused code.Operands 6 7
+      ≡ refused code.Assignable 10 11
+  -- for n, x8 = range 3 { }
+  pub two_numbers :
+      stated (mark ∷ n_word ∷ mark ∷ x8_word ∷ mark ∷ mark ∷ word (codes "3") ∷ mark ∷ mark ∷ [])
+      (node kind.For 0 9 (two (node kind.AssigningRange 1 7 (two (node kind.Targets 1 5 (one (node kind.ExpressionList 1 4 (two (name 1) (name 3))))) (number 6))) (block 7 9 none)))
+      ≡ refused code.Count 0 9
+  -- for x8 = range 127 { }
+  pub number_for_target :
+      stated (mark ∷ x8_word ∷ mark ∷ mark ∷ word (codes "127") ∷ mark ∷ mark ∷ [])
+      (node kind.For 0 7 (two (node kind.AssigningRange 1 5 (two (node kind.Targets 1 3 (one (node kind.ExpressionList 1 2 (one (name 1))))) (number 4))) (block 5 7 none)))
+      ≡ good
+  -- for x8 = range 300 { }
+  pub wide_for_target :
+      stated (mark ∷ x8_word ∷ mark ∷ mark ∷ word (codes "300") ∷ mark ∷ mark ∷ [])
+      (node kind.For 0 7 (two (node kind.AssigningRange 1 5 (two (node kind.Targets 1 3 (one (node kind.ExpressionList 1 2 (one (name 1))))) (number 4))) (block 5 7 none)))
+      ≡ refused code.Representable 4 5
+  -- for t = range 3 { }
+  pub number_for_text :
+      stated (mark ∷ t_word ∷ mark ∷ mark ∷ word (codes "3") ∷ mark ∷ mark ∷ [])
+      (node kind.For 0 7 (two (node kind.AssigningRange 1 5 (two (node kind.Targets 1 3 (one (node kind.ExpressionList 1 2 (one (name 1))))) (number 4))) (block 5 7 none)))
+      ≡ refused code.Assignable 4 5
+  -- for x8 = range n { }
+  pub other_number :
+      stated (mark ∷ x8_word ∷ mark ∷ mark ∷ n_word ∷ mark ∷ mark ∷ [])
+      (node kind.For 0 7 (two (node kind.AssigningRange 1 5 (two (node kind.Targets 1 3 (one (node kind.ExpressionList 1 2 (one (name 1))))) (name 4))) (block 5 7 none)))
+      ≡ refused code.Assignable 4 5
+  -- for n = range 1 << u { }
+  pub shift_for_target :
+      stated (mark ∷ n_word ∷ mark ∷ mark ∷ word (codes "1") ∷ mark ∷ u_word ∷ mark ∷ mark ∷ [])
+      (node kind.For 0 9 (two (node kind.AssigningRange 1 7 (two (node kind.Targets 1 3 (one (node kind.ExpressionList 1 2 (one (name 1))))) (infix_of (operator.Compute arithmetic.ShiftLeft) (number 4) (name 6)))) (block 7 9 none)))
+      ≡ good
+  -- for x8 = range 1 << u { }
+  pub shift_for_other :
+      stated (mark ∷ x8_word ∷ mark ∷ mark ∷ word (codes "1") ∷ mark ∷ u_word ∷ mark ∷ mark ∷ [])
+      (node kind.For 0 9 (two (node kind.AssigningRange 1 7 (two (node kind.Targets 1 3 (one (node kind.ExpressionList 1 2 (one (name 1))))) (infix_of (operator.Compute arithmetic.ShiftLeft) (number 4) (name 6)))) (block 7 9 none)))
+      ≡ refused code.Assignable 4 7
+  -- for _ = range 1 << 70 { }
+  pub wide_number :
+      stated (mark ∷ mark ∷ mark ∷ mark ∷ word (codes "1") ∷ mark ∷ word (codes "70") ∷ mark ∷ mark ∷ [])
+      (node kind.For 0 9 (two (node kind.AssigningRange 1 7 (two (node kind.Targets 1 3 (one (node kind.ExpressionList 1 2 (one (name 1))))) (infix_of (operator.Compute arithmetic.ShiftLeft) (number 4) (number 6)))) (block 7 9 none)))
+      ≡ refused code.Representable 4 7
   -- for p, q := range t { }
   pub range_of_text :
       stated (mark ∷ p_word ∷ mark ∷ q_word ∷ mark ∷ mark ∷ t_word ∷ mark ∷ mark ∷ [])

@@ -1,5 +1,5 @@
 -- The rules of statements and declarations: which fail, by the parts as they are laid out, and what the parts take.
-use Rattle.std.specs.Prelude.{ℕ, zero, suc, ◌-◌, ◌==◌, Bool, true, false, ◌&&◌, ◌||◌, not, if◌then◌else◌, List, [], ◌∷◌, ◌++◌, length, take, drop, map, replicate, Option, Some, None, is_some}
+use Rattle.std.specs.Prelude.{ℕ, zero, suc, ◌-◌, ◌==◌, Bool, true, false, ◌&&◌, ◌||◌, not, if◌then◌else◌, nat_lt, List, [], ◌∷◌, ◌++◌, length, take, drop, map, replicate, Option, Some, None, is_some}
 use Rattle.go_base.specs.declared.fault.FaultCode.TheVariants as code
 use Rattle.go_grammar.specs.declared.kind.Comparison.TheVariants as comparison
 use Rattle.go_grammar.specs.declared.kind.Kind.{Kind}
@@ -15,8 +15,9 @@ use Rattle.go_typed.specs.declared.form.Form.TheVariants as form
 use Rattle.go_typed.specs.Trees.{Typed, typed, Typeds, none, more, skip, form_of, first_of, last_of, sort_of}
 use Rattle.go_typed.specs.Trees as sort
 use Rattle.go_exprs_rules.specs.declared.fault.TypeFault.{TypeFault}
+use Rattle.go_exprs_rules.specs.declared.family.Family.TheVariants as family
 use Rattle.go_exprs_rules.specs.Faults.{fault_at}
-use Rattle.go_exprs_rules.specs.Sorts.{Stands, own_type, is_unknown, is_nil, is_truth, is_whole, is_text, form_of_value, element_of, int, rune}
+use Rattle.go_exprs_rules.specs.Sorts.{Stands, own_type, value_type, is_unknown, is_nil, is_truth, same_family, family_of_const, is_whole, is_text, form_of_value, element_of, int, rune}
 use Rattle.go_exprs_rules.specs.Settling.{Part, default, as_type, given, at_part, undefaulted}
 use Rattle.go_exprs_rules.specs.Operators.{operation_failing, operation_takes, compared_failing}
 use Rattle.go_exprs_rules.specs.TypeNodes.{part_type, exceeds}
@@ -24,7 +25,7 @@ use Rattle.go_exprs_rules.specs.Tables.{Parts, present, on_one, on_two, is_judge
 use Rattle.go_stmts_defs.specs.Frames.{Frame, Locals, rights_of, declared_type, with_own_right}
 use Rattle.go_stmts_defs.specs.Targets.{is_variable, is_target, is_statement_call}
 use Rattle.go_stmts_defs.specs.Ending.{terminates}
-use Rattle.go_stmts_defs.specs.Assigning.{Wanted, Taking, takes, stands, rests, type_or_default, at_nil, assignment_failing, constants_failing, declared_names, values_take, constants_take}
+use Rattle.go_stmts_defs.specs.Assigning.{Wanted, Taking, takes, stands, rests, type_or_default, at_nil, unassigned, assignment_failing, constants_failing, declared_names, values_take, constants_take}
 use Rattle.go_stmts_defs.specs.Laying.{type_number}
 
 abbrev pub each : (Part → List TypeFault) → List Part → List TypeFault
@@ -126,13 +127,21 @@ tag_at tag x = made form.Literal (first_of x) (last_of x) tag [] []
 abbrev pub case_failing : Rights → Stands → Part → List TypeFault
 case_failing rights tag x = if is_unknown tag then [] else compared_failing rights comparison.Equal (first_of x) (last_of x) (tag_at tag x) x
 
--- what the values of a range clause are: positions, and elements or characters
+-- the values of a range clause over an array or a slice: positions and elements
 abbrev pub element_types : Option TypeTree → Option (List TypeTree)
 element_types (Some t) = Some (int ∷ t ∷ [])
 element_types None = None
 
+-- over an integer: numbers of its type, or of an untyped one's default type; a second name counts as an `int`
+abbrev pub number_types : Option TypeTree → Option (List TypeTree)
+number_types (Some t) = Some (t ∷ int ∷ [])
+number_types None = None
+
+-- The values of a range clause; over a string positions and characters (Go specification: For statements with range clause).
 abbrev pub range_types : Rights → Part → Option (List TypeTree)
-range_types rights x = if is_text rights (sort_of x) then Some (int ∷ rune ∷ []) else element_types (element_of (form_of_value rights (sort_of x)))
+range_types rights x =
+    if is_text rights (sort_of x) then Some (int ∷ rune ∷ [])
+    else (if is_whole rights (sort_of x) then number_types (value_type (sort_of x)) else element_types (element_of (form_of_value rights (sort_of x))))
 
 abbrev pub element_unassigned : Rights → Part → Option TypeTree → TypeTree → List TypeFault
 element_unassigned rights x None r = []
@@ -142,23 +151,44 @@ abbrev pub elements_unassigned : Rights → Part → List Part → List TypeTree
 elements_unassigned rights x (t ∷ ts) (r ∷ rs) = element_unassigned rights x (target_type t) r ++ elements_unassigned rights x ts rs
 elements_unassigned rights x _ _ = []
 
+-- the type of the target that a range clause over an integer has, if it has one
+abbrev pub number_target : List Part → Option TypeTree
+number_target [] = None
+number_target (t ∷ ts) = target_type t
+
+-- whether it is an untyped integer or rune constant
+abbrev pub is_open_number : Stands → Bool
+is_open_number (sort.OpenConstant c) = same_family family.Integers (family_of_const c)
+is_open_number x = false
+
+-- an integer x that has a type, or takes its default type, is given to these targets: its numbers have the types rs
+abbrev pub number_unassigned : Rights → List Part → Part → List TypeTree → List TypeFault
+number_unassigned rights ts x rs = undefaulted rights x ++ elements_unassigned rights x ts rs
+
+-- An integer x is given to at most one target. An untyped constant takes its type; anything else has a type, or takes its default
+-- type. The statement's place is from i up to j.
+abbrev pub numbers_unassigned : Rights → ℕ → ℕ → List Part → Part → List TypeTree → List TypeFault
+numbers_unassigned rights i j ts x rs =
+    if nat_lt 1 (length ts) then fault_at code.Count i j
+    else (if is_open_number (sort_of x) then unassigned rights (number_target ts) x else number_unassigned rights ts x rs)
+
 -- the value x of a range clause is given to these targets
-abbrev pub range_assigned : Rights → List Part → Part → Option (List TypeTree) → List TypeFault
-range_assigned rights ts x None = at_part code.Operands x
-range_assigned rights ts x (Some rs) = elements_unassigned rights x ts rs
+abbrev pub range_assigned : Rights → ℕ → ℕ → List Part → Part → Option (List TypeTree) → List TypeFault
+range_assigned rights i j ts x None = at_part code.Operands x
+range_assigned rights i j ts x (Some rs) = if is_whole rights (sort_of x) then numbers_unassigned rights i j ts x rs else elements_unassigned rights x ts rs
 
 abbrev pub targets_failing : Rights → Bool → List Part → List TypeFault
 targets_failing rights true ts = []
 targets_failing rights false ts = each (not_a_target rights) ts
 
 -- targets, the value, and the block
-abbrev pub range_failing : Rights → Bool → List Part → List Part → List TypeFault
-range_failing rights defines ts (x ∷ xs) = targets_failing rights defines ts ++ range_assigned rights ts x (range_types rights x)
-range_failing rights defines ts [] = []
+abbrev pub range_failing : Rights → ℕ → ℕ → Bool → List Part → List Part → List TypeFault
+range_failing rights i j defines ts (x ∷ xs) = targets_failing rights defines ts ++ range_assigned rights i j ts x (range_types rights x)
+range_failing rights i j defines ts [] = []
 
-abbrev pub loop_failing : Rights → Form → Parts → List TypeFault
-loop_failing rights (form.Range defines n) ys = range_failing rights defines (take n (present ys)) (drop n (present ys))
-loop_failing rights f ys = second_condition rights ys
+abbrev pub loop_failing : Rights → Form → ℕ → ℕ → Parts → List TypeFault
+loop_failing rights (form.Range defines n) i j ys = range_failing rights i j defines (take n (present ys)) (drop n (present ys))
+loop_failing rights f i j ys = second_condition rights ys
 
 -- ---- functions (Function declarations, Terminating statements)
 
@@ -194,7 +224,7 @@ failing s (kind.Specification declaring.Constant) f i j ys = constants_counted (
 failing s (kind.Specification declaring.Type) f i j ys = on_two [] (λ n x. type_failing s i x) ys
 failing s kind.Return f i j ys = assignment_failing (rights_of s) i j (map (λ t. Some t) s.results) (present ys)
 failing s kind.If f i j ys = second_condition (rights_of s) ys
-failing s kind.For f i j ys = loop_failing (rights_of s) f ys
+failing s kind.For f i j ys = loop_failing (rights_of s) f i j ys
 failing s kind.Switch f i j ys = second_tag (rights_of s) ys
 failing s kind.Case f i j ys = each (case_failing (rights_of s) s.tag) (take (names_in f) (present ys))
 failing s kind.FunctionDeclaration f i j ys = on_one [] (function_failing s.results j) ys
@@ -241,9 +271,25 @@ abbrev pub range_stands : Rights → ℕ → Option Part → List Taking
 range_stands rights n (Some x) = elements_stand n (range_types rights x)
 range_stands rights n None = []
 
-abbrev pub loop_takes : Form → List Taking
-loop_takes (form.Range defines n) = rest n ++ takes default ∷ []
-loop_takes f = rests ∷ takes (as_type boolean) ∷ []
+abbrev pub is_first_number : Parts → Bool
+is_first_number (Some x ∷ ys) = is_open_number (sort_of x)
+is_first_number ys = false
+
+abbrev pub first_type : Parts → Option TypeTree
+first_type (Some t ∷ ys) = target_type t
+first_type ys = None
+
+-- the type of the first of n targets, if there is one that has one
+abbrev pub target_there : ℕ → Parts → Option TypeTree
+target_there n ys = if nat_lt 0 n then first_type ys else None
+
+-- of the value of a range clause behind n targets: an untyped integer or rune constant takes the type of the target, if it has one
+abbrev pub operand_takes : ℕ → Parts → Taking
+operand_takes n ys = if is_first_number (drop n ys) then type_or_default (target_there n ys) else takes default
+
+abbrev pub loop_takes : Form → Parts → List Taking
+loop_takes (form.Range defines n) ys = rest n ++ operand_takes n ys ∷ []
+loop_takes f ys = rests ∷ takes (as_type boolean) ∷ []
 
 abbrev pub taking : Frame → Kind → Form → Parts → List Taking
 taking s (kind.OperatorAssignment o) f ys = on_two [] (λ x y. map takes (operation_takes (rights_of s) (operator.Compute o) (sort_of x) (sort_of y))) ys
@@ -253,7 +299,7 @@ taking s (kind.Specification declaring.Variable) f ys = variables_take (rights_o
 taking s (kind.Specification declaring.Constant) f ys = specified_constants (names_in f) (type_there (names_in f) ys) (values_there (names_in f) ys)
 taking s kind.Return f ys = returned s.results (present ys)
 taking s kind.If f ys = rests ∷ takes (as_type boolean) ∷ []
-taking s kind.For f ys = loop_takes f
+taking s kind.For f ys = loop_takes f ys
 taking s kind.DefiningRange f ys = range_stands (rights_of s) (length ys - 1) (last_part (present ys))
 taking s kind.Switch f ys = rests ∷ takes default ∷ []
 taking s kind.Case f ys = replicate (names_in f) (type_or_default (own_type s.tag))

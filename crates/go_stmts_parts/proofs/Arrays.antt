@@ -17,7 +17,7 @@ use Rattle.go_types.specs.Tables.{Table, IsTable, HasShape, type_of, tree_of}
 use Rattle.go_types.specs.Verdicts.{kept_count}
 use Rattle.go_types.specs.declared.shape.Shape.{Shape}
 use Rattle.go_types.specs.declared.shape.Shape.TheVariants as shape
-use Rattle.go_types.proofs.NumberedTypes.{type_of_shape}
+use Rattle.go_types.proofs.Public.{type_of_shape}
 use Rattle.go_exprs_rules.specs.TypeNodes.{most_scalars}
 use Rattle.go_stmts_parts.specs.Late.{is_array, is_array_shape, LateArray, waiting, late_arrays, all_late_arrays, too_large, all_too_large}
 

@@ -5,7 +5,7 @@ use Rattle.std.specs.Option.{option_map}
 use Rattle.go_types.specs.Trees.{declared}
 use Rattle.go_types.specs.Tables.{Table, IsTable, type_of, rights_of}
 use Rattle.go_types.specs.Changes.{IsOpen, defined, rights_with}
-use Rattle.go_types.proofs.Underlyings.{declared_type}
+use Rattle.go_types.proofs.Public.{declared_type}
 use Rattle.go_stmts_defs.specs.Frames.{placed}
 
 placed_map : {A B : Type 0} (f : A → B) (n : ℕ) (x : A) (xs : List A) → map f (slice_set xs n x) ≡ placed n (f x) (map f xs)

@@ -63,7 +63,7 @@ parts_rest_known k ns m h = subst (AllKnown k) (sym (all_left ns m)) (parts_left
 -- ---- what stands behind the names of a specification
 
 module _ {A : Type 0} (f : A → Option Part) where
-  mapped_behind : (n : ℕ) (ps : List A) → map f (drop n ps) ≡ drop n (map f ps)
+  pub mapped_behind : (n : ℕ) (ps : List A) → map f (drop n ps) ≡ drop n (map f ps)
   mapped_behind zero [] = refl
   mapped_behind (suc n) [] = refl
   mapped_behind zero (p ∷ ps) = refl

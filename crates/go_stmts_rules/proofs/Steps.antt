@@ -100,11 +100,11 @@ two_elements rights x r s t (a ∷ b ∷ ns) n m h e g =
     ∙ ap (λ z. earlier (least one) (first_of_two rights x t z s)) g
     ∙ sym (least_append one (two ++ rest) ∙ ap (earlier (least one)) (least_append two rest ∙ ap (λ z. earlier (least two) (least z)) (no_elements rights x (shown t ns)) ∙ earlier_none (least two)))
 
-pub range_over : (rights : Rights) (defines : Bool) (ts : List Part) (t : Table) (ns : List (Bor TypedNode)) (n : Bor TypedNode) → 1 ≤ length ns → n ≡ get_or ns 0 n
-    → earlier (least (targets_failing rights defines ts)) (least (range_assigned rights ts (seen t n.now) (range_types rights (seen t n.now)))) ≡ least (range_failing rights defines ts (shown t ns))
-range_over rights defines ts t ns n h e =
+pub range_over : (rights : Rights) (i j : ℕ) (defines : Bool) (ts : List Part) (t : Table) (ns : List (Bor TypedNode)) (n : Bor TypedNode) → 1 ≤ length ns → n ≡ get_or ns 0 n
+    → earlier (least (targets_failing rights defines ts)) (least (range_assigned rights i j ts (seen t n.now) (range_types rights (seen t n.now)))) ≡ least (range_failing rights i j defines ts (shown t ns))
+range_over rights i j defines ts t ns n h e =
     let x = seen t n.now in
-    sym (ap (λ ms. least (range_failing rights defines ts (shown t ms))) (list_more ns n h e) ∙ least_append (targets_failing rights defines ts) (range_assigned rights ts x (range_types rights x)))
+    sym (ap (λ ms. least (range_failing rights i j defines ts (shown t ms))) (list_more ns n h e) ∙ least_append (targets_failing rights defines ts) (range_assigned rights i j ts x (range_types rights x)))
 
 pub variables_over : (rights : Rights) (i j n : ℕ) (o : Option TypeTree) (t : Table) (ns : List (Bor TypedNode)) → 1 ≤ length ns → assignment_failing rights i j (replicate n o) (shown t ns) ≡ variables_failing rights i j n o (shown t ns)
 variables_over rights i j n o t [] h = absurd (omega (arith, h))

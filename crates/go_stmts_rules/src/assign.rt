@@ -74,7 +74,7 @@ pub fn at_nil(types: &Types, value: &TypedNode) -> Option<TypeFault>
 }
 
 /// The fault of a value that is given to a variable of a type, or to one that takes its type of the value.
-fn unassigned(
+pub fn unassigned(
     types: &Types,
     basics: Basics,
     wanted: Option<TypeId>,

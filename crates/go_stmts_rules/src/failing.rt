@@ -251,7 +251,7 @@ pub fn fault(
         }
         Kind::Return => returned(alloc, types, around, place, parts),
         Kind::If => Ok(second_condition(types, parts)),
-        Kind::For => loop_fault(alloc, types, basics, form, parts),
+        Kind::For => loop_fault(alloc, types, basics, place, form, parts),
         Kind::Switch => Ok(second_tag(types, basics, parts)),
         Kind::Case => case(alloc, types, around, names_in(form), parts),
         Kind::FunctionDeclaration => Ok(function_fault(types, around.results, place, parts)),

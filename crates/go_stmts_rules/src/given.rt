@@ -22,6 +22,7 @@ use crate::failing::names_in;
 use crate::names::{push_constants, push_elements, push_names};
 use crate::nodes::{behind, front};
 use crate::operations::operands_take;
+use crate::ranges::operand_take;
 use crate::taking::Taking;
 use crate::values::{
     push, push_each, push_rests, push_returned, push_same, push_values, type_or_default,
@@ -201,17 +202,20 @@ fn looped(
     types: &Types,
     basics: Basics,
     form: Form,
+    parts: Parts<'_>,
     takings: &mut Vec<Taking>,
 ) -> Result<(), Memory>
     requires basics { AreBasics types.now basics }
+    requires parts { AllKnown (length types.now.shapes) parts.now }
     requires takings { All (KnownTaking (length types.now.shapes)) takings.old.items }
-    ensures tree { OnOk result (map (taking_seen types.now) takings.new.items ≡ map (taking_seen types.now) takings.old.items ++ rules.loop_takes form) }
+    ensures tree { OnOk result (map (taking_seen types.now) takings.new.items ≡ map (taking_seen types.now) takings.old.items ++ rules.loop_takes form (map (option_map (seen types.now)) parts.now)) }
     ensures known { OnOk result (All (KnownTaking (length types.now.shapes)) takings.new.items) }
 {
     match form {
         Form::Range { targets, .. } => {
             push_same(types, Take::Stay, targets as usize, takings)?;
-            push(types, Taking::Takes(Take::Default), takings)?;
+            let take = operand_take(types, parts, targets);
+            push(types, Taking::Takes(take), takings)?;
             Ok(())
         }
         _ => headed(types, Take::As(basics.boolean), takings),
@@ -307,7 +311,7 @@ fn push_takings(
         }
         Kind::Return => returned(alloc, types, around, parts, takings),
         Kind::If => headed(types, Take::As(basics.boolean), takings),
-        Kind::For => looped(types, basics, form, takings),
+        Kind::For => looped(types, basics, form, parts, takings),
         Kind::DefiningRange => ranged(alloc, types, basics, parts, takings),
         Kind::Switch => headed(types, Take::Default, takings),
         Kind::Case => compared(types, around, names_in(form), takings),

@@ -17,35 +17,13 @@ use crate::assign::whole_results;
 use crate::ranges::range_types;
 use crate::taking::Taking;
 use crate::values::push;
-use crate::wanted::{push_wanted, result_types};
+use crate::wanted::{push_wanted, result_types, value_type};
 use go_base::Memory;
 use go_exprs_rules::Basics;
-use go_exprs_rules::basics::default_type;
 use go_exprs_rules::nodes::sort_of;
-use go_exprs_rules::sorts::{const_kind, untyped_kind};
 use go_typed::{ConstantType, Sort, TypedNode};
 use go_types::{TypeId, Types};
 use std::alloc::{AllocError, Global};
-
-/// The type of a value, or its default type.
-fn value_type(types: &Types, basics: Basics, sort: &Sort) -> Option<TypeId>
-    requires basics { AreBasics types.now basics }
-    requires sort { KnownSort (length types.now.shapes) sort.now }
-    ensures tree { option_map (type_of types.now.shapes) result ≡ value_type (sort_seen types.now sort.now) }
-    ensures known { KnownWanted (length types.now.shapes) result }
-{
-    match sort {
-        Sort::Value(of) => Some(*of),
-        Sort::Constant(of, _) => Some(of.id()),
-        Sort::Open(untyped) => Some(default_type(types, basics, untyped_kind(*untyped))),
-        Sort::OpenConstant(constant) => Some(default_type(
-            types,
-            basics,
-            const_kind(constant.get()),
-        )),
-        _ => None,
-    }
-}
 
 /// The types of values, each by itself.
 fn own_types(
@@ -263,10 +241,10 @@ pub fn push_elements(
         return push_unknown(types, count, takings);
     };
     if count > 0 {
-        push(types, Taking::Stands(Sort::Value(pair.position)), takings)?;
+        push(types, Taking::Stands(Sort::Value(pair.first)), takings)?;
     }
     if count > 1 {
-        push(types, Taking::Stands(Sort::Value(pair.element)), takings)?;
+        push(types, Taking::Stands(Sort::Value(pair.second)), takings)?;
     }
     Ok(())
 }

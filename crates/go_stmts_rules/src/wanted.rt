@@ -1,20 +1,24 @@
-//! The types of variables to which values are given.
+//! The types of values, and of variables to which they are given.
 ghost use Rattle.std.specs.Prelude.{◌≡◌, ◌++◌, ◌∷◌, ◌<◌, [], Some, IfOk, IfSome, OnOk, length, map, replicate};
 ghost use Rattle.std.specs.List.{AllByRecursion};
 ghost use Rattle.std.specs.Option.{option_map};
 ghost use Rattle.go_types.specs.Tables.{type_of};
 ghost use Rattle.go_stmts_defs.specs.Frames.{declared_type};
 ghost use Rattle.go_stmts_defs.specs.Rules.{target_type, known_type};
-ghost use Rattle.go_typed.specs.Views.{seen, Known};
+ghost use Rattle.go_typed.specs.Views.{seen, sort_seen, Known, KnownSort};
+ghost use Rattle.go_exprs_rules.specs.Seen.{AreBasics};
+ghost use Rattle.go_exprs_rules.specs.Sorts.{value_type};
 ghost use Rattle.go_typed.specs.Scopes.{KnownLocals};
 ghost use Rattle.go_exprs_calls.specs.Shown.{shown, AllShownKnown};
 ghost use Rattle.go_stmts_rules.specs.Seen.{wanted_seen, KnownWanted, types_seen, locals_in};
 
 use go_base::Memory;
+use go_exprs_rules::Basics;
+use go_exprs_rules::basics::default_type;
 use go_exprs_rules::nodes::sort_of;
-use go_exprs_rules::sorts::own_type;
+use go_exprs_rules::sorts::{const_kind, own_type, untyped_kind};
 use go_stmts_parts::nodes::form_of;
-use go_typed::{Form, Locals, TypedNode};
+use go_typed::{Form, Locals, Sort, TypedNode};
 use go_types::{TypeId, Types};
 use std::alloc::{AllocError, Global};
 
@@ -34,8 +38,28 @@ pub fn push_wanted(
     Ok(())
 }
 
+/// The type of a value, or its default type.
+pub fn value_type(types: &Types, basics: Basics, sort: &Sort) -> Option<TypeId>
+    requires basics { AreBasics types.now basics }
+    requires sort { KnownSort (length types.now.shapes) sort.now }
+    ensures tree { option_map (type_of types.now.shapes) result ≡ value_type (sort_seen types.now sort.now) }
+    ensures known { KnownWanted (length types.now.shapes) result }
+{
+    match sort {
+        Sort::Value(of) => Some(*of),
+        Sort::Constant(of, _) => Some(of.id()),
+        Sort::Open(untyped) => Some(default_type(types, basics, untyped_kind(*untyped))),
+        Sort::OpenConstant(constant) => Some(default_type(
+            types,
+            basics,
+            const_kind(constant.get()),
+        )),
+        _ => None,
+    }
+}
+
 /// The type of what is assigned to, if it has one.
-fn target_type(types: &Types, target: &TypedNode) -> Option<TypeId>
+pub fn target_type(types: &Types, target: &TypedNode) -> Option<TypeId>
     requires { Known (length types.now.shapes) target.now }
     ensures tree { option_map (type_of types.now.shapes) result ≡ target_type (seen types.now target.now) }
     ensures known { KnownWanted (length types.now.shapes) result }

@@ -1,7 +1,7 @@
 -- A file has one lexing, or one fault.
 use Rattle.std.proofs.Common.{◌≡◌, ℕ, ⊎_elim, List, ap, ◌∙◌, subst, inl, inr, Result, Ok, Err}
 use Rattle.go_base.specs.Gives.{Unless, Meets}
-use Rattle.go_base.proofs.Gives.{unless_map}
+use Rattle.go_base.proofs.Public.{unless_map}
 use Rattle.go_base.specs.declared.Span.{Span}
 use Rattle.go_base.specs.declared.Fault.{Fault}
 use Rattle.go_tokens.specs.declared.token.Token.{Token}

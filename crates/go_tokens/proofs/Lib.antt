@@ -16,3 +16,4 @@ pub mod Rows
 pub mod Places
 pub mod Spelled
 pub mod Examples
+pub mod Public

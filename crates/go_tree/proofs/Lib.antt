@@ -3,3 +3,4 @@ pub mod Order
 pub mod Package
 pub mod Rows
 pub mod Tiles
+pub mod Public

@@ -6,7 +6,7 @@ use Rattle.go_grammar.specs.Categories.{place_of}
 use Rattle.go_grammar.specs.Rules.{Items, Rule, End, Then, Maybe, Unless, Many, item}
 use Rattle.go_grammar.specs.Trees.{Tree, node, Trees, none, more, skip, first, last, parts}
 use Rattle.go_grammar.specs.Grammar.{rule, Derives, Spells, Goes}
-use Rattle.go_grammar.proofs.Ranges.{words_order, gap_order, between_order, derives_order, spells_order, goes_order}
+use Rattle.go_grammar.proofs.Public.{words_order, gap_order, between_order, derives_order, spells_order, goes_order}
 use Rattle.go_tree.specs.Views.{Tiles}
 
 -- a row that begins later lies in the longer range too

@@ -13,6 +13,7 @@ use Rattle.go_tree.specs.Redeclared.{redeclared}
 use Rattle.go_tree.specs.Lookups.{Asked, asked_from, undeclared, outside_names, outside_members, not_called, initialisers, unused_variables, unused_imports}
 use Rattle.go_tree.specs.Duplicates.{duplicates}
 use Rattle.go_tree.specs.Branches.{branches, limit}
+use Rattle.go_tree.specs.Constants.{hidden_lists}
 use Rattle.go_tree.specs.Needs.{cycles}
 
 -- The argument ds has the declarations, with the names before each `:=`.
@@ -32,7 +33,7 @@ abbrev pub unused_faults : List Unit → List Found → List Asked → List Fail
 unused_faults us ds asks = failing code.UnusedVariable (unused_variables asks ds) ++ failing code.UnusedImport (unused_imports asks us)
 
 abbrev pub placed_faults : List Unit → List Failure
-placed_faults us = failing code.Branch (branches us) ++ failing code.Duplicate (duplicates us) ++ failing code.Limit (limit us)
+placed_faults us = failing code.Branch (branches us) ++ failing code.Duplicate (duplicates us) ++ failing code.Limit (limit us) ++ failing code.Outside (hidden_lists us)
 
 abbrev pub cycle_faults : List Found → List Asked → List Failure
 cycle_faults ds asks = failing code.Cycle (cycles asks (length ds + length ds) ds)

@@ -1,5 +1,6 @@
 pub mod Branches
 pub mod Clauses
+pub mod Constants
 pub mod Contexts
 pub mod Declarations
 pub mod Duplicates

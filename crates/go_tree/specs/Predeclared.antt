@@ -30,6 +30,8 @@ known_names =
     (codes "copy", predeclared.Copy) ∷
     (codes "len", predeclared.Len) ∷
     (codes "make", predeclared.Make) ∷
+    (codes "max", predeclared.Max) ∷
+    (codes "min", predeclared.Min) ∷
     (codes "panic", predeclared.Panic) ∷
     []
 
@@ -49,8 +51,6 @@ unknown_names =
     codes "complex" ∷
     codes "delete" ∷
     codes "imag" ∷
-    codes "max" ∷
-    codes "min" ∷
     codes "new" ∷
     codes "print" ∷
     codes "println" ∷

@@ -28,6 +28,8 @@ pub enum Predeclared {
     Copy,
     Len,
     Make,
+    Max,
+    Min,
     Panic,
 }
 

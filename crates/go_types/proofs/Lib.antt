@@ -24,3 +24,4 @@ pub mod Finds
 pub mod Awakening
 pub mod Watching
 pub mod FieldPlacing
+pub mod Public

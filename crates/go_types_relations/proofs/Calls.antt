@@ -9,10 +9,7 @@ use Rattle.go_types.specs.Relations.{Comparable, Assignable, Scalars}
 use Rattle.go_types.specs.Tables.{Table, IsTable, HasShape, HasRightId, HasPartsBelow, parts, type_of, rights_of, tree_of, IsDefined, IsSettled}
 use Rattle.go_types.specs.Verdicts.{kept_count}
 use Rattle.go_types.specs.Changes.{IsOpen}
-use Rattle.go_types.proofs.Places.{get_there, get_within, all_of}
-use Rattle.go_types.proofs.NumberedTypes.{type_of_shape}
-use Rattle.go_types.proofs.Settling.{declared_within}
-use Rattle.go_types.proofs.Underlyings.{declared_type}
+use Rattle.go_types.proofs.Public.{get_there, get_within, all_of, type_of_shape, declared_within, declared_type}
 use Rattle.go_types_relations.specs.Questions.{flat, entry}
 use Rattle.go_types_relations.specs.Identity.{is_identical}
 use Rattle.go_types_relations.specs.Tests.{underlying_by, underlying_of, is_comparable, is_assignable}

@@ -10,9 +10,7 @@ use Rattle.go_types.specs.Tables.{Table, IsTable, HasRightId, type_of, rights_of
 use Rattle.go_types.specs.declared.shape.Shape.{Shape}
 use Rattle.go_types.specs.declared.shape.Shape.TheVariants as shape
 use Rattle.go_types.specs.Changes.{IsDeclared, IsOpen, defined, rights_with}
-use Rattle.go_types.proofs.Places.{get_left, get_set_other}
-use Rattle.go_types.proofs.NumberedTypes.{type_of_longer}
-use Rattle.go_types.proofs.Underlyings.{right_type}
+use Rattle.go_types.proofs.Public.{get_left, get_set_other, type_of_longer, right_type}
 use Rattle.go_types_relations.specs.Questions.{Question, answers, asked}
 use Rattle.go_types_relations.specs.Identity.{is_identical}
 use Rattle.go_types_relations.specs.Tests.{underlying_by, underlying_of, both_identical, is_assignable}

@@ -6,8 +6,7 @@ use Rattle.go_ints.specs.declared.kinds.Kind.{Kind}
 use Rattle.go_types.specs.declared.shape.Shape.TheVariants as shape
 use Rattle.go_types.specs.Trees.{TypeTree, boolean, text, integer, array, slice, structure, function, declared, TypeRow, none, more, Identical}
 use Rattle.go_types.specs.Keys.{key, kind_number}
-use Rattle.go_types.proofs.ShapeKeys.{same_shape}
-use Rattle.go_types.proofs.TreeIdentity.{equal_trees, identical_equal}
+use Rattle.go_types.proofs.Public.{same_shape, equal_trees, identical_equal}
 use Rattle.go_types_relations.proofs.Booleans.{and_parts, and_true}
 use Rattle.go_types_relations.specs.Identity.{same_name, same_names, is_identical, are_identical}
 

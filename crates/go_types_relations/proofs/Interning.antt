@@ -10,8 +10,7 @@ use Rattle.go_types.specs.declared.shape.Shape.TheVariants as shape
 use Rattle.go_types.specs.Trees.{TypeTree, array, slice, structure, row}
 use Rattle.go_types.specs.Tables.{Table, IsTable, HasShape, HasPartsBelow, type_of, rights_of, tree_of}
 use Rattle.go_types.specs.Changes.{IsDeclared, IsInternedIn, defined, rights_with}
-use Rattle.go_types.proofs.Places.{get_within, get_last}
-use Rattle.go_types.proofs.NumberedTypes.{type_of_shape}
+use Rattle.go_types.proofs.Public.{get_within, get_last, type_of_shape}
 use Rattle.go_types_relations.specs.Extends.{Extends, Grows}
 use Rattle.go_types_relations.proofs.Extending.{tree_stays, grows_self, declared_extends}
 

@@ -8,9 +8,7 @@ use Rattle.go_types.specs.declared.shape.Shape.TheVariants as shape
 use Rattle.go_types.specs.Trees.{TypeTree, declared, row}
 use Rattle.go_types.specs.Relations.{Rights, HasRight, Comparable, Scalars, of_right, array_scalars}
 use Rattle.go_types.specs.Tables.{Table, IsTable, HasShape, type_of, rights_of, tree_of, held, Holds, Contains, at_once, through, IsDefined, IsSettled}
-use Rattle.go_types.proofs.NumberedTypes.{type_of_shape}
-use Rattle.go_types.proofs.Containment.{listed_right}
-use Rattle.go_types.proofs.Underlyings.{declared_type, right_type, comparable_right, element_comparable, field_comparable, same_right}
+use Rattle.go_types.proofs.Public.{type_of_shape, listed_right, declared_type, right_type, comparable_right, element_comparable, field_comparable, same_right}
 use Rattle.go_types_relations.specs.Questions.{answers}
 use Rattle.go_types_relations.specs.Sizes.{scalars_by, row_scalars_by, scalars_of}
 use Rattle.go_types_relations.proofs.Booleans.{map_part, both_parts}

@@ -5,7 +5,7 @@ use Rattle.std.proofs.lemmas.Int.{ints, to_z-of_z}
 use Rattle.go_ints.specs.declared.kinds.Kind.TheVariants.{Int64}
 use Rattle.go_ints.specs.Kinds.{IsWord, wrapped_into}
 use Rattle.go_ints.specs.Wrapping.{IsCongruent}
-use Rattle.go_ints.proofs.Wrapped.{congruent-add, congruent-sub, congruent_same, wrapped_congruent}
+use Rattle.go_ints.proofs.Public.{congruent-add, congruent-sub, congruent_same, wrapped_congruent}
 use Rattle.std.proofs.Math.Pow.{pow_mono}
 use Rattle.std.proofs.Math.Nat.{div-le_self, div-eq_of_lt, div-one, div-mul-le_self, mul-le-mul_left}
 use Rattle.go_values.proofs.Wrapping.{zero_less}

@@ -5,7 +5,7 @@ use Rattle.go_ints.specs.declared.kinds.Kind.{Kind}
 use Rattle.go_ints.specs.declared.kinds.Kind.TheVariants.{Int8, Int16, Int32, Int64, Uint8, Uint16, Uint32, Uint64, Int, Uint}
 use Rattle.go_ints.specs.Kinds.{IsWord, wrapped_into}
 use Rattle.go_ints.specs.Wrapping.{InRange, wrapped}
-use Rattle.go_ints.proofs.Wrapped.{wrapped_in_range, wrapped_congruent, congruent_wrapped, congruent_same, congruent-sub}
+use Rattle.go_ints.proofs.Public.{wrapped_in_range, wrapped_congruent, congruent_wrapped, congruent_same, congruent-sub}
 
 in_64 : (z : ℤ) → InRange 64 true z → IsWord z
 in_64 z h = (omega (arith, ints, h.0), omega (arith, ints, h.1))

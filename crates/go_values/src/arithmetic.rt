@@ -6,7 +6,7 @@ ghost use Rattle.go_ints.specs.Arithmetic.{arithmetic, exact, trap_of};
 ghost use Rattle.go_ints.specs.Wrapping.{IsCongruent};
 
 use crate::integers::{within_word, wrap_into};
-use go_ints::{Kind, Op, Trap};
+use go_ints::{Kind, Op, Trap, trap};
 
 /// Go's `a op b` at the kind: the exact result over unbounded whole numbers, wrapped into the kind. The operands need be no
 /// values of the kind.
@@ -16,17 +16,6 @@ pub(crate) fn arith(kind: Kind, op: Op, a: i128, b: i128) -> Result<i128, Trap>
     match trap(op, b) {
         Some(trap) => Err(trap),
         None => Ok(wrap_into(kind, unwrapped(op, a, b))),
-    }
-}
-
-/// Why `op` has no result at the right operand `b`.
-fn trap(op: Op, b: i128) -> Option<Trap>
-    ensures { result ≡ trap_of op b }
-{
-    match op {
-        Op::Div | Op::Rem if b == 0 => Some(Trap::DivideZero),
-        Op::Shl | Op::Shr if b < 0 => Some(Trap::NegativeShift),
-        _ => None,
     }
 }
 
@@ -54,7 +43,9 @@ fn unwrapped(op: Op, a: i128, b: i128) -> i128
         Xor a ^ b,
         AndNot a & !b,
         Shl shifted_left(a, b),
-        Shr shifted_right(a, b))
+        Shr shifted_right(a, b),
+        Min if b < a { b } else { a },
+        Max if a < b { b } else { a })
 }
 
 /// A number that differs from the quotient by a multiple of 2^64.

@@ -1,4 +1,4 @@
-//! The table `runs`: a number, the files in hexadecimal digits, divided by blanks, the input, the turns, the outcome, and the output.
+//! A table of runs: a number, the files in hexadecimal digits, divided by blanks, the input, the turns, the outcome, and the output.
 use crate::sessions::Session;
 use case_tables::digits::pieces;
 use case_tables::folders::numbered;
@@ -6,11 +6,15 @@ use case_tables::table::Table;
 use go_base::Memory;
 use std::alloc::Global;
 
-pub struct Runs;
+/// A table of runs.
+pub struct Runs {
+    /// Its name.
+    pub name: &'static str,
+}
 
 impl Table for Runs {
     fn name(&self) -> &'static str {
-        "runs"
+        self.name
     }
 
     fn difference(&self, alloc: Global, fields: &[&str]) -> Result<Option<String>, Memory> {

@@ -1,15 +1,19 @@
-//! The table `typing`: a number, the files in hexadecimal digits, divided by blanks, and `ok` or the fault of the whole check.
+//! A table of checks: a number, the files in hexadecimal digits, divided by blanks, and `ok` or the fault of the whole check.
 use crate::sessions::Session;
 use case_tables::folders::numbered;
 use case_tables::table::Table;
 use go_base::Memory;
 use std::alloc::Global;
 
-pub struct Typing;
+/// A table of checks.
+pub struct Typing {
+    /// Its name.
+    pub name: &'static str,
+}
 
 impl Table for Typing {
     fn name(&self) -> &'static str {
-        "typing"
+        self.name
     }
 
     fn difference(&self, alloc: Global, fields: &[&str]) -> Result<Option<String>, Memory> {

@@ -12,7 +12,7 @@ use Rattle.go_base.specs.declared.bytes.FileText.{FileText}
 use Rattle.go_tokens.specs.declared.token.Token.{Token}
 use Rattle.go_tokens.specs.Lexing.{width}
 use Rattle.go_tokens.specs.Tokens.{AreOrdered, kind_of, kinds, span_of}
-use Rattle.go_tokens.proofs.Ordered.{placed}
+use Rattle.go_tokens.proofs.Public.{placed}
 use Rattle.go_grammar.specs.declared.kind.Category.TheVariants as category
 use Rattle.go_grammar.specs.declared.kind.Kind.TheVariants as kind
 use Rattle.go_grammar.specs.Grammar.{IsFile, Derives}

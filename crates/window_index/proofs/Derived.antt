@@ -11,8 +11,8 @@ use Rattle.go_grammar.specs.Categories.{is_statement, within, place_of}
 use Rattle.go_grammar.specs.Grammar.{rule, Derives, Spells, Goes}
 use Rattle.go_grammar.specs.Rules.{Items, Rule, End, Then, Maybe, Unless, Many, item}
 use Rattle.go_grammar.specs.Trees.{Tree, node, Trees, none, more, skip, kind_of, first, last}
-use Rattle.go_grammar.proofs.Ranges.{gap_order, lies_within, words_order}
-use Rattle.go_tree.proofs.Tiles.{derives_tiles}
+use Rattle.go_grammar.proofs.Public.{gap_order, lies_within, words_order}
+use Rattle.go_tree.proofs.Public.{derives_tiles}
 use Rattle.go_tree.specs.Views.{Tiles}
 
 -- how many tokens of a statement list stand in front of its parts, at least

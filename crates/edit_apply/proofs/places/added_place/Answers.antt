@@ -2,7 +2,7 @@ use Rattle.std.proofs.Common.{◌≡◌, Ok, Err, true, length, sym, ap, subst, 
 use Rattle.std.specs.List.{insert}
 use Rattle.std.proofs.lemmas.Result.{err_from_is_err_and}
 use Rattle.go_base.specs.Gives.{Unless, ◌>>=◌}
-use Rattle.go_base.proofs.Gives.{gives_stop}
+use Rattle.go_base.proofs.Public.{gives_stop}
 use Rattle.go_base.specs.Name.{is_go_file_name}
 use Rattle.go_base.specs.Package.{total_bytes}
 use Rattle.go_base.specs.declared.bytes.FileText.{FileText}

@@ -1,7 +1,7 @@
 use Rattle.std.proofs.Common.{◌≡◌, Ok, Err, sym, ap, subst, ◌∙◌}
 use Rattle.std.proofs.lemmas.Result.{err_from_is_err_and}
 use Rattle.go_base.specs.Gives.{Unless, ◌>>=◌}
-use Rattle.go_base.proofs.Gives.{gives_stop}
+use Rattle.go_base.proofs.Public.{gives_stop}
 use Rattle.edit_apply.specs.Edited.{with_bytes}
 use Rattle.edit_apply.specs.Answers.{edit_refusal, bytes_answer}
 use Rattle.edit_apply.proofs.AtPlace.{edit_found, edit_gap, package_found}

@@ -1,7 +1,7 @@
 use Rattle.std.proofs.Common.{arith, ◌∙◌, unsigned_abs}
 use Rattle.std.specs.Int.{w128, int_shr}
 use Rattle.std.proofs.lemmas.Int.{ints, to_z-of_z}
-use Rattle.go_ints.proofs.Words.{shifted_fits}
+use Rattle.go_ints.proofs.Public.{shifted_fits}
 use Rattle.go_constants.proofs.Numbers.{shifted_far}
 use Rattle.go_constants.proofs.wholes.shifted_right.Goals as goal
 

@@ -1,4 +1,4 @@
-use Rattle.go_ints.proofs.Words.{and_word, or_word, xor_word, complement_word, complement_fits}
+use Rattle.go_ints.proofs.Public.{and_word, or_word, xor_word, complement_word, complement_fits}
 use Rattle.go_ints.specs.Bitwise.{complement}
 use Rattle.go_constants.proofs.Numbers.{given, word_fits}
 use Rattle.go_constants.proofs.wholes.within_width.Goals as goal

@@ -4,7 +4,7 @@ use Rattle.std.proofs.lemmas.Option.{slice_get_read}
 use Rattle.std.specs.Option.{option_map}
 use Rattle.go_grammar.specs.Trees.{kind_of}
 use Rattle.go_tree.specs.Views.{view, views}
-use Rattle.go_tree.proofs.Heights.{height, heights, height-part}
+use Rattle.go_tree.proofs.Public.{height, heights, height-part}
 use Rattle.go_types_relations.proofs.Public.{grows_both}
 use Rattle.go_typed.specs.Views.{seen, AllKnown}
 use Rattle.go_exprs_rules.specs.Hints.{hint_seen}

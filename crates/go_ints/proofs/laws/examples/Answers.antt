@@ -24,6 +24,8 @@ returns c = record {
   right_of_negative = refl;
   left_out = refl;
   left_to_sign = refl;
+  least = refl;
+  greatest = refl;
   divide_zero = refl;
   negative_shift = refl;
 }

@@ -1,6 +1,6 @@
 use Rattle.std.proofs.Common.{◌*◌, ◌+◌, drop}
 use Rattle.go_tree.specs.Views.{view, views}
-use Rattle.go_tree.proofs.Heights.{height, heights}
+use Rattle.go_tree.proofs.Public.{height, heights}
 use Rattle.go_package_laws.specs.Names.{EachNameIn}
 use Rattle.go_package_stages.specs.Names.{IsFullBefore}
 use Rattle.go_package_stages.proofs.names.+each.Given as goal

@@ -1,6 +1,6 @@
 use Rattle.std.proofs.Common.{◌*◌, ◌+◌}
 use Rattle.go_tree.specs.Views.{view, views}
-use Rattle.go_tree.proofs.Heights.{height, heights}
+use Rattle.go_tree.proofs.Public.{height, heights}
 use Rattle.go_package_stages.proofs.naming.+each.Given as goal
 
 -- a node's measure is twice its height and one, and that of parts twice the height of a node that has them

@@ -1,6 +1,6 @@
 use Rattle.std.proofs.Common.{◌*◌, ◌+◌, true, false, [], ◌∷◌, drop}
 use Rattle.go_tree.specs.Views.{view, views}
-use Rattle.go_tree.proofs.Heights.{height, heights}
+use Rattle.go_tree.proofs.Public.{height, heights}
 use Rattle.go_package_stages.specs.Names.{ways_before}
 use Rattle.go_package_stages.specs.Ways.{WaysIn}
 use Rattle.go_package_stages.proofs.types.+way.Given as goal

@@ -1,7 +1,7 @@
 use Rattle.std.proofs.Common.{◌≡◌, ◌<◌, ◌∙◌, Some, length, slice_get, refl, ap, arith}
 use Rattle.std.proofs.lemmas.Option.{slice_get_read}
 use Rattle.go_tree.specs.Views.{view, views}
-use Rattle.go_tree.proofs.Heights.{height, heights, height-part}
+use Rattle.go_tree.proofs.Public.{height, heights, height-part}
 use Rattle.go_package_types.proofs.stands.+each.Goals as goal
 
 pub each_part-each_node-requires : goal.each_part-each_node-requires

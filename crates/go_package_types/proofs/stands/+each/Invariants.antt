@@ -1,6 +1,6 @@
 use Rattle.std.proofs.Common.{◌*◌, ◌+◌, drop}
 use Rattle.go_tree.specs.Views.{view, views}
-use Rattle.go_tree.proofs.Heights.{height, heights}
+use Rattle.go_tree.proofs.Public.{height, heights}
 use Rattle.go_package_laws.specs.Places.{EachPart}
 use Rattle.go_package_types.specs.Places.{stands}
 use Rattle.go_package_types.proofs.stands.+each.Given as goal

@@ -2,7 +2,7 @@ use Rattle.std.proofs.Common.{rules, ◌≡◌, ℕ, zero, suc, ◌+◌, ◌-◌
 use Rattle.std.proofs.lemmas.Bool.{le-leb, lt-leb}
 use Rattle.std.specs.Prelude.{slice_get, nat_le, ◌&&◌}
 use Rattle.go_base.specs.Gives.{Unless as UnlessMemory}
-use Rattle.go_base.proofs.Gives.{meets_map}
+use Rattle.go_base.proofs.Public.{meets_map}
 use Rattle.go_tokens.specs.Tokens.{kinds}
 use Rattle.go_tokens.specs.declared.token.TokenKind.{TokenKind}
 use Rattle.go_tokens.specs.declared.token.TokenKind.TheVariants as token
@@ -20,7 +20,7 @@ use Rattle.go_grammar.specs.Rules.{Rule, End, Then, Maybe, Unless, Many, item}
 use Rattle.go_grammar.specs.Reader.{opens_before, begins, continues, fits, after_first, words, turn, lead, next, read, grow, spell, option, items, Tends}
 use Rattle.go_grammar.specs.Symbols.{prepend, right, repeated}
 use Rattle.go_grammar.specs.Trees.{Trees, node, none, more, kind_of, first, last, weight, depth, depths, onto}
-use Rattle.go_grammar.proofs.Steps.{read_on, grow_on}
+use Rattle.go_grammar.proofs.Public.{read_on, grow_on}
 use Rattle.go_tree.specs.Views.{view, views}
 use Rattle.go_parse.specs.declared.error.Stop.TheVariants as stop
 use Rattle.go_parse.specs.declared.row.Row.{Row}

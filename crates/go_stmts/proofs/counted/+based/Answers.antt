@@ -3,7 +3,7 @@ use Rattle.std.proofs.lemmas.List.{drop_all}
 use Rattle.std.proofs.lemmas.Option.{slice_get_read}
 use Rattle.std.specs.Option.{option_map}
 use Rattle.go_tree.specs.Views.{view, views}
-use Rattle.go_tree.proofs.Heights.{height, heights, height-part}
+use Rattle.go_tree.proofs.Public.{height, heights, height-part}
 use Rattle.go_stmts_defs.specs.Bodies.{based}
 use Rattle.go_stmts.proofs.Bases.{all_is}
 use Rattle.go_stmts.proofs.counted.+based.Goals as goal

@@ -1,7 +1,7 @@
 use Rattle.std.proofs.Common.{◌≡◌, ◌+◌, ◌*◌, ◌++◌, drop, map}
 use Rattle.std.specs.Option.{option_map}
 use Rattle.go_tree.specs.Views.{view, views}
-use Rattle.go_tree.proofs.Heights.{height, heights}
+use Rattle.go_tree.proofs.Public.{height, heights}
 use Rattle.go_stmts_defs.specs.Bodies.{based}
 use Rattle.go_stmts.proofs.counted.+based.Given as goal
 

@@ -5,7 +5,7 @@ use Rattle.std.specs.Option.{option_map}
 use Rattle.go_base.specs.Gives.{Gives}
 use Rattle.go_grammar.specs.Trees.{kind_of}
 use Rattle.go_tree.specs.Views.{view, views}
-use Rattle.go_tree.proofs.Heights.{height, heights, height-part}
+use Rattle.go_tree.proofs.Public.{height, heights, height-part}
 use Rattle.go_types_relations.proofs.Public.{grows_both}
 use Rattle.go_typed.specs.declared.node.TypedNode.{TypedNode}
 use Rattle.go_typed.specs.Views.{seen, AllKnown}

@@ -3,7 +3,7 @@ use Rattle.std.proofs.lemmas.List.{map-append, drop_all}
 use Rattle.std.proofs.lemmas.Option.{slice_get_read}
 use Rattle.std.specs.Option.{option_map}
 use Rattle.go_tree.specs.Views.{view, views}
-use Rattle.go_tree.proofs.Heights.{height, heights, height-part}
+use Rattle.go_tree.proofs.Public.{height, heights, height-part}
 use Rattle.go_types_relations.proofs.Public.{extends_self, extends_both}
 use Rattle.go_typed.specs.Views.{seen, AllKnown}
 use Rattle.go_exprs_rules.specs.Faults.{judged, reported}

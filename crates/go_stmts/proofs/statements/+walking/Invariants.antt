@@ -2,7 +2,7 @@ use Rattle.std.proofs.Common.{◌*◌, ◌+◌, [], drop, length, map}
 use Rattle.std.specs.Option.{option_map}
 use Rattle.go_types_relations.specs.Extends.{Extends}
 use Rattle.go_tree.specs.Views.{view, views}
-use Rattle.go_tree.proofs.Heights.{height, heights}
+use Rattle.go_tree.proofs.Public.{height, heights}
 use Rattle.go_typed.specs.Views.{seen, AllKnown}
 use Rattle.go_exprs_rules.specs.Hints.{hint_seen}
 use Rattle.go_stmts_defs.specs.Frames.{Frame}

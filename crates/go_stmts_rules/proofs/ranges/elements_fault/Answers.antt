@@ -11,8 +11,8 @@ returns-in-len2-up c =
     let t = c.args.types.now in
     let rights = rights_of t in
     let x = seen t c.args.operand.now in
-    let s = type_of t.shapes c.args.pair.element in
+    let s = type_of t.shapes c.args.pair.second in
     c.earlier.ensures
     ∙ ap (earlier c.element_fault-in-len2-up.result) c.element_fault-in-len2-up-2.ensures
     ∙ ap (λ o. earlier o (least (element_unassigned rights x (target_type (seen t c.other-item.result.now)) s))) c.element_fault-in-len2-up.ensures
-    ∙ two_elements rights x (type_of t.shapes c.args.pair.position) s t c.args.targets.now c.one-item-2.result c.other-item.result c.in-len2-up.len_at_least c.one-item-2.is c.other-item.is
+    ∙ two_elements rights x (type_of t.shapes c.args.pair.first) s t c.args.targets.now c.one-item-2.result c.other-item.result c.in-len2-up.len_at_least c.one-item-2.is c.other-item.is

@@ -4,7 +4,7 @@ use Rattle.std.specs.Int.{w128}
 use Rattle.std.proofs.lemmas.Int.{to_z-of_z}
 use Rattle.go_ints.specs.Wrapping.{IsCongruent}
 use Rattle.go_ints.specs.Arithmetic.{exact, trap_of}
-use Rattle.go_ints.proofs.KindLaws.{wrapped_word}
+use Rattle.go_ints.proofs.Public.{wrapped_word}
 use Rattle.go_values.proofs.arithmetic.arith.Goals as goal
 
 pub returns-in-None : goal.returns-in-None

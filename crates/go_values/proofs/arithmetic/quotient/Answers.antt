@@ -1,7 +1,7 @@
 use Rattle.std.proofs.Common.{ap, of_z}
 use Rattle.std.specs.Int.{w128}
 use Rattle.std.proofs.lemmas.Int.{quot_is}
-use Rattle.go_ints.proofs.Wrapped.{congruent_same}
+use Rattle.go_ints.proofs.Public.{congruent_same}
 use Rattle.go_values.proofs.Quotients.{quotient_fits, near_word, near_opposite}
 use Rattle.go_values.proofs.arithmetic.quotient.Goals as goal
 

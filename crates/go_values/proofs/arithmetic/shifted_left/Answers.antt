@@ -1,7 +1,7 @@
 use Rattle.std.proofs.Common.{arith, unsigned_abs}
 use Rattle.std.specs.Int.{w128}
 use Rattle.std.proofs.lemmas.Int.{ints, to_z-of_z}
-use Rattle.go_ints.proofs.Words.{narrow, shifted_word, shifted_out}
+use Rattle.go_ints.proofs.Public.{narrow, shifted_word, shifted_out}
 use Rattle.go_values.proofs.arithmetic.shifted_left.Goals as goal
 
 pub returns-then-count-lt64 : goal.returns-then-count-lt64

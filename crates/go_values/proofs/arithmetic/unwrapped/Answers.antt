@@ -1,6 +1,5 @@
 use Rattle.go_ints.specs.Bitwise.{complement}
-use Rattle.go_ints.proofs.Wrapped.{congruent_same}
-use Rattle.go_ints.proofs.Words.{narrow, product_word, and_word, or_word, xor_word, complement_word, complement_fits}
+use Rattle.go_ints.proofs.Public.{congruent_same, narrow, product_word, and_word, or_word, xor_word, complement_word, complement_fits}
 use Rattle.go_values.proofs.Quotients.{near_word, near_sum, near_difference}
 use Rattle.go_values.proofs.arithmetic.unwrapped.Goals as goal
 

@@ -9,7 +9,7 @@ use Rattle.go_values.specs.Views.{view, views}
 use Rattle.go_eval_machine.specs.declared.task.What.TheVariants as what
 use Rattle.go_eval_machine.specs.Engines.{Goes, begins, lays_given, lays_value}
 use Rattle.go_eval_machine.proofs.Going.{goes_same}
-use Rattle.go_eval_machine.proofs.Begins.{begins_fixed, begins_elements, begins_cells, begins_runes}
+use Rattle.go_eval_machine.proofs.Begins.{begins_fixed, begins_elements, begins_cells, begins_runes, begins_numbers}
 use Rattle.go_eval_machine.proofs.engine.Engine.items.Goals as goal
 
 pub returns-in-Fixed : goal.returns-in-Fixed
@@ -47,3 +47,12 @@ returns-in-Runes c = λ p h.
     let vs = views old.values.items in
     subst (λ (i : Items). Goes p (begins p x (plan.Iterate m i)) old c.lay_value-in-Runes.result c.lay_value-in-Runes.new.self) (sym c.in-Runes.is)
     (goes_same p (begins p x (plan.Iterate m items.Runes)) (lays_value p x (what.Items m items.Runes) m) old c.lay_value-in-Runes.result c.lay_value-in-Runes.new.self (subst (λ (i : Items). Goes p (lays_value p x (what.Items m i) m) old c.lay_value-in-Runes.result c.lay_value-in-Runes.new.self) c.in-Runes.is (c.lay_value-in-Runes.ensures p (h, tt))) (λ n s. begins_runes p n x s vs m))
+
+pub returns-in-Numbers : goal.returns-in-Numbers
+returns-in-Numbers c = λ p h.
+    let x = c.args.node.now in
+    let m = c.args.targets in
+    let old = c.args.self.now in
+    let vs = views old.values.items in
+    subst (λ (i : Items). Goes p (begins p x (plan.Iterate m i)) old c.lay_value-in-Numbers.result c.lay_value-in-Numbers.new.self) (sym c.in-Numbers.is)
+    (goes_same p (begins p x (plan.Iterate m items.Numbers)) (lays_value p x (what.Items m items.Numbers) m) old c.lay_value-in-Numbers.result c.lay_value-in-Numbers.new.self (subst (λ (i : Items). Goes p (lays_value p x (what.Items m i) m) old c.lay_value-in-Numbers.result c.lay_value-in-Numbers.new.self) c.in-Numbers.is (c.lay_value-in-Numbers.ensures p (h, tt))) (λ n s. begins_numbers p n x s vs m))
