@@ -1,0 +1,4 @@
+pub mod Holes
+pub mod Shapes
+pub mod Known
+pub mod Packages

@@ -1,0 +1,33 @@
+//! Laws of final types, for the crates above. The functions do nothing: their contracts are the laws.
+
+ghost use Rattle.std.specs.Prelude.{◌≡◌, ℕ, false, List, Ok};
+ghost use Rattle.go_tokens.specs.declared.token.TokenKind.{TokenKind};
+ghost use Rattle.go_grammar.specs.declared.kind.Category.{Category};
+ghost use Rattle.go_grammar.specs.declared.kind.Category.TheVariants as category;
+ghost use Rattle.go_grammar.specs.Grammar.{Derives};
+ghost use Rattle.go_grammar.specs.Trees.{Tree};
+ghost use Rattle.go_typed.specs.Contents.{FuncContent, content};
+ghost use Rattle.go_typed.specs.Packages.{PackageView};
+ghost use Rattle.go_package_defs.specs.Checked.{IsCheckedPackage};
+ghost use Rattle.go_stmts_final_types.specs.Packages.{AllTyped};
+ghost use Rattle.go_exprs_rules.specs.Scopes.{Scope};
+ghost use Rattle.go_stmts_defs.specs.Bodies.{based, body_answer};
+ghost use Rattle.go_stmts_final_types.specs.Holes.{HolesTyped};
+ghost use Rattle.go_stmts_final_types.specs.Known.{IsKnown};
+ghost use Rattle.go_stmts_final_types.specs.Shapes.{IsShaped};
+
+/// A derivation has the kinds that its grammar gives it, wherever its tokens are counted from.
+pub fn derivations_are_shaped()
+    ensures { (ts : List TokenKind) (c : Category) (b : ℕ) (t : Tree) → Derives ts c t → IsShaped c (based b t) }
+{}
+
+/// In a function without faults whose names stand for something known each hole is a constant of a final type.
+pub fn holes_have_types()
+    ensures { (s : Scope) (number locals : ℕ) (types : ℕ → ℕ) (t : Tree) (f : FuncContent) →
+        IsShaped category.Declaration t → body_answer s number locals types t ≡ Ok f → IsKnown f.tree → HolesTyped false f.tree }
+{}
+
+/// So it is in every function of a package that is told to be good, under whatever numbers of declared types.
+pub fn checked_packages_have_types()
+    ensures { (p : PackageView) → IsCheckedPackage p → AllTyped (content p).functions }
+{}
