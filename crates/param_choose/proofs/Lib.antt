@@ -1,0 +1,10 @@
+pub mod Additions
+pub mod Arrays
+pub mod Ends
+pub mod Examples
+pub mod Mapped
+pub mod Marks
+pub mod Members
+pub mod Planned
+pub mod Roots
+pub mod Tokens

@@ -1,0 +1,9 @@
+pub mod Members
+pub mod Locals
+pub mod Holes
+pub mod Choosing
+pub mod Ends
+pub mod Marks
+pub mod Shown
+pub mod Plans
+pub mod Examples
