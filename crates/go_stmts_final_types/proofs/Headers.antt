@@ -168,7 +168,7 @@ pub cut_ready : (x : Part) → is_valued (sort_of x) ≡ false → (b : Bool) �
 cut_ready x v true e = record { typed = λ h. (leaf_done x e).now }
 cut_ready x v false e = record { typed = λ h. absurd (true≢false (sym (valued_known (sort_of x) (known_before stay x h) e) ∙ v)) }
 
-behind_names : (ns : List Part) (o : Option Part) (zs : Parts) → drop (suc (length ns)) (somes ns ++ (o ∷ zs)) ≡ zs
+pub behind_names : (ns : List Part) (o : Option Part) (zs : Parts) → drop (suc (length ns)) (somes ns ++ (o ∷ zs)) ≡ zs
 behind_names [] o zs = refl
 behind_names (n ∷ ns) o zs = behind_names ns o zs
 

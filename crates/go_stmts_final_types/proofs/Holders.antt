@@ -63,7 +63,7 @@ many_all ws l (skip ps) w = elim w [ ]
 
 -- ---- expressions
 
-no_list : (k : Kind) → is_expression k ≡ true → is_list k ≡ false
+pub no_list : (k : Kind) → is_expression k ≡ true → is_list k ≡ false
 no_list kind.NameList e = cc
 no_list kind.NewNames e = cc
 no_list kind.Targets e = cc
@@ -72,7 +72,7 @@ no_list kind.TypedValues e = cc
 no_list kind.Values e = cc
 no_list k e = refl
 
-no_declared : (k : Kind) → is_expression k ≡ true → is_declared_name k ≡ false
+pub no_declared : (k : Kind) → is_expression k ≡ true → is_declared_name k ≡ false
 no_declared kind.DeclaredName e = cc
 no_declared k e = refl
 
@@ -101,7 +101,7 @@ lone_asks ps several a = by (nat_lt 1 (count ps))
     by false = refl
 lone_asks ps h a = a
 
-list_shaped : (p : Place) (ps : Trees) → AreShaped (rule p kind.ExpressionList) ps → AreAll (any p) ps
+pub list_shaped : (p : Place) (ps : Trees) → AreShaped (rule p kind.ExpressionList) ps → AreAll (any p) ps
 list_shaped p none w = elim w [ ]
 list_shaped p (more q ps) w = (w.0, many_all [] (Again (any p) token.Comma) ps w.1)
 list_shaped p (skip ps) w = elim w [ ]

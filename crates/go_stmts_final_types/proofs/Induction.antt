@@ -329,7 +329,7 @@ abbrev pub RowsFrom : Frame → Kind → Hint → Trees → Parts → Found → 
 RowsFrom s k h all xs fs ps r = (ys : Parts) × (parts_in (readings s k h all xs fs ps) ≡ xs ++ ys) × RowRead k h all xs r ys
 
 -- a part in front of others
-front : (s : Frame) (k : Kind) (h : Hint) (all : Trees) (xs : Parts) (fs : Found) (p : Tree) (ps : Trees) → let q = reading (entering k xs s) (told k h all xs (kind_of p)) p in
+pub front : (s : Frame) (k : Kind) (h : Hint) (all : Trees) (xs : Parts) (fs : Found) (p : Tree) (ps : Trees) → let q = reading (entering k xs s) (told k h all xs (kind_of p)) p in
     reported (found_all (readings s k h all xs fs (more p ps))) ≡ None → (reported (found_in q) ≡ None) × (reported (found_all (readings (frame_in q) k h all (xs ++ Some (tree_in q) ∷ []) (fs ++ found_in q) ps)) ≡ None)
 front s k h all xs fs p ps e =
     let q = reading (entering k xs s) (told k h all xs (kind_of p)) p in
@@ -337,7 +337,7 @@ front s k h all xs fs p ps e =
     (reported_back fs (found_in q) (row_front (frame_in q) k h all (xs ++ Some (tree_in q) ∷ []) (fs ++ found_in q) ps f), f)
 
 -- where its rows are known behind it
-joined : (s : Frame) (k : Kind) (h : Hint) (all : Trees) (xs : Parts) (fs : Found) (p : Tree) (ps : Trees) (ys : Parts) → let q = reading (entering k xs s) (told k h all xs (kind_of p)) p in
+pub joined : (s : Frame) (k : Kind) (h : Hint) (all : Trees) (xs : Parts) (fs : Found) (p : Tree) (ps : Trees) (ys : Parts) → let q = reading (entering k xs s) (told k h all xs (kind_of p)) p in
     parts_in (readings (frame_in q) k h all (xs ++ Some (tree_in q) ∷ []) (fs ++ found_in q) ps) ≡ (xs ++ Some (tree_in q) ∷ []) ++ ys → parts_in (readings s k h all xs fs (more p ps)) ≡ xs ++ Some (tree_in q) ∷ ys
 joined s k h all xs fs p ps ys e =
     let q = reading (entering k xs s) (told k h all xs (kind_of p)) p in
@@ -347,7 +347,7 @@ mutual
   pub reading_fine : (s : Frame) (h : Hint) (c : Category) (t : Tree) → IsShaped c t → reported (found_in (reading s h t)) ≡ None → ReadFine c (kind_of t) h (tree_in (reading s h t))
   reading_fine s h c (node k i j ps) w e = node_reading s h c k i j ps w (λ m. readings_fine (beginning k i s) k h ps [] [] ps (rule (place_of c) k) w.1 m) (is_statement k) refl e
 
-  readings_fine : (s : Frame) (k : Kind) (h : Hint) (all : Trees) (xs : Parts) (fs : Found) (ps : Trees) (r : Rule) → AreShaped r ps → reported (found_all (readings s k h all xs fs ps)) ≡ None → RowsFrom s k h all xs fs ps r
+  pub readings_fine : (s : Frame) (k : Kind) (h : Hint) (all : Trees) (xs : Parts) (fs : Found) (ps : Trees) (r : Rule) → AreShaped r ps → reported (found_all (readings s k h all xs fs ps)) ≡ None → RowsFrom s k h all xs fs ps r
   readings_fine s k h all xs fs none (End ws) w e = ([], sym (append-nil xs), tt)
   readings_fine s k h all xs fs none (Then ws c r) w e = elim w [ ]
   readings_fine s k h all xs fs none (Maybe ws c r) w e = elim w [ ]

@@ -242,7 +242,7 @@ slice_sound s h i j x low high g l k = placed_sound s kind.Bracketed h i j (Some
         shown low high slots
 
 -- what stands in brackets
-lone : (y : Part) → is_held (form_of y) ≡ false → bounds_of (Some y) ≡ Some y ∷ []
+pub lone : (y : Part) → is_held (form_of y) ≡ false → bounds_of (Some y) ≡ Some y ∷ []
 lone (typed (form.Held k) i j l ps) e = cc
 lone (typed f i j l ps) e = refl
 

@@ -112,7 +112,7 @@ file_functions n (node kind.File i j (skip ps)) w = all_declarations n ps (many_
 file_functions n (node k i j ps) w = let e = w.0 in cc
 
 -- of all files
-all_functions : (m n : ℕ) (texts : List FileText) (files : List FileTree) → AreRead m texts files → AllFunctions (those_of entity.Function (specifications n (map source_of files)))
+pub all_functions : (m n : ℕ) (texts : List FileText) (files : List FileTree) → AreRead m texts files → AllFunctions (those_of entity.Function (specifications n (map source_of files)))
 all_functions m n [] [] r = tt
 all_functions m n [] (f ∷ fs) r = elim r [ ]
 all_functions m n (x ∷ xs) [] r = elim r [ ]
@@ -122,18 +122,18 @@ all_functions m n (x ∷ xs) (f ∷ fs) r =
 
 -- ---- functions
 
-bound : {A B F : Type 0} (r : Result A F) (f : A → Result B F) (y : B) → (r >>= f) ≡ Ok y → (x : A) × (r ≡ Ok x) × (f x ≡ Ok y)
+pub bound : {A B F : Type 0} (r : Result A F) (f : A → Result B F) (y : B) → (r >>= f) ≡ Ok y → (x : A) × (r ≡ Ok x) × (f x ≡ Ok y)
 bound (Ok x) f y e = (x, refl, e)
 bound (Err g) f y e = cc
 
-ok_same : {A F : Type 0} (x y : A) → (let r : Result A F = Ok x in r) ≡ Ok y → x ≡ y
+pub ok_same : {A F : Type 0} (x y : A) → (let r : Result A F = Ok x in r) ≡ Ok y → x ≡ y
 ok_same x y e = cc
 
-behind_typed : (s : Scope) (number : ℕ) (t : Tree) (r : Reading) (b : Behind) → behind_read s number t r ≡ Ok b → (reported (found_in r) ≡ None) × (tree_in r ≡ b.function.tree)
+pub behind_typed : (s : Scope) (number : ℕ) (t : Tree) (r : Reading) (b : Behind) → behind_read s number t r ≡ Ok b → (reported (found_in r) ≡ None) × (tree_in r ≡ b.function.tree)
 behind_typed s number t (read x fs f) b e =
     let j = judged_ok (reported fs) (record { function = function_read s number (last t) (signature_of s t) x f; rights = f.around.rights }) b e in (j.0, ap (λ (z : Behind). z.function.tree) j.1)
 
-function_typed : (a : Surroundings) (rights : Rights) (number : ℕ) (bs : List Bool) (o : Portion) (t : Tree) (b : Behind) → o.tree ≡ Some t → IsShaped category.Declaration t → function_of a rights number bs o ≡ Ok b → IsKnown b.function.tree → HolesTyped false b.function.tree
+pub function_typed : (a : Surroundings) (rights : Rights) (number : ℕ) (bs : List Bool) (o : Portion) (t : Tree) (b : Behind) → o.tree ≡ Some t → IsShaped category.Declaration t → function_of a rights number bs o ≡ Ok b → IsKnown b.function.tree → HolesTyped false b.function.tree
 function_typed a rights number bs o t b m w e k =
     let s = scope_of a (rights ++ replicate (count_types bs) None) o in
     let z = start s (length bs) (local_type (length rights) bs) in
@@ -142,7 +142,7 @@ function_typed a rights number bs o t b m w e k =
     let h = reading_fine z free category.Declaration t w r.0 in
     subst (HolesTyped false) r.1 (h.says (subst IsKnown (sym r.1) k))
 
-placed_ok : {A : Type 0} (p : Package) (d : Specification) (r : Result A TypeFault) (x : A) → placed p d r ≡ Ok x → r ≡ Ok x
+pub placed_ok : {A : Type 0} (p : Package) (d : Specification) (r : Result A TypeFault) (x : A) → placed p d r ≡ Ok x → r ≡ Ok x
 placed_ok p d (Ok y) x e = ap Ok (let same : y ≡ x = cc in same)
 placed_ok p d (Err g) x e = cc
 

@@ -110,7 +110,7 @@ module _ (s : Frame) (i j : ℕ) where
 one_less : (n : ℕ) → (n + 1) - 1 ≡ n
 one_less n = omega arith
 
-but_last : (ts : List Part) (v : Part) → length (somes ts ++ (Some v ∷ [])) - 1 ≡ length ts
+pub but_last : (ts : List Part) (v : Part) → length (somes ts ++ (Some v ∷ [])) - 1 ≡ length ts
 but_last ts v = ap (λ n. n - 1) (length-append (somes ts) (Some v ∷ [])) ∙ (one_less (length (somes ts)) ∙ length_somes ts)
 
 -- ---- names of a range clause

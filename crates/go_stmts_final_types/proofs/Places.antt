@@ -71,7 +71,7 @@ placed_by P s k h i j ys p u g = by (is_sound k ys (own_faults s k h i j ys)) re
         g (subst (λ b. cond b (place_failing s.rights h i j (sort_by s k h i j ys)) [] ≡ []) p r)
     by false e = u
 
-expression_placed : (k : Kind) → is_expression k ≡ true → is_placed k ≡ true
+pub expression_placed : (k : Kind) → is_expression k ≡ true → is_placed k ≡ true
 expression_placed kind.Name e = refl
 expression_placed kind.Integer e = refl
 expression_placed kind.Rune e = refl
@@ -88,7 +88,7 @@ expression_placed kind.FunctionType e = refl
 expression_placed kind.StructType e = refl
 expression_placed k e = cc
 
-type_placed : (k : Kind) → categories.is_type k ≡ true → is_placed k ≡ true
+pub type_placed : (k : Kind) → categories.is_type k ≡ true → is_placed k ≡ true
 type_placed kind.Name e = refl
 type_placed kind.ParenthesizedType e = refl
 type_placed kind.SequenceType e = refl

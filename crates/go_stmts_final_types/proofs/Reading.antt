@@ -25,6 +25,7 @@ use Rattle.go_stmts_defs.specs.Frames.{Frame}
 use Rattle.go_stmts_defs.specs.Laying.{told, layout, form_by, held_count, without_absent, header_parts, if_parts, loop_header, loop_form}
 use Rattle.go_stmts_defs.specs.Reading.{Found, Reading, read, Readings, all_read, reading, readings, after, entering, left_out, left_out_faults, repeated}
 use Rattle.go_stmts_defs.specs.Rules.{own_faults, built_by, taking}
+pub use Rattle.go_stmts_final_types.specs.Names.{tree_in, frame_in, parts_in, frame_all}
 use Rattle.go_stmts_final_types.proofs.Headers.{Stated, SwitchHeaderIs, LoopHeaderIs, clause, ranges, all_say, if_says, switch_says, case_says, for_says, range_says, list_says, return_says}
 use Rattle.go_stmts_final_types.proofs.Holders.{HeldOf, held_are, only_held, both_held}
 use Rattle.go_stmts_final_types.proofs.Categories.{ReadFine, plain_held}
@@ -35,23 +36,11 @@ use Rattle.go_stmts_final_types.proofs.Taken.{Valued, Says, IsBare, AllReady}
 
 -- ---- readings
 
-abbrev pub tree_in : Reading → Part
-tree_in (read x fs s) = x
-
 abbrev pub found_in : Reading → Found
 found_in (read x fs s) = fs
 
-abbrev pub frame_in : Reading → Frame
-frame_in (read x fs s) = s
-
-abbrev pub parts_in : Readings → Parts
-parts_in (all_read xs fs s) = xs
-
 abbrev pub found_all : Readings → Found
 found_all (all_read xs fs s) = fs
-
-abbrev pub frame_all : Readings → Frame
-frame_all (all_read xs fs s) = s
 
 pub after_is : (r : Reading) (next : Part → Found → Frame → Readings) → after r next ≡ next (tree_in r) (found_in r) (frame_in r)
 after_is (read x fs s) next = refl

@@ -191,13 +191,13 @@ module _ (s : Scope) (h : Hint) (i j : ℕ) (p : Place) where
 -- ---- whole trees
 
 -- the parts of a node that are typed behind those in front
-abbrev behind : Scope → Kind → Hint → Trees → Parts → Trees → Parts
+abbrev pub behind : Scope → Kind → Hint → Trees → Parts → Trees → Parts
 behind s k h all xs none = []
 behind s k h all xs (more p ps) =
     Some (typing (part_scope s k xs) (hint s k h all xs (kind_of p)) p) ∷ behind s k h all (xs ++ Some (typing (part_scope s k xs) (hint s k h all xs (kind_of p)) p) ∷ []) ps
 behind s k h all xs (skip ps) = None ∷ behind s k h all (xs ++ None ∷ []) ps
 
-typings_are : (s : Scope) (k : Kind) (h : Hint) (all : Trees) (xs : Parts) (ps : Trees) → typings s k h all xs ps ≡ xs ++ behind s k h all xs ps
+pub typings_are : (s : Scope) (k : Kind) (h : Hint) (all : Trees) (xs : Parts) (ps : Trees) → typings s k h all xs ps ≡ xs ++ behind s k h all xs ps
 typings_are s k h all xs none = sym (append-nil xs)
 typings_are s k h all xs (more p ps) =
     let x = Some (typing (part_scope s k xs) (hint s k h all xs (kind_of p)) p) in typings_are s k h all (xs ++ x ∷ []) ps ∙ append_assoc xs (x ∷ []) (behind s k h all (xs ++ x ∷ []) ps)

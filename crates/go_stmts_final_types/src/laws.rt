@@ -1,6 +1,6 @@
 //! Laws of final types, for the crates above. The functions do nothing: their contracts are the laws.
 
-ghost use Rattle.std.specs.Prelude.{◌≡◌, ℕ, false, List, Ok};
+ghost use Rattle.std.specs.Prelude.{◌≡◌, ℕ, false, List, map, Ok};
 ghost use Rattle.go_tokens.specs.declared.token.TokenKind.{TokenKind};
 ghost use Rattle.go_grammar.specs.declared.kind.Category.{Category};
 ghost use Rattle.go_grammar.specs.declared.kind.Category.TheVariants as category;
@@ -9,11 +9,15 @@ ghost use Rattle.go_grammar.specs.Trees.{Tree};
 ghost use Rattle.go_typed.specs.Contents.{FuncContent, content};
 ghost use Rattle.go_typed.specs.Packages.{PackageView};
 ghost use Rattle.go_package_defs.specs.Checked.{IsCheckedPackage};
+ghost use Rattle.go_package_defs.specs.Sources.{source_of};
 ghost use Rattle.go_stmts_final_types.specs.Packages.{AllTyped};
-ghost use Rattle.go_exprs_rules.specs.Scopes.{Scope};
-ghost use Rattle.go_stmts_defs.specs.Bodies.{based, body_answer};
+ghost use Rattle.go_exprs_rules.specs.Scopes.{Scope, free};
+ghost use Rattle.go_stmts_defs.specs.Bodies.{based, start, body_answer};
+ghost use Rattle.go_stmts_final_types.specs.Examples.{Examples};
 ghost use Rattle.go_stmts_final_types.specs.Holes.{HolesTyped};
 ghost use Rattle.go_stmts_final_types.specs.Known.{IsKnown};
+ghost use Rattle.go_stmts_final_types.specs.Names.{NamesAreKnown};
+ghost use Rattle.go_stmts_final_types.specs.PackageNames.{PackageIsNamed, AllFinal};
 ghost use Rattle.go_stmts_final_types.specs.Shapes.{IsShaped};
 
 /// A derivation has the kinds that its grammar gives it, wherever its tokens are counted from.
@@ -30,4 +34,20 @@ pub fn holes_have_types()
 /// So it is in every function of a package that is told to be good, under whatever numbers of declared types.
 pub fn checked_packages_have_types()
     ensures { (p : PackageView) → IsCheckedPackage p → AllTyped (content p).functions }
+{}
+
+/// In a function without faults no node stands for what isn't known, where each name stands for something known when it is read.
+pub fn names_make_known()
+    ensures { (s : Scope) (number locals : ℕ) (types : ℕ → ℕ) (t : Tree) (f : FuncContent) →
+        IsShaped category.Declaration t → body_answer s number locals types t ≡ Ok f → NamesAreKnown (start s locals types) free t → IsKnown f.tree }
+{}
+
+/// So the holes of a package that is told to be good have final types, where its names stand for something known.
+pub fn named_packages_have_types()
+    ensures { (p : PackageView) (h : IsCheckedPackage p) → PackageIsNamed (map source_of h.checked.files) → AllFinal (content p).functions }
+{}
+
+/// A function whose names stand for something known, and one that names a local which isn't declared.
+pub fn examples()
+    ensures { Examples }
 {}

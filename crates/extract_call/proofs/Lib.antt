@@ -1,0 +1,12 @@
+pub mod Calls
+pub mod Frames
+pub mod Entering
+pub mod Windows
+pub mod Extraction
+pub mod Likewise
+pub mod Tails
+pub mod Linking
+pub mod Loop
+pub mod Declaring
+pub mod Examples
+pub mod Public

@@ -1,0 +1,6 @@
+pub mod Alike
+pub mod Calls
+pub mod Members
+pub mod Extraction
+pub mod Laws
+pub mod Examples

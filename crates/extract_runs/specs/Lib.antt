@@ -1,0 +1,12 @@
+pub mod Quiet
+pub mod Images
+pub mod Sound
+pub mod Renumbering
+pub mod Holes
+pub mod Gaps
+pub mod Same
+pub mod Lexical
+pub mod Laws
+pub mod Examples
+pub mod Packages
+pub mod PackageExamples

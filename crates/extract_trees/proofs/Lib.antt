@@ -1,0 +1,10 @@
+pub mod Copies
+pub mod Examples
+pub mod Fixed
+pub mod Forms
+pub mod Pairs
+pub mod Partners
+pub mod Results
+pub mod Settled
+pub mod Sorts
+pub mod WindowExamples

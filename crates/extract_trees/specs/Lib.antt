@@ -1,0 +1,9 @@
+pub mod Numberings
+pub mod Copied
+pub mod Filled
+pub mod Examples
+pub mod Standing
+pub mod OneCopy
+pub mod Windows
+pub mod WindowExamples
+pub mod Results

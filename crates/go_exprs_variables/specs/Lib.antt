@@ -1,0 +1,7 @@
+pub mod Shapes
+pub mod Over
+pub mod Stood
+pub mod Operands
+pub mod Rules
+pub mod Variables
+pub mod Trees

@@ -1,0 +1,5 @@
+pub mod Moving
+pub mod Sides
+pub mod Renumbered
+pub mod Examples
+pub mod Public

@@ -1,0 +1,4 @@
+pub mod Limits
+pub mod Packages
+pub mod Longer
+pub mod Examples
