@@ -8,7 +8,7 @@ use Rattle.param_choose.specs.Choosing.{HoleParameter, parameter_of}
 use Rattle.param_choose.specs.Holes.{Hole}
 use Rattle.param_choose.specs.Locals.{Variable, variable_at}
 use Rattle.param_choose.specs.Marks.{mark_at, parameters_by, variables_by}
-use Rattle.param_choose.specs.Plans.{Parameter, hole_parameter}
+use Rattle.param_choose.specs.Handed.{HandedHole, handed_hole}
 use Rattle.param_choose.specs.Shown.{hole_view, holes_view}
 
 left-over : {X : Type 0} (xs : List X) (j : ℕ) (x d : X) → j < length xs → x ≡ get_or xs j d → drop j xs ≡ x ∷ drop (j + 1) xs
@@ -57,28 +57,28 @@ holes-next outer start bs hs i j h b l e m =
     ∙ ap (λ a. (if a then p else []) ++ parameters_by outer start bs (suc i) rest) m
     ∙ ap (λ n. (if b then p else []) ++ parameters_by outer start bs n rest) (one-more i)
 
-pub hole_taken : (outer : Hole ℕ → Bool) (start : ℕ) (bs : List Bool) (hs : List FoundHole) (i j : ℕ) (h : FoundHole) (all before now : List (Parameter ℕ)) →
-    j < length hs → h ≡ get_or hs j h → (mark_at bs i || outer (hole_view h)) ≡ true → now ≡ before ++ map hole_parameter (parameter_of start i (hole_view h)) →
-    all ≡ before ++ map hole_parameter (parameters_by outer start bs i (holes_view (drop j hs))) →
-    all ≡ now ++ map hole_parameter (parameters_by outer start bs (i + 1) (holes_view (drop (j + 1) hs)))
+pub hole_taken : (outer : Hole ℕ → Bool) (start : ℕ) (bs : List Bool) (hs : List FoundHole) (i j : ℕ) (h : FoundHole) (all before now : List (HandedHole ℕ)) →
+    j < length hs → h ≡ get_or hs j h → (mark_at bs i || outer (hole_view h)) ≡ true → now ≡ before ++ map handed_hole (parameter_of start i (hole_view h)) →
+    all ≡ before ++ map handed_hole (parameters_by outer start bs i (holes_view (drop j hs))) →
+    all ≡ now ++ map handed_hole (parameters_by outer start bs (i + 1) (holes_view (drop (j + 1) hs)))
 hole_taken outer start bs hs i j h all before now l e m n a =
     let own = parameter_of start i (hole_view h) in
     let rest = parameters_by outer start bs (i + 1) (holes_view (drop (j + 1) hs)) in
     a
-    ∙ ap (λ ps. before ++ map hole_parameter ps) (holes-next outer start bs hs i j h true l e m)
-    ∙ ap (λ ps. before ++ ps) (map-append hole_parameter own rest)
-    ∙ sym (append_assoc before (map hole_parameter own) (map hole_parameter rest))
-    ∙ ap (λ ps. ps ++ map hole_parameter rest) (sym n)
+    ∙ ap (λ ps. before ++ map handed_hole ps) (holes-next outer start bs hs i j h true l e m)
+    ∙ ap (λ ps. before ++ ps) (map-append handed_hole own rest)
+    ∙ sym (append_assoc before (map handed_hole own) (map handed_hole rest))
+    ∙ ap (λ ps. ps ++ map handed_hole rest) (sym n)
 
-pub hole_left : (outer : Hole ℕ → Bool) (start : ℕ) (bs : List Bool) (hs : List FoundHole) (i j : ℕ) (h : FoundHole) (all before now : List (Parameter ℕ)) →
+pub hole_left : (outer : Hole ℕ → Bool) (start : ℕ) (bs : List Bool) (hs : List FoundHole) (i j : ℕ) (h : FoundHole) (all before now : List (HandedHole ℕ)) →
     j < length hs → h ≡ get_or hs j h → (mark_at bs i || outer (hole_view h)) ≡ false → now ≡ before →
-    all ≡ before ++ map hole_parameter (parameters_by outer start bs i (holes_view (drop j hs))) →
-    all ≡ now ++ map hole_parameter (parameters_by outer start bs (i + 1) (holes_view (drop (j + 1) hs)))
+    all ≡ before ++ map handed_hole (parameters_by outer start bs i (holes_view (drop j hs))) →
+    all ≡ now ++ map handed_hole (parameters_by outer start bs (i + 1) (holes_view (drop (j + 1) hs)))
 hole_left outer start bs hs i j h all before now l e m n a =
     let rest = parameters_by outer start bs (i + 1) (holes_view (drop (j + 1) hs)) in
     a
-    ∙ ap (λ ps. before ++ map hole_parameter ps) (holes-next outer start bs hs i j h false l e m)
-    ∙ ap (λ ps. ps ++ map hole_parameter rest) (sym n)
+    ∙ ap (λ ps. before ++ map handed_hole ps) (holes-next outer start bs hs i j h false l e m)
+    ∙ ap (λ ps. ps ++ map handed_hole rest) (sym n)
 
 -- ---- marked, or passing a test
 

@@ -6,5 +6,6 @@ pub mod Mapped
 pub mod Marks
 pub mod Members
 pub mod Planned
+pub mod Public
 pub mod Roots
 pub mod Tokens

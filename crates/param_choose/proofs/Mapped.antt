@@ -68,7 +68,7 @@ module _ {T U : Type 0} (g : T → U) where
   value-mapped (OpenConstant c) = refl
   value-mapped (Results t) = refl
 
-  standing-mapped : (s : Sort T) → standing (sort_mapped g s) ≡ standing s
+  pub standing-mapped : (s : Sort T) → standing (sort_mapped g s) ≡ standing s
   standing-mapped Nothing = refl
   standing-mapped Unknown = refl
   standing-mapped Blank = refl
@@ -83,7 +83,7 @@ module _ {T U : Type 0} (g : T → U) where
   standing-mapped (OpenConstant c) = refl
   standing-mapped (Results t) = refl
 
-  held-mapped : (s : Sort T) → value_of (sort_mapped g s) ≡ value_of s
+  pub held-mapped : (s : Sort T) → value_of (sort_mapped g s) ≡ value_of s
   held-mapped Nothing = refl
   held-mapped Unknown = refl
   held-mapped Blank = refl
@@ -203,7 +203,7 @@ module _ {T U : Type 0} (g : T → U) where
         ∙ ap (λ ns. list_numbers k p ++ ns) (numbers-among-mapped (k + size p) ps)
     numbers-among-mapped k (skip ps) = numbers-among-mapped k ps
 
-  present-mapped : (ps : Typeds T) → present (all_mapped g ps) ≡ map (mapped g) (present ps)
+  pub present-mapped : (ps : Typeds T) → present (all_mapped g ps) ≡ map (mapped g) (present ps)
   present-mapped none = refl
   present-mapped (more p ps) = ap (λ xs. mapped g p ∷ xs) (present-mapped ps)
   present-mapped (skip ps) = present-mapped ps
@@ -283,10 +283,10 @@ module _ {T U : Type 0} (g : T → U) where
   there-sort None = refl
   there-sort (Some s) = refl
 
-  sort-at-mapped : (sorts : List (Sort T)) (n : ℕ) → sort_at (map (sort_mapped g) sorts) n ≡ sort_mapped g (sort_at sorts n)
+  pub sort-at-mapped : (sorts : List (Sort T)) (n : ℕ) → sort_at (map (sort_mapped g) sorts) n ≡ sort_mapped g (sort_at sorts n)
   sort-at-mapped sorts n = ap (λ o. unwrap_or o Unknown) (slice_get-map (sort_mapped g) sorts n) ∙ there-sort (slice_get sorts n)
 
-  variable-at-mapped : (sorts : List (Sort T)) (n : ℕ) → variable_at (map (sort_mapped g) sorts) n ≡ map variable_mapped (variable_at sorts n)
+  pub variable-at-mapped : (sorts : List (Sort T)) (n : ℕ) → variable_at (map (sort_mapped g) sorts) n ≡ map variable_mapped (variable_at sorts n)
   variable-at-mapped sorts n = ap (variable_of n) (sort-at-mapped sorts n) ∙ variable-mapped (sort_at sorts n) n
 
   if-mapped : {A B : Type 0} (h : A → B) (b : Bool) (xs : List A) → (if b then map h xs else []) ≡ map h (if b then xs else [])
@@ -303,7 +303,7 @@ module _ {T U : Type 0} (g : T → U) where
       ∙ ap (λ vs. map variable_mapped (if q n then variable_at sorts n else []) ++ vs) (where-mapped sorts p q e ns)
       ∙ sym (map-append variable_mapped (if q n then variable_at sorts n else []) (variables_where sorts q ns))
 
-  free-mapped : (m : Member T) → free_locals (member_mapped m) ≡ map variable_mapped (free_locals m)
+  pub free-mapped : (m : Member T) → free_locals (member_mapped m) ≡ map variable_mapped (free_locals m)
   free-mapped m = where-mapped m.locals (is_outside (member_mapped m)) (is_outside m) (λ n. refl) (once [] (each_local (uses_within m)))
 
   -- ---- assigned locals
@@ -374,7 +374,7 @@ module _ {T U : Type 0} (g : T → U) where
       ap (λ ns. if holds_specifications f then ns else (if holds_names f then names_among (all_mapped g ps) else [])) (specified-mapped ps)
       ∙ ap (λ ns. if holds_specifications f then names_specified ps else (if holds_names f then ns else [])) (names-mapped ps)
 
-  declared-mapped : (ps : Typeds T) → names_declared (all_mapped g ps) ≡ names_declared ps
+  pub declared-mapped : (ps : Typeds T) → names_declared (all_mapped g ps) ≡ names_declared ps
   declared-mapped none = refl
   declared-mapped (more p ps) = ap (λ ns. ns ++ names_declared (all_mapped g ps)) (of-mapped p) ∙ ap (λ ns. names_of p ++ ns) (declared-mapped ps)
   declared-mapped (skip ps) = declared-mapped ps
@@ -387,7 +387,7 @@ module _ {T U : Type 0} (g : T → U) where
   any-alike p q e [] = refl
   any-alike p q e (x ∷ xs) = ap (λ b. b || list_any p xs) (e x) ∙ ap (λ b. q x || b) (any-alike p q e xs)
 
-  local-at-mapped : (t m : Member T) (n : ℕ) → local_at (member_mapped t) (member_mapped m) n ≡ local_at t m n
+  pub local-at-mapped : (t m : Member T) (n : ℕ) → local_at (member_mapped t) (member_mapped m) n ≡ local_at t m n
   local-at-mapped t m n =
       ap (λ ns. second_of (zip ns (all_locals false (all_mapped g m.statements))) n) (all-locals-mapped false t.statements)
       ∙ ap (λ ns. second_of (zip (all_locals false t.statements) ns) n) (all-locals-mapped false m.statements)
@@ -417,7 +417,7 @@ module _ {T U : Type 0} (g : T → U) where
         ∙ ap (λ hs. if is_hole a f l then hole_mapped h ∷ [] else hs) (holes-mapped (suc k) (is_inside a f l) ps)
         ∙ one-mapped (is_hole a f l) h (holes_among (suc k) (is_inside a f l) ps)
 
-    holes-mapped : (k : ℕ) (a : Bool) (ps : Typeds T) → holes_among k a (all_mapped g ps) ≡ map hole_mapped (holes_among k a ps)
+    pub holes-mapped : (k : ℕ) (a : Bool) (ps : Typeds T) → holes_among k a (all_mapped g ps) ≡ map hole_mapped (holes_among k a ps)
     holes-mapped k a none = refl
     holes-mapped k a (more p ps) =
         ap (λ hs. hs ++ holes_among (k + size (mapped g p)) a (all_mapped g ps)) (holes-in-mapped k a p)
@@ -437,7 +437,7 @@ module _ {T U : Type 0} (g : T → U) where
       ∙ ap (differs_from (hole_value h)) (slice_get-map hole_mapped (holes m) n)
       ∙ differs-mapped (hole_value h) (slice_get (holes m) n)
 
-  outer-mapped : (t : Member T) (u : LocalUse) → is_outer (member_mapped t) u ≡ is_outer t u
+  pub outer-mapped : (t : Member T) (u : LocalUse) → is_outer (member_mapped t) u ≡ is_outer t u
   outer-mapped t u =
       ap (λ s. nat_lt 1 (standing s) && not (is_declared_inside t u.local)) (sort-at-mapped t.locals u.local)
       ∙ ap (λ n. nat_lt 1 n && not (is_declared_inside t u.local)) (standing-mapped (sort_at t.locals u.local))
@@ -475,7 +475,7 @@ module _ {T U : Type 0} (g : T → U) where
 
   -- ---- choices
 
-  choice-mapped : (array : Sort U → Bool) (ms : List (Member T)) (t : Member T) →
+  pub choice-mapped : (array : Sort U → Bool) (ms : List (Member T)) (t : Member T) →
       choice array (map member_mapped ms) (member_mapped t) ≡ choice_mapped (choice (λ s. array (sort_mapped g s)) ms t)
   choice-mapped array ms t =
       let u = member_mapped t in
@@ -537,7 +537,7 @@ listed : {A B : Type 0} (h : A → B) (o : Option A) → option_to_list (option_
 listed h None = refl
 listed h (Some x) = refl
 
-members-seen : (p : PackageView) (ws : List Window) → members_of (content p) ws ≡ map (member_mapped (types p)) (members_in p ws)
+pub members-seen : (p : PackageView) (ws : List Window) → members_of (content p) ws ≡ map (member_mapped (types p)) (members_in p ws)
 members-seen p [] = refl
 members-seen p (w ∷ ws) =
     ap (λ o. option_to_list o ++ members_of (content p) ws) (member-seen p w)
@@ -545,7 +545,7 @@ members-seen p (w ∷ ws) =
     ∙ ap (λ ms. map (member_mapped (types p)) (option_to_list (member_in p w)) ++ ms) (members-seen p ws)
     ∙ sym (map-append (member_mapped (types p)) (option_to_list (member_in p w)) (members_in p ws))
 
-template-seen : (p : PackageView) (ws : List Window) → template_of (content p) ws ≡ option_map (member_mapped (types p)) (template_in p ws)
+pub template-seen : (p : PackageView) (ws : List Window) → template_of (content p) ws ≡ option_map (member_mapped (types p)) (template_in p ws)
 template-seen p [] = refl
 template-seen p (w ∷ ws) = member-seen p w
 

@@ -1,5 +1,5 @@
 -- What the parts of a plan come to.
-use Rattle.std.proofs.Common.{◌≡◌, ◌∙◌, ℕ, Bool, false, List, ◌++◌, length, map, replicate, Option, slice_get, ap, sym}
+use Rattle.std.proofs.Common.{◌≡◌, ◌∙◌, ℕ, Bool, false, List, [], ◌∷◌, ◌++◌, length, map, replicate, Option, slice_get, ap, refl, sym}
 use Rattle.std.proofs.lemmas.List.{length-map}
 use Rattle.go_tree.specs.declared.object.Declared.{Declared}
 use Rattle.go_tree.specs.Uses.{UsesView, functions_among}
@@ -9,15 +9,14 @@ use Rattle.clone_window.specs.Spans.{last_from}
 use Rattle.clone_window.specs.Windows.{window_statements}
 use Rattle.param_choose.specs.declared.holes.Hole.{Hole as FoundHole}
 use Rattle.param_choose.specs.declared.variables.Variable.{Variable as FoundVariable}
-use Rattle.param_choose.specs.declared.plan.Param.{Param}
-use Rattle.param_choose.specs.declared.plan.PlanResult.{PlanResult}
 use Rattle.param_choose.specs.Members.{Member, first_in, first_token, locals_there, member_over, start_in}
 use Rattle.param_choose.specs.Locals.{assigned_among, declared_names, free_locals, has, only, variables_where}
 use Rattle.param_choose.specs.Holes.{holes, hole_values, names_outer}
-use Rattle.param_choose.specs.Choosing.{Choice, choice, declared_results, hole_parameters, parameters_from, is_needed}
+use Rattle.param_choose.specs.Choosing.{Choice, HoleParameter, choice, declared_results, hole_parameters, parameters_from, is_needed}
+use Rattle.param_choose.specs.Handed.{HandedHole, handed, handed_hole, handed_parameter, planned_by}
 use Rattle.param_choose.specs.Marks.{differing, needed, parameters_by, variables_by}
 use Rattle.param_choose.specs.Shown.{hole_view, holes_view, values_view, variable_view}
-use Rattle.param_choose.specs.Plans.{Parameter, Result, Planned, planned, free_parameter, hole_parameter, assigned_result, declared_result, param_view, result_view}
+use Rattle.param_choose.specs.Plans.{planned, free_parameter, hole_parameter, assigned_result, declared_result}
 use Rattle.param_choose.proofs.Marks.{marked, differing-all, parameters-marked, needed-all, variables-marked}
 
 -- the holes that are marked or name what is declared outside are the parameters
@@ -37,30 +36,36 @@ names-are ms t names later e m =
     ∙ variables-marked t.locals (is_needed ms t) names
     ∙ ap (λ ns. variables_where t.locals (is_needed ms t) ns) e
 
-pub plan-is : (array : Sort ℕ → Bool) (ms : List (Member ℕ)) (t : Member ℕ) (free assigned variables : List FoundVariable) (hs : List FoundHole)
-    (names : List ℕ) (marks later : List Bool) (params : List Param) (results : List PlanResult) →
+pub choice-is : (array : Sort ℕ → Bool) (ms : List (Member ℕ)) (t : Member ℕ) (free assigned variables : List FoundVariable) (hs : List FoundHole)
+    (names : List ℕ) (marks later : List Bool) (shown : List (HandedHole ℕ)) →
     map variable_view free ≡ free_locals t →
     holes_view hs ≡ holes t →
     marks ≡ differing (values_view hs) (replicate (length hs) false) ms →
-    map param_view params ≡ map free_parameter (map variable_view free) ++ map hole_parameter (parameters_by (names_outer t) t.start marks 0 (holes_view hs)) →
+    shown ≡ map handed_hole (parameters_by (names_outer t) t.start marks 0 (holes_view hs)) →
     map variable_view assigned ≡ only (has (assigned_among array t.statements)) (map variable_view free) →
     names ≡ declared_names t →
     later ≡ needed t.statements names (replicate (length names) false) ms →
     map variable_view variables ≡ variables_by t.locals later 0 names →
-    map result_view results ≡ map assigned_result (map variable_view assigned) ++ map declared_result (map variable_view variables) →
-    record { parameters = map param_view params; results = map result_view results } ≡ planned (choice array ms t)
-plan-is array ms t free assigned variables hs names marks later params results f h m ps a n l v rs =
+    record { free = map variable_view free; holes = shown; assigned = map variable_view assigned; declared = map variable_view variables } ≡ handed (choice array ms t)
+choice-is array ms t free assigned variables hs names marks later shown f h m s a n l v =
     let c = choice array ms t in
-    let parameters : map param_view params ≡ (planned c).parameters =
-    ps
-    ∙ ap (λ vs. map free_parameter vs ++ map hole_parameter (parameters_by (names_outer t) t.start marks 0 (holes_view hs))) f
-    ∙ ap (λ qs. map free_parameter (free_locals t) ++ map hole_parameter qs) (holes-are ms t hs marks h m) in
     let own : map variable_view assigned ≡ c.assigned = a ∙ ap (only (has (assigned_among array t.statements))) f in
-    let given : map result_view results ≡ (planned c).results =
-    rs
-    ∙ ap (λ vs. map assigned_result vs ++ map declared_result (map variable_view variables)) own
-    ∙ ap (λ vs. map assigned_result c.assigned ++ map declared_result vs) (v ∙ names-are ms t names later n l) in
-    ap (λ qs. record { parameters = qs; results = map result_view results }) parameters ∙ ap (λ qs. record { parameters = (planned c).parameters; results = qs }) given
+    let holes : shown ≡ map handed_hole c.holes = s ∙ ap (map handed_hole) (holes-are ms t hs marks h m) in
+    let given : map variable_view variables ≡ c.declared = v ∙ names-are ms t names later n l in
+    ap (λ vs. record { free = vs; holes = shown; assigned = map variable_view assigned; declared = map variable_view variables }) f
+    ∙ ap (λ ps. record { free = c.free; holes = ps; assigned = map variable_view assigned; declared = map variable_view variables }) holes
+    ∙ ap (λ vs. record { free = c.free; holes = map handed_hole c.holes; assigned = vs; declared = map variable_view variables }) own
+    ∙ ap (λ vs. record { free = c.free; holes = map handed_hole c.holes; assigned = c.assigned; declared = vs }) given
+
+-- ---- the plan
+
+holes-planned : (hs : List (HoleParameter ℕ)) → map handed_parameter (map handed_hole hs) ≡ map hole_parameter hs
+holes-planned [] = refl
+holes-planned (h ∷ hs) = ap (λ ps. hole_parameter h ∷ ps) (holes-planned hs)
+
+-- what is handed over has one plan
+pub planned-is : (c : Choice ℕ) → planned_by (handed c) ≡ planned c
+planned-is c = ap (λ ps. record { parameters = map free_parameter c.free ++ ps; results = map assigned_result c.assigned ++ map declared_result c.declared }) (holes-planned c.holes)
 
 -- ---- a member by its parts
 

@@ -6,4 +6,5 @@ pub mod Ends
 pub mod Marks
 pub mod Shown
 pub mod Plans
+pub mod Handed
 pub mod Examples

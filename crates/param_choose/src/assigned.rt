@@ -24,7 +24,7 @@ use std::collections::HashSet;
 /// # Errors
 ///
 /// Want of memory.
-pub(crate) fn assigned_of(
+pub fn assigned_of(
     alloc: Global,
     types: &Types,
     statements: &[Option<TypedNode>],
@@ -56,7 +56,7 @@ fn these_among(
 }
 
 /// These numbers as a set.
-fn set_of(alloc: Global, numbers: &[u32]) -> Result<HashSet<u32>, AllocError>
+pub fn set_of(alloc: Global, numbers: &[u32]) -> Result<HashSet<u32>, AllocError>
     ensures { IfOk result (λ s. (n : ℕ) → set.contains nat_eq s n ≡ has numbers.now n) }
 {
     let mut set = HashSet::new(alloc);

@@ -25,7 +25,7 @@ use std::alloc::{AllocError, Global};
 ///
 /// Want of memory.
 #[tactic(auto, using(crate::proofs::Members::member_there, crate::proofs::Members::member_missing))]
-pub(crate) fn differing(
+pub fn differing(
     alloc: Global,
     checked: &Checked,
     holes: &[Hole<'_>],
@@ -43,7 +43,7 @@ pub(crate) fn differing(
 }
 
 /// As many marks that are not set.
-pub(crate) fn unmarked(alloc: Global, count: usize) -> Result<Vec<bool>, AllocError>
+pub fn unmarked(alloc: Global, count: usize) -> Result<Vec<bool>, AllocError>
     ensures { IfOk result (λ v. v.items ≡ replicate count false) }
 {
     vec![in alloc; false; count]
@@ -92,11 +92,7 @@ fn differs_at(sort: &Sort, others: &[Hole<'_>], index: usize) -> bool
 
 /// The one or the other, place by place.
 #[tactic(auto, using(crate::proofs::Marks::either_is))]
-pub(crate) fn either_each(
-    alloc: Global,
-    left: &[bool],
-    right: &[bool],
-) -> Result<Vec<bool>, AllocError>
+pub fn either_each(alloc: Global, left: &[bool], right: &[bool]) -> Result<Vec<bool>, AllocError>
     ensures { IfOk result (λ v. v.items ≡ rows.either_each left.now right.now) }
 {
     let mut row = Vec::with_capacity(alloc, left.len())?;
@@ -109,7 +105,7 @@ pub(crate) fn either_each(
 }
 
 /// The mark of this place, if there is one.
-pub(crate) fn mark_at(marks: &[bool], index: usize) -> bool
+pub fn mark_at(marks: &[bool], index: usize) -> bool
     ensures { result ≡ rows.mark_at marks.now index }
 {
     match marks.get(index) {

@@ -22,7 +22,7 @@ use std::alloc::{AllocError, Global};
 
 /// A hole.
 #[derive(Clone, Copy)]
-pub(crate) struct Hole<'a> {
+pub struct Hole<'a> {
     /// Its number among the nodes of its window.
     pub node: u32,
     /// The number of its first token in the function.
@@ -38,7 +38,7 @@ pub(crate) struct Hole<'a> {
 /// # Errors
 ///
 /// Want of memory.
-pub(crate) fn holes_of<'a>(
+pub fn holes_of<'a>(
     alloc: Global,
     statements: &'a [Option<TypedNode>],
 ) -> Result<Vec<Hole<'a>>, AllocError>
@@ -96,7 +96,7 @@ fn push_all_holes<'a>(
 
 /// Whether tokens of a function, from one up to another, name a constant or a type that is declared outside the window.
 #[tactic(auto, using(crate::proofs::Tokens::any_next, crate::proofs::Tokens::no_uses))]
-pub(crate) fn names_outer(
+pub fn names_outer(
     func: &TypedFunc,
     declared: &[Declared],
     extent: Extent,
@@ -124,7 +124,7 @@ fn is_outer(func: &TypedFunc, declared: &[Declared], extent: Extent, local: u32)
 }
 
 /// Whether a local is a constant or a type.
-fn is_fixed(func: &TypedFunc, local: u32) -> bool
+pub fn is_fixed(func: &TypedFunc, local: u32) -> bool
     ensures { result ≡ nat_lt 1 (standing (sort_at func.now.locals local)) }
 {
     match func.locals().get(local as usize) {

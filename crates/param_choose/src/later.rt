@@ -33,7 +33,7 @@ use std::collections::HashMap;
 ///
 /// Want of memory.
 #[tactic(auto, using(crate::proofs::Members::member_there, crate::proofs::Members::member_missing))]
-pub(crate) fn needed(
+pub fn needed(
     alloc: Global,
     checked: &Checked,
     template: &[Option<TypedNode>],
@@ -111,7 +111,7 @@ fn is_later(
 
 /// The local that stands where a local of the template does, by the places of these.
 #[tactic(auto, using(crate::proofs::Ends::second_at))]
-fn local_at(places: &HashMap<u32, usize>, others: &[u32], local: u32) -> u32
+pub fn local_at(places: &HashMap<u32, usize>, others: &[u32], local: u32) -> u32
     ensures { (left : List ℕ) → ((n : ℕ) → hash_map.get nat_eq places.now n ≡ place_in left n) → result ≡ second_of (zip left others.now) local }
 {
     match places.get(&local) {
@@ -125,7 +125,7 @@ fn local_at(places: &HashMap<u32, usize>, others: &[u32], local: u32) -> u32
 
 /// The first place of each local in a row.
 #[tactic(auto, using(crate::proofs::Ends::place_more))]
-fn places_of(alloc: Global, locals: &[u32]) -> Result<HashMap<u32, usize>, AllocError>
+pub fn places_of(alloc: Global, locals: &[u32]) -> Result<HashMap<u32, usize>, AllocError>
     ensures { IfOk result (λ m. (n : ℕ) → hash_map.get nat_eq m n ≡ place_in locals.now n) }
 {
     let mut places = HashMap::new(alloc);
@@ -138,7 +138,7 @@ fn places_of(alloc: Global, locals: &[u32]) -> Result<HashMap<u32, usize>, Alloc
 }
 
 /// For each local of a function the number behind the last token that names it; 0 where there is no such local.
-fn end_at(ends: &[usize], local: u32) -> usize
+pub fn end_at(ends: &[usize], local: u32) -> usize
     ensures { result ≡ last_uses.end_at ends.now local }
 {
     match ends.get(local as usize) {
@@ -148,7 +148,7 @@ fn end_at(ends: &[usize], local: u32) -> usize
 }
 
 /// The row of a function; an empty one where there is none.
-fn ends_at(ends: &[Vec<usize>], number: u32) -> &[usize]
+pub fn ends_at(ends: &[Vec<usize>], number: u32) -> &[usize]
     ensures { (row : List ℕ) → slice_get (map (λ v. v.items) ends.now) number ≡ Some row → result.now ≡ row }
 {
     match ends.get(number as usize) {
@@ -158,7 +158,7 @@ fn ends_at(ends: &[Vec<usize>], number: u32) -> &[usize]
 }
 
 /// For each function, and each local of it, the number behind the last token that names the local; 0 where none does.
-fn all_ends(alloc: Global, functions: &[TypedFunc]) -> Result<Vec<Vec<usize>>, AllocError>
+pub fn all_ends(alloc: Global, functions: &[TypedFunc]) -> Result<Vec<Vec<usize>>, AllocError>
     ensures { IfOk result (λ v. map (λ row. row.items) v.items ≡ map last_uses.ends_of functions.now) }
 {
     let mut out = Vec::with_capacity(alloc, functions.len())?;

@@ -7,14 +7,15 @@
 //! says exactly this, of the package over the types themselves.
 #![tactic(auto)]
 
-mod assigned;
+pub mod assigned;
+pub mod choice;
 pub mod choose;
-mod differ;
-mod holes;
-mod later;
+pub mod differ;
+pub mod holes;
+pub mod later;
 pub mod laws;
-mod names;
-mod numbers;
+pub mod names;
+pub mod numbers;
 pub mod plan;
-mod template;
-mod variables;
+pub mod template;
+pub mod variables;

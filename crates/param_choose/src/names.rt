@@ -14,7 +14,7 @@ use std::alloc::{AllocError, Global};
 /// # Errors
 ///
 /// Want of memory.
-pub(crate) fn names_declared(
+pub fn names_declared(
     alloc: Global,
     statements: &[Option<TypedNode>],
 ) -> Result<Vec<u32>, AllocError>

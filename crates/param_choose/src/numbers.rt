@@ -18,7 +18,7 @@ use std::alloc::{AllocError, Global};
 /// # Errors
 ///
 /// Want of memory.
-pub(crate) fn start_of(alloc: Global, func: &TypedFunc, window: &Window) -> Result<u32, AllocError>
+pub fn start_of(alloc: Global, func: &TypedFunc, window: &Window) -> Result<u32, AllocError>
     ensures { IfOk result (λ n. n ≡ start_in (tree_of func.now) window.now) }
 {
     let mut numbers = Vec::new(alloc);
@@ -103,7 +103,7 @@ fn number_past(number: u32, count: u64, parts: &[Option<TypedNode>]) -> Result<u
 /// # Errors
 ///
 /// Want of memory, which is said of numbers from 2^32 on.
-pub(crate) fn behind(number: u32, size: u64) -> Result<u32, AllocError>
+pub fn behind(number: u32, size: u64) -> Result<u32, AllocError>
     ensures { IfOk result (λ n. n ≡ number + size) }
 {
     let Ok(size) = u32::try_from(size) else {

@@ -15,7 +15,7 @@ use go_tree::uses::Uses;
 use go_typed::node::TypedNode;
 
 /// Where the locals of a function are declared; nothing where there is no such function.
-pub(crate) fn declared_in(uses: &Uses, function: u32) -> &[Declared]
+pub fn declared_in(uses: &Uses, function: u32) -> &[Declared]
     ensures { result.now ≡ locals_there (slice_get uses.now.locals function) }
 {
     match uses.locals(function as usize) {
@@ -25,12 +25,7 @@ pub(crate) fn declared_in(uses: &Uses, function: u32) -> &[Declared]
 }
 
 /// Where statements of a function stand, the first of which has a number among the nodes of the function.
-pub(crate) fn extent_of(
-    uses: &Uses,
-    function: u32,
-    statements: &[Option<TypedNode>],
-    start: u32,
-) -> Extent
+pub fn extent_of(uses: &Uses, function: u32, statements: &[Option<TypedNode>], start: u32) -> Extent
     ensures first { result.first ≡ first_token (slice_get (functions_among uses.now.package_level) function) }
     ensures from { result.from ≡ specs.first_in (views statements.now) }
     ensures upto { result.upto ≡ last_from 0 (views statements.now) }
@@ -65,7 +60,7 @@ fn first_token(uses: &Uses, function: u32) -> u32
 }
 
 /// The function of this number among objects, if there are so many.
-fn function_at(objects: &[Declared], number: u32) -> Option<Declared>
+pub fn function_at(objects: &[Declared], number: u32) -> Option<Declared>
     ensures { result ≡ slice_get (functions_among objects.now) number }
 {
     let mut left = number;

@@ -19,14 +19,14 @@ use std::collections::HashSet;
 
 /// A local that is a variable or a parameter, and its type.
 #[derive(Clone, Copy, Debug)]
-pub(crate) struct Variable {
+pub struct Variable {
     pub local: u32,
     pub ty: TypeId,
 }
 
 /// Where a window stands.
 #[derive(Clone, Copy, Debug)]
-pub(crate) struct Extent {
+pub struct Extent {
     /// The number of its function's first token in the file.
     pub first: u32,
     /// The number of its first token, counted from that one.
@@ -48,7 +48,7 @@ fn variable_at(func: &TypedFunc, local: u32) -> Option<Variable>
 }
 
 /// Puts the local of this number behind the others, if it is a variable.
-pub(crate) fn push_variable(
+pub fn push_variable(
     func: &TypedFunc,
     local: u32,
     out: &mut Vec<Variable>,
@@ -62,7 +62,7 @@ pub(crate) fn push_variable(
 }
 
 /// Whether a local is declared in the window, by the declarations of its function.
-pub(crate) fn is_inside(declared: &[Declared], extent: Extent, local: u32) -> bool
+pub fn is_inside(declared: &[Declared], extent: Extent, local: u32) -> bool
     ensures { result ≡ declared_between extent.first extent.from extent.upto (slice_get declared.now local) }
 {
     match declared.get(local as usize) {
@@ -85,7 +85,7 @@ fn is_between(extent: Extent, token: u32) -> bool
 /// # Errors
 ///
 /// Want of memory.
-pub(crate) fn free_locals(
+pub fn free_locals(
     alloc: Global,
     func: &TypedFunc,
     declared: &[Declared],

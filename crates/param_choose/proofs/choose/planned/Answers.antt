@@ -1,73 +1,39 @@
-use Rattle.std.proofs.Common.{◌≡◌, ◌∙◌, ℕ, Bool, false, List, ◌++◌, length, map, replicate, slice_get, ap}
-use Rattle.go_tree.specs.Uses.{UsesView, functions_among}
-use Rattle.go_types.specs.Tables.{Table}
+use Rattle.std.proofs.Common.{◌≡◌, ◌∙◌, ℕ, List, ◌++◌, map, ap}
 use Rattle.go_typed.specs.Funcs.{tree_of}
-use Rattle.go_typed.specs.Views.{views}
 use Rattle.param_choose.specs.Choosing.{choice}
-use Rattle.param_choose.specs.Holes.{names_outer}
-use Rattle.param_choose.specs.Locals.{assigned_among, has, only}
-use Rattle.param_choose.specs.Marks.{differing, needed, parameters_by, variables_by}
-use Rattle.param_choose.specs.Members.{Member, first_token, locals_there, members_in}
-use Rattle.param_choose.specs.Plans.{assigned_result, declared_result, free_parameter, hole_parameter, param_view, planned, result_view}
-use Rattle.param_choose.specs.Shown.{array_in, holes_view, values_view, variable_view}
-use Rattle.param_choose.proofs.Planned.{built, built-is, plan-is}
+use Rattle.param_choose.specs.Handed.{HandedHole, choice_shown, handed_parameter, hole_shown, planned_by}
+use Rattle.param_choose.specs.Members.{member_over, members_in}
+use Rattle.param_choose.specs.Plans.{assigned_result, declared_result, free_parameter, param_view, result_view}
+use Rattle.param_choose.specs.Shown.{array_in, variable_view}
+use Rattle.param_choose.proofs.Planned.{planned-is}
 use Rattle.param_choose.proofs.choose.planned.Goals as goal
 
 pub returns : goal.returns
 returns c =
     let p = c.args.checked.now in
     let f = c.args.func.now in
-    let w = c.args.template.now in
-    let ms = members_in p c.args.members.now in
-    let array = array_in p.types in
-    let x = c.extent_of-extent.result in
-    let ps = views c.statements-run.result.now in
-    let t = built w f.locals f.tokens c.declared_in-declared.result.now x.first ps x.start x.from x.upto in
-    let free = c.in_ok-free.free.items in
-    let assigned = c.in_ok-assigned.assigned.items in
-    let variables = c.in_ok-variables.variables.items in
-    let hs = c.in_ok-holes.holes.items in
-    let names = c.in_ok-names.names.items in
-    let marks = c.in_ok-marks.marks.items in
-    let later = c.in_ok-later.later.items in
-    let marked : marks ≡ differing (values_view hs) (replicate (length hs) false) ms =
-    c.in_ok-marks.ensures ∙ ap (λ gs. differing (values_view gs) (replicate (length gs) false) ms) c.deref-2.ensures.value in
-    let first : map param_view c.push_free.new.out.items ≡ map free_parameter (map variable_view free) =
+    let ch = c.in_ok-choice.choice in
+    let h = choice (array_in p.types) (members_in p c.args.members.now) (member_over p.uses c.args.template.now f.locals f.tokens (tree_of f)) in
+    let first : map param_view c.push_free.new.out.items ≡ map free_parameter (map variable_view ch.free.items) =
     c.in_ok-push_free.ensures
     ∙ ap (λ l. map param_view l ++ map free_parameter (map variable_view c.deref.result.now)) c.new-params.ensures.items
     ∙ ap (λ l. map free_parameter (map variable_view l)) c.deref.ensures.value in
-    let params : map param_view c.of.result ≡ map free_parameter (map variable_view free) ++ map hole_parameter (parameters_by (names_outer t) x.start marks 0 (holes_view hs)) =
+    let params : map param_view c.of.result ≡ map free_parameter (map variable_view ch.free.items) ++ map handed_parameter (map hole_shown ch.holes.items) =
     ap (map param_view) c.of.ensures
     ∙ c.in_ok-push_holes.ensures
-    ∙ ap (λ l. l ++ map hole_parameter (parameters_by (names_outer t) x.start c.deref-4.result.now 0 (holes_view c.deref-3.result.now))) first
-    ∙ ap (λ bs. map free_parameter (map variable_view free) ++ map hole_parameter (parameters_by (names_outer t) x.start bs 0 (holes_view c.deref-3.result.now))) c.deref-4.ensures.value
-    ∙ ap (λ gs. map free_parameter (map variable_view free) ++ map hole_parameter (parameters_by (names_outer t) x.start marks 0 (holes_view gs))) c.deref-3.ensures.value in
-    let own : map variable_view assigned ≡ only (has (assigned_among array ps)) (map variable_view free) =
-    c.in_ok-assigned.ensures
-    ∙ ap (λ (types : Table). only (has (assigned_among (array_in types) ps)) (map variable_view c.deref-5.result.now)) c.types.ensures.types
-    ∙ ap (λ vs. only (has (assigned_among array ps)) (map variable_view vs)) c.deref-5.ensures.value in
-    let occurring : later ≡ needed ps names (replicate (length names) false) ms =
-    c.in_ok-later.ensures ∙ ap (λ ns. needed ps ns (replicate (length ns) false) ms) c.deref-7.ensures.value in
-    let declared : map variable_view variables ≡ variables_by f.locals later 0 names =
-    c.in_ok-variables.ensures
-    ∙ ap (λ bs. variables_by f.locals bs 0 c.deref-8.result.now) c.deref-9.ensures.value
-    ∙ ap (λ ns. variables_by f.locals later 0 ns) c.deref-8.ensures.value in
-    let second : map result_view c.push_assigned.new.out.items ≡ map assigned_result (map variable_view assigned) =
+    ∙ ap (λ l. l ++ map handed_parameter (map hole_shown c.deref-2.result.now)) first
+    ∙ ap (λ l. map free_parameter (map variable_view ch.free.items) ++ map handed_parameter (map hole_shown l)) c.deref-2.ensures.value in
+    let second : map result_view c.push_assigned.new.out.items ≡ map assigned_result (map variable_view ch.assigned.items) =
     c.in_ok-push_assigned.ensures
-    ∙ ap (λ l. map result_view l ++ map assigned_result (map variable_view c.deref-6.result.now)) c.new-results.ensures.items
-    ∙ ap (λ l. map assigned_result (map variable_view l)) c.deref-6.ensures.value in
-    let results : map result_view c.of-2.result ≡ map assigned_result (map variable_view assigned) ++ map declared_result (map variable_view variables) =
+    ∙ ap (λ l. map result_view l ++ map assigned_result (map variable_view c.deref-3.result.now)) c.new-results.ensures.items
+    ∙ ap (λ l. map assigned_result (map variable_view l)) c.deref-3.ensures.value in
+    let results : map result_view c.of-2.result ≡ map assigned_result (map variable_view ch.assigned.items) ++ map declared_result (map variable_view ch.declared.items) =
     ap (map result_view) c.of-2.ensures
     ∙ c.in_ok-push_declared.ensures
-    ∙ ap (λ l. l ++ map declared_result (map variable_view c.deref-10.result.now)) second
-    ∙ ap (λ l. map assigned_result (map variable_view assigned) ++ map declared_result (map variable_view l)) c.deref-10.ensures.value in
-    plan-is array ms t free assigned variables hs names marks later c.of.result c.of-2.result
-    c.in_ok-free.ensures c.in_ok-holes.ensures marked params own c.in_ok-names.ensures occurring declared results
-    ∙ ap (λ (m : Member ℕ). planned (choice array ms m))
-    (built-is p.uses w f.locals f.tokens (tree_of f) c.declared_in-declared.result.now x.first ps x.start x.from x.upto
-    (c.declared_in-declared.ensures ∙ ap (λ (u : UsesView). locals_there (slice_get u.locals w.func)) c.uses.ensures)
-    (c.extent_of-extent.ensures.first ∙ ap (λ (u : UsesView). first_token (slice_get (functions_among u.package_level) w.func)) c.uses-2.ensures)
-    c.statements-run.ensures
-    (c.extent_of-extent.ensures.start ∙ c.in_ok-start.ensures)
-    c.extent_of-extent.ensures.from
-    c.extent_of-extent.ensures.upto)
+    ∙ ap (λ l. l ++ map declared_result (map variable_view c.deref-4.result.now)) second
+    ∙ ap (λ l. map assigned_result (map variable_view ch.assigned.items) ++ map declared_result (map variable_view l)) c.deref-4.ensures.value in
+    let q = planned_by (choice_shown ch) in
+    ap (λ ps. record { parameters = ps; results = map result_view c.of-2.result }) params
+    ∙ ap (λ rs. record { parameters = q.parameters; results = rs }) results
+    ∙ ap planned_by c.in_ok-choice.ensures
+    ∙ planned-is h

@@ -1,19 +1,7 @@
-use Rattle.std.proofs.Common.{◌≡◌, ℕ, Bool, ◌-◌, ◌&&◌, ◌++◌, not, nat_lt, slice_get, map, drop}
-use Rattle.std.specs.List.{list_any}
-use Rattle.go_typed.specs.declared.walk.LocalUse.{LocalUse}
-use Rattle.go_typed.specs.Windows.{uses_from}
-use Rattle.clone_window.specs.Sameness.{sort_at, standing}
-use Rattle.param_choose.specs.Holes.{Hole}
-use Rattle.param_choose.specs.Marks.{parameters_by}
-use Rattle.param_choose.specs.Members.{declared_between}
-use Rattle.param_choose.specs.Plans.{hole_parameter, param_view}
-use Rattle.param_choose.specs.Shown.{holes_view}
+use Rattle.std.proofs.Common.{◌≡◌, ◌++◌, map, drop}
+use Rattle.param_choose.specs.Handed.{handed_parameter, hole_shown}
+use Rattle.param_choose.specs.Plans.{param_view}
 use Rattle.param_choose.proofs.choose.push_holes.Given as goal
 
 abbrev pub invariant-loop-hole : goal.invariant-loop-hole
-invariant-loop-hole l =
-    let fixed : LocalUse → Bool = λ u. nat_lt 1 (standing (sort_at l.func.locals u.local)) && not (declared_between l.extent.first l.extent.from l.extent.upto (slice_get l.declared u.local)) in
-    let outer : Hole ℕ → Bool = λ h. list_any fixed (uses_from l.func.tokens h.from (h.upto - h.from)) in
-    (map param_view l.fn.out.items ++ map hole_parameter (parameters_by outer l.extent.start l.marks 0 (holes_view l.holes))
-    ≡ map param_view l.out.items ++ map hole_parameter (parameters_by outer l.extent.start l.marks l.index (holes_view (drop l.hole-index l.holes))))
-    × (l.index ≡ l.hole-index)
+invariant-loop-hole l = map param_view l.fn.out.items ++ map handed_parameter (map hole_shown l.holes) ≡ map param_view l.out.items ++ map handed_parameter (map hole_shown (drop l.hole-index l.holes))

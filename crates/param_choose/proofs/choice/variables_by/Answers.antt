@@ -1,8 +1,8 @@
 use Rattle.std.proofs.Common.{◌+◌, get_or, map, refl, sym, ap, ◌∙◌}
 use Rattle.param_choose.specs.Shown.{variable_view}
 use Rattle.param_choose.proofs.Additions.{variable_left, variable_taken}
-use Rattle.param_choose.proofs.choose.variables_by.Goals as goal
-use Rattle.param_choose.proofs.choose.variables_by.Goals.{then-mark_at+in_ok-push_variable, else-mark_at}
+use Rattle.param_choose.proofs.choice.variables_by.Goals as goal
+use Rattle.param_choose.proofs.choice.variables_by.Goals.{then-mark_at+in_ok-push_variable, else-mark_at}
 
 pub loop-local-preserved : goal.loop-local-preserved
 loop-local-preserved c =

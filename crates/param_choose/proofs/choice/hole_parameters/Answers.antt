@@ -6,11 +6,11 @@ use Rattle.clone_window.specs.Sameness.{sort_at, standing}
 use Rattle.param_choose.specs.Holes.{Hole as Constant}
 use Rattle.param_choose.specs.Marks.{mark_at}
 use Rattle.param_choose.specs.Members.{declared_between}
-use Rattle.param_choose.specs.Plans.{param_view}
+use Rattle.param_choose.specs.Handed.{hole_shown}
 use Rattle.param_choose.specs.Shown.{hole_view}
 use Rattle.param_choose.proofs.Additions.{hole_left, hole_taken, or_marked, or_tested}
-use Rattle.param_choose.proofs.choose.push_holes.Goals as goal
-use Rattle.param_choose.proofs.choose.push_holes.Goals.{then-mark_at+in_ok-push_hole, then-mark_at-via-then-mark_at, then-mark_at-via-else-mark_at+then-names_outer, else-mark_at+else-names_outer}
+use Rattle.param_choose.proofs.choice.hole_parameters.Goals as goal
+use Rattle.param_choose.proofs.choice.hole_parameters.Goals.{then-mark_at+in_ok-push_hole, then-mark_at-via-then-mark_at, then-mark_at-via-else-mark_at+then-names_outer, else-mark_at+else-names_outer}
 
 pub loop-hole-preserved : goal.loop-hole-preserved
 loop-hole-preserved c =
@@ -21,8 +21,8 @@ loop-hole-preserved c =
     let bs = c.args.marks.now in
     let i = c.loop-hole.index in
     let h = c.hole-item.result in
-    let before = map param_view c.loop-hole.out.items in
-    let now = map param_view c.if-mark_at.out.items in
+    let before = map hole_shown c.loop-hole.out.items in
+    let now = map hole_shown c.if-mark_at.out.items in
     let old = c.loop-hole.invariant.0 in (
       elim c.if-mark_at.branch [
         | then-mark_at+in_ok-push_hole w ↦
@@ -32,12 +32,12 @@ loop-hole-preserved c =
               | then-mark_at-via-else-mark_at+then-names_outer v ↦
                   or_tested (mark_at bs i) (outer (hole_view h)) _ (sym c.mark_at.ensures ∙ v.if-mark_at.false) (sym v.names_outer.ensures ∙ v.if-names_outer.true)
             ])
-            (ap (λ v. map param_view v.items) w.out-is ∙ w.in_ok-push_hole.ensures i)
+            (ap (λ v. map hole_shown v.items) w.out-is ∙ w.in_ok-push_hole.ensures)
             old
         | else-mark_at+else-names_outer w ↦
             hole_left outer x.start bs c.args.holes.now i c.loop-hole.hole-index h _ before now c.loop-hole-test.true c.hole-item.is
             (or_tested (mark_at bs i) (outer (hole_view h)) _ (sym c.mark_at.ensures ∙ w.if-mark_at.false) (sym w.names_outer.ensures ∙ w.if-names_outer.false))
-            (ap (λ v. map param_view v.items) w.out-is)
+            (ap (λ v. map hole_shown v.items) w.out-is)
             old
       ],
       ap (λ n. n + 1) c.loop-hole.invariant.1,

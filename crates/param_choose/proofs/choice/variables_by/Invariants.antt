@@ -1,7 +1,7 @@
 use Rattle.std.proofs.Common.{◌≡◌, ◌++◌, map, drop}
 use Rattle.param_choose.specs.Marks.{variables_by}
 use Rattle.param_choose.specs.Shown.{variable_view}
-use Rattle.param_choose.proofs.choose.variables_by.Given as goal
+use Rattle.param_choose.proofs.choice.variables_by.Given as goal
 
 abbrev pub invariant-loop-local : goal.invariant-loop-local
 invariant-loop-local l =
