@@ -8,7 +8,7 @@
 #   faults    checks of declarations over 256 files with many faults, in two sizes
 #   phases    the phases of the check of the largest package of functions. It is given up at the first phase with a fault, and the
 #             fault stands at the end of the file; so the times of two packages with faults of adjoining phases differ by a phase
-#   listings  listings of clone classes: functions of one statement over and over, and the largest package of functions
+#   listings  listings of clone classes, and of the maximal ones: functions of one statement over and over, and the largest package of functions
 # But for the last table, windows of 32 statements with a mass of 1000 are asked for, so that next to nothing is compared.
 #   bench/cost.sh [PROGRAM [TABLE ..]]      SIZES="BYTES .." are other sizes of packages of functions
 top=$(cd "$(dirname "${BASH_SOURCE[0]}")/.." && pwd) || exit 1
@@ -282,19 +282,21 @@ table_of_phases() {
 
 # A row of the table of listings: its text, the folder, and the options.
 listing_row() {
-    local name=$1 folder=$2 seen checked listed memory reply windows
+    local name=$1 folder=$2 seen checked listed memory reply windows shown
     shift 2
     seen=$(check classes "$folder") || return 1
     checked=${seen% *}
     seen=$(cost classes "$@" "$folder") || return 1
     read -r listed memory reply <<<"$seen"
+    seen=$(cost maximal "$@" "$folder") || return 1
+    read -r shown _ reply <<<"$seen"
     windows=$(printf 'stat\n' | "$program" "$@" "$folder" | awk '{ print $9, $13 }')
-    echo "| $name | ${windows% *} | ${windows#* } | $checked | $listed | $memory |"
+    echo "| $name | ${windows% *} | ${windows#* } | $checked | $listed | $shown | $memory |"
 }
 
 table_of_listings() {
-    echo '| Package | Windows | Classes | Check, ms | Check and listing, ms | Memory, kB |'
-    echo '|---|---|---|---|---|---|'
+    echo '| Package | Windows | Classes | Check, ms | Check and listing, ms | Check and maximal classes, ms | Memory, kB |'
+    echo '|---|---|---|---|---|---|---|'
     for count in 9202 65536; do
         folder=$(package "equal$count" statements $count) || return 1
         listing_row "$count statements \`f()\`" "$folder" --min 2 --mass 1 || return 1

@@ -102,6 +102,7 @@ busy() {
 # Watches rt until it ends.
 watch() {
     local first start=$SECONDS at_first
+    kit=$(rt version 2>/dev/null | head -1)
     at_first=$(busy)
     look
     first=${begun[$rt]} reaped_before=$reaped at_start=$own
@@ -118,7 +119,7 @@ watch() {
 
 # Writes down what is known of the run as a whole: seconds by the clock, rt's processor time, and that of the machine.
 facts() {
-    printf '%s\n' "date $(date +%F)" "processors $(nproc)" "kit $(rt version 2>/dev/null | head -1)" \
+    printf '%s\n' "date $(date +%F)" "processors $(nproc)" "kit $kit" \
         "seconds $1" "rt $((own - at_start + live))" "machine $2" "words ${words[*]}" >"$room/facts"
 }
 

@@ -23,6 +23,9 @@ first, classes = session.ask("classes")
 assert first == "classes 2" and [len(members) for _, members in classes] == [2, 2], first
 assert session.ask("show a.go") == ("show %d" % len(text), text)
 
+first, classes, files = session.maximal()
+assert first == "maximal 1" and len(classes) == 1 and files == ["a.go covered 6 of 6"], (first, files)
+
 # Two edits of one state of the file, the later place first.
 for place in (offset(text, 9, 10), offset(text, 3, 10)):
     assert session.edit("a.go", place, place + 1, b"77") == ("ok edit", None)
@@ -32,6 +35,7 @@ assert session.ask("classes")[0] == "classes 2"
 brace = text.rindex(b"}") + 2
 assert session.edit("a.go", brace, brace + 1, b"")[0] == "ok edit"
 assert session.ask("classes")[0].startswith("fault 4 syntax a.go:0-")
+assert session.maximal()[0].startswith("fault 4 syntax a.go:0-") and session.maximal()[2] == []
 assert session.edit("a.go", brace, brace, b"}")[0] == "ok edit"
 assert session.ask("classes")[0] == "classes 2"
 
@@ -39,6 +43,6 @@ assert session.ask("classes")[0] == "classes 2"
 assert session.edit("b.go", 0, 0, b"")[0] == "no edit 1 NoFile"
 assert offset("a\n\u00e4\U0001f600b\n".encode(), 1, 3) == 2 + 2 + 4
 assert session.close() == 0
-print("one session answered 10 commands")
+print("one session answered 18 commands")
 PY
 PYTHONPATH=$room python3 "$room/use.py" "$program" "$room/package" || exit 1

@@ -4,6 +4,9 @@ pub mod Fields
 pub mod Tested
 mod Places
 mod Packages
+mod Covering
+mod MaximalTexts
+mod MaximalClasses
 mod Words
 mod Mapping
 mod Names

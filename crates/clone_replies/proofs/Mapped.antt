@@ -92,7 +92,7 @@ module _ {T U : Type 0} (g : T → U) where
         ∙ sym (map-append (mapped g) (statement_lists p) (lists_among ps))
     lists-among-mapped (skip ps) = lists-among-mapped ps
 
-  count-mapped : (x : Typed T) → list_count (mapped g x) ≡ list_count x
+  pub count-mapped : (x : Typed T) → list_count (mapped g x) ≡ list_count x
   count-mapped x = ap length (lists-mapped x) ∙ length-map (statement_lists x) (mapped g)
 
   present-mapped : (ps : Typeds T) → present (all_mapped g ps) ≡ map (mapped g) (present ps)

@@ -26,7 +26,7 @@ use Rattle.clone_replies.proofs.Tested.{passes, any-bodies, listing-mapped}
 
 -- ---- listings over other words for types
 
-abbrev Keeps : {T U : Type 0} → (T → U) → (T → T → Bool) → (U → U → Bool) → (T → Bool) → Type 0
+abbrev pub Keeps : {T U : Type 0} → (T → U) → (T → T → Bool) → (U → U → Bool) → (T → Bool) → Type 0
 Keeps {T} {U} g d e P = (t u : T) → P t ≡ true → P u ≡ true → e (g t) (g u) ≡ d t u
 
 listing-by-mapped : {T U : Type 0} (g : T → U) (m : FieldNames U) (d : T → T → Bool) (e : U → U → Bool) (P : T → Bool) → Keeps g d e P →
@@ -68,7 +68,7 @@ bodies-of-content : (g : ℕ → TypeTree) (fs : List FuncView) → map body_in 
 bodies-of-content g [] = refl
 bodies-of-content g (f ∷ fs) = ap (λ bs. body-mapped g (body_of f) ∷ bs) (bodies-of-content g fs)
 
-known-pass : (c : Counts) (n : ℕ) (fs : List FuncView) → list_all (is_known_func c n) fs ≡ true → list_all (passes (is_below n)) (bodies_of fs) ≡ true
+pub known-pass : (c : Counts) (n : ℕ) (fs : List FuncView) → list_all (is_known_func c n) fs ≡ true → list_all (passes (is_below n)) (bodies_of fs) ≡ true
 known-pass c n [] h = refl
 known-pass c n (f ∷ fs) h =
     let u = and_parts (is_known_func c n f) (list_all (is_known_func c n) fs) h in
@@ -78,7 +78,11 @@ known-pass c n (f ∷ fs) h =
     and_from (passes (is_below n) (body_of f)) (list_all (passes (is_below n)) (bodies_of fs))
     (and_from (list_all (sort_has (is_below n)) f.locals) (every (is_below n) (tree_of f)) locals tree) (known-pass c n fs u.1)
 
-keeps-numbers : OfTypes → (p : PackageView) → IsTable p.types → Keeps (type_of p.types.shapes) nat_eq is_identical (is_below (length p.types.shapes))
+-- over the types themselves, in the place of their numbers
+pub listed-numbers : (p : PackageView) → listed_content (content p) ≡ listed-mapped (type_of p.types.shapes) (field_by (rights_of p.types)) (listed_package p)
+listed-numbers p = ap (listed-by (listed_content (content p))) (bodies-of-content (type_of p.types.shapes) p.functions)
+
+pub keeps-numbers : OfTypes → (p : PackageView) → IsTable p.types → Keeps (type_of p.types.shapes) nat_eq is_identical (is_below (length p.types.shapes))
 keeps-numbers law p table = λ i j h k. identical-numbers law p.types i j table h k
 
 classes-of-numbers : OfTypes → (bounds : Bounds) (p : PackageView) → IsPackage p → IsTable p.types → classes_in bounds (content p) ≡ listing_in bounds p
@@ -92,7 +96,7 @@ of-numbers : OfTypes → (bounds : Bounds) (p : PackageView) → IsPackage p →
 of-numbers law bounds p stands table =
     let g : ℕ → TypeTree = type_of p.types.shapes in
     let n = length p.types.shapes in
-    ap (λ bs. listing_by is_identical bounds (listed-by (listed_content (content p)) bs)) (bodies-of-content g p.functions)
+    ap (listing_by is_identical bounds) (listed-numbers p)
     ∙ listing-by-mapped g (field_by (rights_of p.types)) nat_eq is_identical (is_below n) (keeps-numbers law p table) bounds (listed_package p) (λ t k. refl)
     (known-pass (counts p) n p.functions stands.known_functions)
 
@@ -105,7 +109,15 @@ bodies-renamed name (f ∷ fs) = ap (λ bs. body-mapped (renamed name) (body_in 
 abbrev listed-of : List (List ℕ) → List FileTree → FieldNames TypeTree → List (Body TypeTree) → Listed TypeTree
 listed-of names files fields bs = record { names = names; files = files; fields = fields; bodies = bs }
 
-keeps-renamed : OfTypes → (name : ℕ → ℕ) → IsOneToOne name → Keeps (renamed name) is_identical is_identical (λ t. true)
+-- with other numbers of declared types
+pub listed-renamed : (name : ℕ → ℕ) (c d : Content) → IsRenamed name c d → listed_content d ≡ listed-mapped (renamed name) (field_by d.rights) (listed_content c)
+listed-renamed name c d h =
+    ap (λ names. listed-of names d.files (field_by d.rights) (map body_in d.functions)) h.names
+    ∙ ap (λ files. listed-of c.names files (field_by d.rights) (map body_in d.functions)) h.files
+    ∙ ap (λ fs. listed-of c.names c.files (field_by d.rights) (map body_in fs)) h.functions
+    ∙ ap (listed-of c.names c.files (field_by d.rights)) (bodies-renamed name c.functions)
+
+pub keeps-renamed : OfTypes → (name : ℕ → ℕ) → IsOneToOne name → Keeps (renamed name) is_identical is_identical (λ t. true)
 keeps-renamed law name one = λ t u p q. law.renamings name t u one
 
 classes-of-renamings : OfTypes → (bounds : Bounds) (name : ℕ → ℕ) (c d : Content) → IsRenamed name c d → classes_in bounds d ≡ classes_in bounds c
@@ -117,10 +129,7 @@ classes-of-renamings law bounds name c d h =
 
 of-renamings : OfTypes → (bounds : Bounds) (name : ℕ → ℕ) (c d : Content) → IsRenamed name c d → listing_reply bounds d ≡ listing_reply bounds c
 of-renamings law bounds name c d h =
-    ap (λ names. listing_by is_identical bounds (listed-of names d.files (field_by d.rights) (map body_in d.functions))) h.names
-    ∙ ap (λ files. listing_by is_identical bounds (listed-of c.names files (field_by d.rights) (map body_in d.functions))) h.files
-    ∙ ap (λ fs. listing_by is_identical bounds (listed-of c.names c.files (field_by d.rights) (map body_in fs))) h.functions
-    ∙ ap (λ bs. listing_by is_identical bounds (listed-of c.names c.files (field_by d.rights) bs)) (bodies-renamed name c.functions)
+    ap (listing_by is_identical bounds) (listed-renamed name c d h)
     ∙ listing-by-mapped (renamed name) (field_by d.rights) is_identical is_identical (λ t. true) (keeps-renamed law name h.one_to_one) bounds (listed_content c)
     (fields-renamed law.underlying name c.rights d.rights h.rights)
     (any-bodies (map body_in c.functions))

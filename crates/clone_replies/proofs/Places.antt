@@ -36,7 +36,7 @@ module _ {T U : Type 0} (g : T → U) (fields : FieldNames U) where
   abbrev shown-by : List ByteRange → ℕ → ℕ → ShownClass
   shown-by rs n m = record { members = rs; statements = n; mass = m }
 
-  shown-mapped : (l : Listed T) (ws : List Window) → shown_class (listed-mapped l) ws ≡ shown_class l ws
+  pub shown-mapped : (l : Listed T) (ws : List Window) → shown_class (listed-mapped l) ws ≡ shown_class l ws
   shown-mapped l [] = refl
   shown-mapped l (w ∷ ws) =
       ap (λ rs. shown-by rs w.count (masses false (statements_in (listed-mapped l) w))) (all-bytes-mapped l (w ∷ ws))
@@ -53,7 +53,7 @@ members-text : (names : List (List ℕ)) (ss : List Span) → flat_map (member_l
 members-text names [] = refl
 members-text names (s ∷ ss) = ap (λ bs. member_line names s ++ bs) (members-text names ss)
 
-class-shown : (names : List (List ℕ)) (n : ℕ) (x : ListedClass) → script.class_text names n x ≡ class_text names n (shown x)
+pub class-shown : (names : List (List ℕ)) (n : ℕ) (x : ListedClass) → script.class_text names n x ≡ class_text names n (shown x)
 class-shown names n x =
     ap (λ bs. script.class_head n x ++ bs) (members-text names x.members.items)
     ∙ ap (λ k. (codes "class " ++ decimal n ++ codes " members " ++ decimal k

@@ -1,5 +1,6 @@
 pub mod Classes
 pub mod Listing
+pub mod Maximal
 pub mod Names
 pub mod Numbers
 pub mod RunContents

@@ -1,14 +1,18 @@
 //! Laws, for the crates above. The functions do nothing: their contracts are the laws.
 
-ghost use Rattle.std.specs.Prelude.{◌≡◌, nat_eq, List, length, count_by, ℕ};
+ghost use Rattle.std.specs.Prelude.{◌≡◌, nat_eq, List, length, count_by, map, ℕ};
 ghost use Rattle.go_types_relations.specs.Identity.{is_identical};
 ghost use Rattle.go_types.specs.Tables.{IsTable};
+ghost use Rattle.go_typed.specs.declared.window.Window.{Window as Member};
 ghost use Rattle.go_typed.specs.Contents.{Content, content, IsPackageOf};
 ghost use Rattle.go_typed.specs.Packages.{PackageView as Package, IsPackage};
 ghost use Rattle.clone_window.specs.declared.bounds.Bounds.{Bounds as Limits};
+ghost use Rattle.clone_window.specs.Bodies.{bodies_of};
 ghost use Rattle.clone_classes.specs.Listing.{listing_in};
-ghost use Rattle.clone_replies.specs.Classes.{classes_in, listed_package};
+ghost use Rattle.clone_report.specs.Covered.{coverage};
+ghost use Rattle.clone_replies.specs.Classes.{body_in, classes_in, listed_package};
 ghost use Rattle.clone_replies.specs.Listing.{listing_by, listing_reply};
+ghost use Rattle.clone_replies.specs.Maximal.{maximal_by, maximal_reply};
 ghost use Rattle.go_base.specs.declared.bytes.FileText.{FileText as Text};
 ghost use Rattle.go_typed.specs.Funcs.{tree_of};
 ghost use Rattle.go_package_defs.specs.Checked.{IsChecked, IsCheckedPackage, origins, texts_of};
@@ -32,6 +36,17 @@ use go_types_relations::laws::{answers_are_renamed, functions_are_the_relations}
 pub fn listings_are_of_the_types()
     ensures classes { (bounds : Limits) (p : Package) (c : Content) → IsPackage p → IsTable p.types → IsPackageOf c (content p) → listing_in bounds p ≡ classes_in bounds c }
     ensures listing { (bounds : Limits) (p : Package) (c : Content) → IsPackage p → IsTable p.types → IsPackageOf c (content p) → listing_by nat_eq bounds (listed_package p) ≡ listing_reply bounds c }
+{
+    equal_numbers_are_identical_types();
+    functions_are_the_relations();
+    answers_are_renamed();
+}
+
+/// A package that the program holds has the covered statements and the reply to `maximal` of the package over the types themselves, by
+/// the numbers of types that a table gives and by any numbers of declared types.
+pub fn reports_are_of_the_types()
+    ensures covered { (classes : List (List Member)) (p : Package) (c : Content) (file : ℕ) → IsPackageOf c (content p) → coverage classes p.files (bodies_of p.functions) file ≡ coverage classes c.files (map body_in c.functions) file }
+    ensures reply { (bounds : Limits) (p : Package) (c : Content) → IsPackage p → IsTable p.types → IsPackageOf c (content p) → maximal_by nat_eq bounds (listed_package p) ≡ maximal_reply bounds c }
 {
     equal_numbers_are_identical_types();
     functions_are_the_relations();

@@ -75,18 +75,18 @@ fn window_mass(checked: &Checked, window: Window) -> u32
     }
 }
 
-/// What the listing shows of a class.
-fn shown(
+/// What the listing shows of a class with these members.
+pub fn shown(
     alloc: Global,
     checked: &Checked,
     places: &[FunctionPlace],
-    class: &Class,
+    windows: &[Window],
 ) -> Result<ListedClass, AllocError>
     requires { places.now ≡ places_from 0 checked.now.files }
-    ensures { IfOk result (λ x. shown x ≡ shown_class (listed_package checked.now) class.now.members) }
+    ensures { IfOk result (λ x. shown x ≡ shown_class (listed_package checked.now) windows.now) }
 {
-    let members = window_spans(alloc, checked, places, class.members.as_slice())?;
-    match class.members.as_slice() {
+    let members = window_spans(alloc, checked, places, windows)?;
+    match windows {
         [first, ..] => Ok(ListedClass {
             members,
             statements: first.count,
@@ -111,7 +111,7 @@ pub fn all_shown(
     let places = function_places(alloc, checked.files())?;
     let mut listed = Vec::with_capacity(alloc, classes.len())?;
     for class in classes {
-        listed.push(shown(alloc, checked, &places, class)?)?;
+        listed.push(shown(alloc, checked, &places, class.members.as_slice())?)?;
     }
     Ok(listed)
 }

@@ -114,24 +114,27 @@ keyword_reads (k ∷ ks) h = reads_as (Either (IsWord k) (IsKeyword ks)) (IsKeyw
 pub all_apart : AreApart keywords
 unfolding literal_at
 all_apart = (
-  (λ rest. refl, (λ rest. refl, (λ rest. refl, (λ rest. refl, (λ rest. refl, (λ rest. refl, (λ rest. refl, (λ rest. refl, tt)))))))),
+  (λ rest. refl, (λ rest. refl, (λ rest. refl, (λ rest. refl, (λ rest. refl, (λ rest. refl, (λ rest. refl, (λ rest. refl, (λ rest. refl, tt))))))))),
   (
-    (λ rest. refl, (λ rest. refl, (λ rest. refl, (λ rest. refl, (λ rest. refl, (λ rest. refl, (λ rest. refl, tt))))))),
+    (λ rest. refl, (λ rest. refl, (λ rest. refl, (λ rest. refl, (λ rest. refl, (λ rest. refl, (λ rest. refl, (λ rest. refl, tt)))))))),
     (
-      (λ rest. refl, (λ rest. refl, (λ rest. refl, (λ rest. refl, (λ rest. refl, (λ rest. refl, tt)))))),
+      (λ rest. refl, (λ rest. refl, (λ rest. refl, (λ rest. refl, (λ rest. refl, (λ rest. refl, (λ rest. refl, tt))))))),
       (
-        (λ rest. refl, (λ rest. refl, (λ rest. refl, (λ rest. refl, (λ rest. refl, tt))))),
+        (λ rest. refl, (λ rest. refl, (λ rest. refl, (λ rest. refl, (λ rest. refl, (λ rest. refl, tt)))))),
         (
-          (λ rest. refl, (λ rest. refl, (λ rest. refl, (λ rest. refl, tt)))),
+          (λ rest. refl, (λ rest. refl, (λ rest. refl, (λ rest. refl, (λ rest. refl, tt))))),
           (
-            (λ rest. refl, (λ rest. refl, (λ rest. refl, tt))),
+            (λ rest. refl, (λ rest. refl, (λ rest. refl, (λ rest. refl, tt)))),
             (
-              (λ rest. refl, (λ rest. refl, tt)),
+              (λ rest. refl, (λ rest. refl, (λ rest. refl, tt))),
               (
-                (λ rest. refl, tt),
+                (λ rest. refl, (λ rest. refl, tt)),
                 (
-                  tt,
-                  tt,
+                  (λ rest. refl, tt),
+                  (
+                    tt,
+                    tt,
+                  ),
                 ),
               ),
             ),
@@ -147,11 +150,12 @@ is_keyword keyword.Edit = inl refl
 is_keyword keyword.Add = inr (inl refl)
 is_keyword keyword.Drop = inr (inr (inl refl))
 is_keyword keyword.Classes = inr (inr (inr (inl refl)))
-is_keyword keyword.Stat = inr (inr (inr (inr (inl refl))))
-is_keyword keyword.Run = inr (inr (inr (inr (inr (inl refl)))))
-is_keyword keyword.Show = inr (inr (inr (inr (inr (inr (inl refl))))))
-is_keyword keyword.Save = inr (inr (inr (inr (inr (inr (inr (inl refl)))))))
-is_keyword keyword.Quit = inr (inr (inr (inr (inr (inr (inr (inr (inl refl))))))))
+is_keyword keyword.Maximal = inr (inr (inr (inr (inl refl))))
+is_keyword keyword.Stat = inr (inr (inr (inr (inr (inl refl)))))
+is_keyword keyword.Run = inr (inr (inr (inr (inr (inr (inl refl))))))
+is_keyword keyword.Show = inr (inr (inr (inr (inr (inr (inr (inl refl)))))))
+is_keyword keyword.Save = inr (inr (inr (inr (inr (inr (inr (inr (inl refl))))))))
+is_keyword keyword.Quit = inr (inr (inr (inr (inr (inr (inr (inr (inr (inl refl)))))))))
 
 -- ---- what stands behind a keyword
 
@@ -236,6 +240,7 @@ Tail keyword.Edit = Named blank (λ name. Counted (λ start. Counted (λ end. Si
 Tail keyword.Add = Named blank (λ name. Sized (λ text. command.Add name text))
 Tail keyword.Drop = Named newline (λ name. Only (command.Remove name))
 Tail keyword.Classes = Only command.Classes
+Tail keyword.Maximal = Only command.Maximal
 Tail keyword.Stat = Only command.Stat
 Tail keyword.Run = Then (IsNumberText most_turns blank) (λ turns. Sized (λ text. command.Run turns text))
 Tail keyword.Show = Named newline (λ name. Only (command.Show name))
@@ -271,6 +276,7 @@ tail_reads keyword.Edit = edit_reads
 tail_reads keyword.Add = add_reads
 tail_reads keyword.Drop = alone_reads (λ name. command.Remove name)
 tail_reads keyword.Classes = only_reads command.Classes
+tail_reads keyword.Maximal = only_reads command.Maximal
 tail_reads keyword.Stat = only_reads command.Stat
 tail_reads keyword.Run = run_reads
 tail_reads keyword.Show = alone_reads (λ name. command.Show name)
@@ -282,6 +288,7 @@ tail_some keyword.Edit = named_some blank (λ name. Counted (λ start. Counted (
 tail_some keyword.Add = named_some blank (λ name. Sized (λ text. command.Add name text)) (λ name. sized_at (λ text. command.Add name text)) add_reads
 tail_some keyword.Drop = named_some newline (λ name. Only (command.Remove name)) (λ name rest. Ok (command.Remove name, rest)) (alone_reads (λ name. command.Remove name))
 tail_some keyword.Classes = ([], command.Classes, (refl, refl))
+tail_some keyword.Maximal = ([], command.Maximal, (refl, refl))
 tail_some keyword.Stat = ([], command.Stat, (refl, refl))
 tail_some keyword.Run = some_of (Tail keyword.Run) (then (number_at most_turns blank) (λ turns. sized_at (λ text. command.Run turns text))) run_reads
     (then_none (number_at most_turns blank) (λ turns. sized_at (λ text. command.Run turns text)) (number_none most_turns blank))
@@ -343,6 +350,7 @@ from_tail keyword.Drop x y s c ex t e =
     let all : s ≡ spelling (command.Remove t.0) = e ∙ ap (λ (w : List ℕ). w ++ y) ex ∙ ap (λ (w : List ℕ). spelling_of keyword.Drop ++ w) first in
     subst (λ (d : Command). Spells s d) (sym t.4.1) (t.3.0, all)
 from_tail keyword.Classes x y s c ex t e = subst (λ (d : Command). Spells s d) (sym t.1) (tt, e ∙ rw (ex, t.0) refl)
+from_tail keyword.Maximal x y s c ex t e = subst (λ (d : Command). Spells s d) (sym t.1) (tt, e ∙ rw (ex, t.0) refl)
 from_tail keyword.Stat x y s c ex t e = subst (λ (d : Command). Spells s d) (sym t.1) (tt, e ∙ rw (ex, t.0) refl)
 from_tail keyword.Run x y s c ex t e =
     let z = from_sized (λ text. command.Run t.0 text) t.2 c t.4 in
@@ -393,6 +401,7 @@ to_whole s (command.Add name text) t = (
 )
 to_whole s (command.Remove name) t = (keyword.Drop, spelling_of keyword.Drop, name ++ (newline ∷ []), (is_keyword keyword.Drop, refl), alone (λ n. command.Remove n) name t.0, t.1)
 to_whole s command.Classes t = (keyword.Classes, spelling_of keyword.Classes, [], (is_keyword keyword.Classes, refl), (refl, refl), t.1 ∙ sym (append-nil (spelling_of keyword.Classes)))
+to_whole s command.Maximal t = (keyword.Maximal, spelling_of keyword.Maximal, [], (is_keyword keyword.Maximal, refl), (refl, refl), t.1 ∙ sym (append-nil (spelling_of keyword.Maximal)))
 to_whole s command.Stat t = (keyword.Stat, spelling_of keyword.Stat, [], (is_keyword keyword.Stat, refl), (refl, refl), t.1 ∙ sym (append-nil (spelling_of keyword.Stat)))
 to_whole s (command.Run turns input) t = (
   keyword.Run,

@@ -34,6 +34,7 @@ short_lines (command.Add name text) h =
     omega (arith, first)
 short_lines (command.Remove name) h = omega (arith, last name, h.few)
 short_lines command.Classes h = omega arith
+short_lines command.Maximal h = omega arith
 short_lines command.Stat h = omega arith
 short_lines (command.Run turns input) h =
     let size = field (decimal (length input)) (input ++ (newline ∷ [])) newline 7 (length input + 1) (seven_digits (length input) h.1) (last input) in

@@ -67,6 +67,7 @@ behind_stays keyword.Edit = then_stays (name_at blank) _ name_stays (λ name. th
 behind_stays keyword.Add = then_stays (name_at blank) (λ name. number_at most_length newline) name_stays (λ name. length_stays)
 behind_stays keyword.Drop = bad_stays
 behind_stays keyword.Classes = bad_stays
+behind_stays keyword.Maximal = bad_stays
 behind_stays keyword.Stat = bad_stays
 behind_stays keyword.Run = then_stays (number_at most_turns blank) (λ turns. number_at most_length newline) turns_stays (λ turns. length_stays)
 behind_stays keyword.Show = bad_stays
@@ -111,6 +112,7 @@ behind_made keyword.Add bytes rest size e =
     ((λ text. command.Add name.0.0 text), add_made bytes rest size name.0 name.1 name.2)
 behind_made keyword.Drop bytes rest size e = absurd cc
 behind_made keyword.Classes bytes rest size e = absurd cc
+behind_made keyword.Maximal bytes rest size e = absurd cc
 behind_made keyword.Stat bytes rest size e = absurd cc
 behind_made keyword.Run bytes rest size e =
     let turns = bind_ok (number_at most_turns blank bytes) _ (size, rest) e in
@@ -250,6 +252,7 @@ told_by_line (command.Add name text) bytes rest h fits e le =
     told keyword.Add (add_line name (length text)) text bytes rest (spelling (command.Add name text)) (λ part. add_size name part (length text) fits.0 fits.1) e refl le
 told_by_line (command.Remove name) bytes rest h fits e le = absurd (none_behind bytes rest (command.Remove name) h fits e le)
 told_by_line command.Classes bytes rest h fits e le = absurd (none_behind bytes rest command.Classes h fits e le)
+told_by_line command.Maximal bytes rest h fits e le = absurd (none_behind bytes rest command.Maximal h fits e le)
 told_by_line (command.Run turns input) bytes rest h fits e le =
     told keyword.Run (run_line turns (length input)) input bytes rest (spelling (command.Run turns input)) (λ part. run_size part turns (length input) fits.0 fits.1) e refl le
 told_by_line command.Stat bytes rest h fits e le = absurd (none_behind bytes rest command.Stat h fits e le)

@@ -40,6 +40,7 @@ spelling_of keyword.Edit = codes "edit "
 spelling_of keyword.Add = codes "add "
 spelling_of keyword.Drop = codes "drop "
 spelling_of keyword.Classes = codes "classes\n"
+spelling_of keyword.Maximal = codes "maximal\n"
 spelling_of keyword.Stat = codes "stat\n"
 spelling_of keyword.Run = codes "run "
 spelling_of keyword.Show = codes "show "
@@ -47,7 +48,7 @@ spelling_of keyword.Save = codes "save\n"
 spelling_of keyword.Quit = codes "quit\n"
 
 abbrev pub keywords : List Keyword
-keywords = keyword.Edit ∷ keyword.Add ∷ keyword.Drop ∷ keyword.Classes ∷ keyword.Stat ∷ keyword.Run ∷ keyword.Show ∷ keyword.Save ∷ keyword.Quit ∷ []
+keywords = keyword.Edit ∷ keyword.Add ∷ keyword.Drop ∷ keyword.Classes ∷ keyword.Maximal ∷ keyword.Stat ∷ keyword.Run ∷ keyword.Show ∷ keyword.Save ∷ keyword.Quit ∷ []
 
 -- the first of these keywords that the bytes begin with, or may begin with
 unfoldable pub keyword_of : List Keyword → List ℕ → Read Keyword
@@ -72,6 +73,7 @@ behind_keyword keyword.Drop bytes = do
   name ← name_at newline bytes
   Ok (command.Remove name.0, name.1)
 behind_keyword keyword.Classes bytes = Ok (command.Classes, bytes)
+behind_keyword keyword.Maximal bytes = Ok (command.Maximal, bytes)
 behind_keyword keyword.Stat bytes = Ok (command.Stat, bytes)
 behind_keyword keyword.Run bytes = do
   turns ← number_at most_turns blank bytes

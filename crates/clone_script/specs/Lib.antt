@@ -3,6 +3,7 @@ pub mod Commands
 pub mod Grammar
 pub mod Replies
 pub mod Listing
+pub mod Maximal
 pub mod Sizes
 pub mod Runs
 pub mod Script

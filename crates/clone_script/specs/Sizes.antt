@@ -19,6 +19,7 @@ size_behind keyword.Add bytes = do
   number_at most_length newline name.1
 size_behind keyword.Drop bytes = Err bad
 size_behind keyword.Classes bytes = Err bad
+size_behind keyword.Maximal bytes = Err bad
 size_behind keyword.Stat bytes = Err bad
 size_behind keyword.Run bytes = do
   turns ← number_at most_turns blank bytes

@@ -41,6 +41,8 @@ pub enum Command {
     },
     /// `classes`: the clone classes.
     Classes,
+    /// `maximal`: the maximal clone classes, and how much of each file is covered.
+    Maximal,
     /// `stat`: the numbers of the package.
     Stat,
     /// `run`: the package is run for so many turns at most, with these bytes as its input.
@@ -65,6 +67,7 @@ pub enum Keyword {
     Add,
     Drop,
     Classes,
+    Maximal,
     Stat,
     Run,
     Show,
@@ -73,11 +76,12 @@ pub enum Keyword {
 }
 
 /// The first words of all commands.
-pub const KEYWORDS: [Keyword; 9] = [
+pub const KEYWORDS: [Keyword; 10] = [
     Keyword::Edit,
     Keyword::Add,
     Keyword::Drop,
     Keyword::Classes,
+    Keyword::Maximal,
     Keyword::Stat,
     Keyword::Run,
     Keyword::Show,
@@ -95,6 +99,7 @@ impl Keyword {
             Keyword::Add => b"add ",
             Keyword::Drop => b"drop ",
             Keyword::Classes => b"classes\n",
+            Keyword::Maximal => b"maximal\n",
             Keyword::Stat => b"stat\n",
             Keyword::Run => b"run ",
             Keyword::Show => b"show ",
@@ -245,6 +250,7 @@ fn behind_keyword(
         Keyword::Add => add_of(alloc, bytes),
         Keyword::Drop => drop_of(alloc, bytes),
         Keyword::Classes => Ok((Command::Classes, bytes)),
+        Keyword::Maximal => Ok((Command::Maximal, bytes)),
         Keyword::Stat => Ok((Command::Stat, bytes)),
         Keyword::Run => run_of(alloc, bytes),
         Keyword::Show => show_of(alloc, bytes),

@@ -46,6 +46,7 @@ pub fn one_outcome()
 /// Worked examples.
 pub fn examples()
     ensures classes { Takes (codes "classes\n") command.Classes 8 }
+    ensures maximal { Takes (codes "maximal\n") command.Maximal 8 }
     ensures edit { Takes (codes "edit a.go 67 68 0\n\n") (command.Edit (codes "a.go") 67 68 []) 19 }
     ensures add { Takes (codes "add b.go 13\npackage main\n\nquit\n") (command.Add (codes "b.go") (codes "package main\n")) 26 }
     ensures save { Takes (codes "save\n") command.Save 5 }
@@ -54,6 +55,7 @@ pub fn examples()
     ensures begun { TakesNone (codes "clas") more }
     ensures cut_off { TakesNone (codes "edit main.go 0 0 10\nabcd") more }
     ensures other { TakesNone (codes "extract 1 h all\n") bad }
+    ensures begun_too { TakesNone (codes "maxima") more }
     ensures misspelled { TakesNone (codes "clases\n") bad }
     ensures blank { TakesNone (codes "quit \n") bad }
     ensures zero { TakesNone (codes "edit a.go 067 68 0\n\n") bad }

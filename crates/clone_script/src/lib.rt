@@ -9,6 +9,7 @@ mod command;
 mod error;
 pub mod laws;
 mod listing;
+mod maximal;
 mod name;
 mod number;
 mod reader;
@@ -19,6 +20,7 @@ mod size;
 pub use command::{Command, next_command};
 pub use error::ScriptError;
 pub use listing::{ListedClass, class_reply};
+pub use maximal::{NumberedClass, maximal_reply};
 pub use reader::CommandReader;
 pub use reply::{
     EditAnswer, EditKind, bad_reply, edit_reply, fault_reply, save_reply, show_reply, stat_reply,

@@ -18,10 +18,10 @@ pub struct ListedClass {
 }
 
 /// The name of the file with this number, or nothing where there are fewer names.
-fn file_name<'a>(names: &[&'a Name], file: u32) -> &'a [u8]
+pub fn file_name<'a>(names: &[&'a Name], file: usize) -> &'a [u8]
     ensures { result.now ≡ file_name (map (λ name. name.now) names.now) file }
 {
-    match names.get(file as usize) {
+    match names.get(file) {
         Some(name) => name.bytes(),
         None => &[],
     }
@@ -36,7 +36,7 @@ fn push_member(
 ) -> Result<(), AllocError>
     ensures { OnOk result (out.new.items ≡ out.old.items ++ member_line (map (λ name. name.now) names.now) span) }
 {
-    push_place(alloc, out, file_name(names, span.file), span)?;
+    push_place(alloc, out, file_name(names, span.file as usize), span)?;
     out.extend_from_slice(b"\n")
 }
 
@@ -72,7 +72,7 @@ fn push_head(
 }
 
 /// Puts a class behind the others: its head, and a line for each member.
-fn push_class(
+pub fn push_class(
     alloc: Global,
     out: &mut Vec<u8>,
     names: &[&Name],

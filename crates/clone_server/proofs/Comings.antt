@@ -30,6 +30,7 @@ some_byte (command.Edit name start end text) = omega arith
 some_byte (command.Add name text) = omega arith
 some_byte (command.Remove name) = omega arith
 some_byte command.Classes = omega arith
+some_byte command.Maximal = omega arith
 some_byte command.Stat = omega arith
 some_byte (command.Run turns input) = omega arith
 some_byte (command.Show name) = omega arith

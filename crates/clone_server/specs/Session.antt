@@ -26,6 +26,7 @@ is_save (command.Edit name start end text) = false
 is_save (command.Add name text) = false
 is_save (command.Remove name) = false
 is_save command.Classes = false
+is_save command.Maximal = false
 is_save command.Stat = false
 is_save (command.Run turns input) = false
 is_save (command.Show name) = false

@@ -5,11 +5,15 @@ use Rattle.go_base.specs.declared.bytes.FileText.{FileText}
 use Rattle.clone_script.specs.declared.command.Command.{Command}
 use Rattle.clone_script.specs.declared.command.Command.TheVariants as command
 use Rattle.clone_server.specs.Session.{Settings}
-use Rattle.clone_session.specs.Answers.{Answers, PackageReply, IsListing, IsNumbers, IsRun, bounds_of}
+use Rattle.clone_session.specs.Answers.{Answers, PackageReply, IsListing, IsMaximal, IsNumbers, IsRun, bounds_of}
 
 pub of-classes : (s : Settings) (texts : List FileText) (c : Command) (reply : List ℕ) (after : List FileText) → c ≡ command.Classes →
     PackageReply (IsListing (bounds_of s)) texts reply → after ≡ texts → Answers s texts c reply after
 of-classes s texts c reply after e h k = subst (λ x. Answers s texts x reply after) (sym e) (h, k)
+
+pub of-maximal : (s : Settings) (texts : List FileText) (c : Command) (reply : List ℕ) (after : List FileText) → c ≡ command.Maximal →
+    PackageReply (IsMaximal (bounds_of s)) texts reply → after ≡ texts → Answers s texts c reply after
+of-maximal s texts c reply after e h k = subst (λ x. Answers s texts x reply after) (sym e) (h, k)
 
 pub of-stat : (s : Settings) (texts : List FileText) (c : Command) (reply : List ℕ) (after : List FileText) → c ≡ command.Stat →
     PackageReply (IsNumbers (bounds_of s) texts) texts reply → after ≡ texts → Answers s texts c reply after

@@ -1,5 +1,7 @@
 mod Follows
 mod Spans
+mod Reports
+mod Numbered
 mod Runs
 mod Placed
 mod Answering

@@ -24,14 +24,16 @@ use Rattle.clone_server.specs.Session.{Settings}
 use Rattle.clone_session.specs.Replies.{IsRefusal, Changes}
 use Rattle.clone_window.specs.declared.bounds.Bounds.{Bounds}
 use Rattle.clone_replies.specs.Listing.{listing_reply}
+use Rattle.clone_replies.specs.Maximal.{maximal_reply}
 use Rattle.clone_replies.specs.Numbers.{numbers_in, numbers_reply}
 use Rattle.clone_replies.specs.ReplyContents.{run_in}
 use Rattle.clone_replies.specs.Replies.{run_words}
-use Rattle.clone_session.specs.Answers.{Answers, OfPackage, PackageReply, good, faulty, IsListing, IsNumbers, IsRun, bounds_of, fault_line}
+use Rattle.clone_session.specs.Answers.{Answers, OfPackage, PackageReply, good, faulty, IsListing, IsMaximal, IsNumbers, IsRun, bounds_of, fault_line}
 
 pub record Laws : Type 0 where
   pub answer : (texts : List FileText) → HasOneAnswer texts
   pub listing : (bounds : Bounds) (texts : List FileText) (c d : Content) → IsChecked texts c → IsChecked texts d → listing_reply bounds c ≡ listing_reply bounds d
+  pub maximal : (bounds : Bounds) (texts : List FileText) (c d : Content) → IsChecked texts c → IsChecked texts d → maximal_reply bounds c ≡ maximal_reply bounds d
   pub numbers : (bounds : Bounds) (texts : List FileText) (c d : Content) → IsChecked texts c → IsChecked texts d → numbers_in bounds texts c ≡ numbers_in bounds texts d
   pub run : (texts : List FileText) (c d : Content) (input : List ℕ) (turns : ℕ) → IsChecked texts c → IsChecked texts d → run_in c input turns ≡ run_in d input turns
 
@@ -73,6 +75,9 @@ package-reply law P texts one reply other (faulty f h p) (faulty g k q) =
 listings : Laws → (bounds : Bounds) (texts : List FileText) (c d : Content) (reply other : List ℕ) → IsChecked texts c → IsChecked texts d → IsListing bounds c reply → IsListing bounds d other → reply ≡ other
 listings law bounds texts c d reply other h k p q = p ∙ law.listing bounds texts c d h k ∙ sym q
 
+reports : Laws → (bounds : Bounds) (texts : List FileText) (c d : Content) (reply other : List ℕ) → IsChecked texts c → IsChecked texts d → IsMaximal bounds c reply → IsMaximal bounds d other → reply ≡ other
+reports law bounds texts c d reply other h k p q = p ∙ law.maximal bounds texts c d h k ∙ sym q
+
 numbers-lines : Laws → (bounds : Bounds) (texts : List FileText) (c d : Content) (reply other : List ℕ) → IsChecked texts c → IsChecked texts d → IsNumbers bounds texts c reply → IsNumbers bounds texts d other → reply ≡ other
 numbers-lines law bounds texts c d reply other h k p q = p ∙ ap numbers_reply (law.numbers bounds texts c d h k) ∙ sym q
 
@@ -86,6 +91,8 @@ one law s texts (command.Remove name) reply other after later h k = changes kind
 one law s texts (command.Show name) reply other after later h k = (h.0 ∙ sym k.0, h.1 ∙ sym k.1)
 one law s texts command.Classes reply other after later h k =
     (package-reply law (IsListing (bounds_of s)) texts (listings law (bounds_of s) texts) reply other h.0 k.0, h.1 ∙ sym k.1)
+one law s texts command.Maximal reply other after later h k =
+    (package-reply law (IsMaximal (bounds_of s)) texts (reports law (bounds_of s) texts) reply other h.0 k.0, h.1 ∙ sym k.1)
 one law s texts command.Stat reply other after later h k =
     (package-reply law (IsNumbers (bounds_of s) texts) texts (numbers-lines law (bounds_of s) texts) reply other h.0 k.0, h.1 ∙ sym k.1)
 one law s texts (command.Run turns input) reply other after later h k =

@@ -1,8 +1,10 @@
--- A listing reads only the tokens and the trees of files.
+-- A listing and a report read only the tokens and the trees of files.
 use mathlib.Core.Path.{fun_ext}
-use Rattle.std.proofs.Common.{◌≡◌, ◌∙◌, refl, sym, ap, ℕ, suc, ◌+◌, Bool, false, List, [], ◌∷◌, ◌++◌, map, Option, Some, None, slice_get}
+use Rattle.std.proofs.Common.{◌≡◌, ◌∙◌, refl, sym, ap, ℕ, suc, ◌+◌, Bool, false, List, [], ◌∷◌, ◌++◌, length, map, Option, Some, None, slice_get}
+use Rattle.std.proofs.lemmas.List.{length-map}
 use Rattle.std.proofs.lemmas.Option.{slice_get-map}
 use Rattle.std.specs.Prelude.{unwrap_or}
+use Rattle.std.specs.List.{range_with_len}
 use Rattle.std.specs.Option.{option_map}
 use Rattle.go_base.specs.Optional.{◌>>=◌}
 use Rattle.go_grammar.specs.Trees.{first, parts}
@@ -19,8 +21,11 @@ use Rattle.clone_window.specs.Spans.{ByteRange, nowhere, place_at, places_from, 
 use Rattle.clone_window.specs.Bodies.{Body}
 use Rattle.clone_window.specs.Fields.{FieldNames}
 use Rattle.clone_classes.specs.Listing.{listing}
+use Rattle.clone_report.specs.Covered.{counted, coverage, coverages, stands, statements_from}
+use Rattle.clone_report.specs.Maximal.{maximal}
 use Rattle.clone_replies.specs.Classes.{Listed, ShownClass, shown_class, statements_in, window_bytes}
 use Rattle.clone_replies.specs.Listing.{listing_by, listing_text}
+use Rattle.clone_replies.specs.Maximal.{class_at, maximal_by, maximal_text, members_at}
 
 -- ---- places by tokens and trees alone
 
@@ -79,3 +84,26 @@ module _ {T : Type 0} (names : List (List ℕ)) (fields : FieldNames T) (bodies 
   pub same-listing : (identical : T → T → Bool) (bounds : Bounds) → listing_by identical bounds (listed fs) ≡ listing_by identical bounds (listed gs)
   same-listing identical bounds =
       ap (λ (shown : List Window → ShownClass). listing_text names (map shown (listing identical fields bounds bodies))) (fun_ext same-shown)
+
+  -- ---- their covered statements
+
+  pub same-coverage : (classes : List (List Window)) (file : ℕ) → coverage classes fs bodies file ≡ coverage classes gs bodies file
+  same-coverage classes file =
+      ap (λ ps. counted (statements_from (stands classes) ps file 0 bodies)) (places-by 0 fs ∙ ap (places_by 0) same ∙ sym (places-by 0 gs))
+
+  same-count : length fs ≡ length gs
+  same-count = sym (length-map fs source_of) ∙ ap length same ∙ length-map gs source_of
+
+  same-coverages : (classes : List (List Window)) → coverages classes fs bodies ≡ coverages classes gs bodies
+  same-coverages classes =
+      ap (λ (f : ℕ → ℕ × ℕ). map f (range_with_len 0 (length fs))) (fun_ext (same-coverage classes))
+      ∙ ap (λ n. map (coverage classes gs bodies) (range_with_len 0 n)) same-count
+
+  abbrev class_by : List (List Window) → (List Window → ShownClass) → ℕ → ℕ × ShownClass
+  class_by classes shown n = (n, shown (members_at classes n))
+
+  pub same-report : (identical : T → T → Bool) (bounds : Bounds) → maximal_by identical bounds (listed fs) ≡ maximal_by identical bounds (listed gs)
+  same-report identical bounds =
+      let classes = listing identical fields bounds bodies in
+      ap (λ (shown : List Window → ShownClass). maximal_text names (map (class_by classes shown) (maximal classes)) (coverages classes fs bodies)) (fun_ext same-shown)
+      ∙ ap (maximal_text names (map (class_at (listed gs) classes) (maximal classes))) (same-coverages classes)

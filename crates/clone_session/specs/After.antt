@@ -19,6 +19,7 @@ after_command s (command.Add name text) = changed s (add_answer s.texts name tex
 after_command s (command.Remove name) = changed s (remove_answer s.texts name)
 after_command s (command.Show name) = s
 after_command s command.Classes = s
+after_command s command.Maximal = s
 after_command s command.Stat = s
 after_command s (command.Run turns input) = s
 after_command s command.Save = s

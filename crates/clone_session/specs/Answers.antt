@@ -13,6 +13,7 @@ use Rattle.clone_server.specs.Session.{Settings}
 use Rattle.clone_session.specs.Replies.{TextReply}
 use Rattle.clone_window.specs.declared.bounds.Bounds.{Bounds}
 use Rattle.clone_replies.specs.Listing.{listing_reply}
+use Rattle.clone_replies.specs.Maximal.{maximal_reply}
 use Rattle.clone_replies.specs.Numbers.{numbers_in, numbers_reply}
 use Rattle.clone_replies.specs.ReplyContents.{run_in}
 use Rattle.clone_replies.specs.Replies.{run_words}
@@ -45,6 +46,10 @@ pub data PackageReply (P : OfPackage) (texts : List FileText) (reply : List ℕ)
 abbrev pub IsListing : Bounds → OfPackage
 IsListing bounds c reply = reply ≡ listing_reply bounds c
 
+-- its maximal classes, and how much of each file is covered
+abbrev pub IsMaximal : Bounds → OfPackage
+IsMaximal bounds c reply = reply ≡ maximal_reply bounds c
+
 -- its numbers, where it has these texts
 abbrev pub IsNumbers : Bounds → List FileText → OfPackage
 IsNumbers bounds texts c reply = reply ≡ numbers_reply (numbers_in bounds texts c)
@@ -60,6 +65,7 @@ Answers s texts (command.Add name text) reply after = TextReply texts (command.A
 Answers s texts (command.Remove name) reply after = TextReply texts (command.Remove name) reply after
 Answers s texts (command.Show name) reply after = TextReply texts (command.Show name) reply after
 Answers s texts command.Classes reply after = PackageReply (IsListing (bounds_of s)) texts reply × (after ≡ texts)
+Answers s texts command.Maximal reply after = PackageReply (IsMaximal (bounds_of s)) texts reply × (after ≡ texts)
 Answers s texts command.Stat reply after = PackageReply (IsNumbers (bounds_of s) texts) texts reply × (after ≡ texts)
 Answers s texts (command.Run turns input) reply after = PackageReply (IsRun turns input) texts reply × (after ≡ texts)
 Answers s texts command.Save reply after = ⊥

@@ -1,4 +1,5 @@
 pub mod Session
 pub mod Replies
+pub mod Maximal
 pub mod Answers
 pub mod After

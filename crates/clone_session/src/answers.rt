@@ -4,7 +4,7 @@ ghost use Rattle.std.specs.Prelude.{◌≡◌, ◌<◌, ◌≤◌, length, IfOk,
 ghost use Rattle.clone_session.specs.Session.{IsGoodVerdict};
 ghost use Rattle.clone_session.specs.Replies.{TextReply};
 ghost use Rattle.clone_session.specs.After.{after_command};
-ghost use Rattle.clone_session.specs.Answers.{fault_line, Answers, IsListing, IsNumbers, PackageReply, settings_of};
+ghost use Rattle.clone_session.specs.Answers.{fault_line, Answers, IsListing, IsMaximal, IsNumbers, PackageReply, settings_of};
 
 use crate::numbers::numbers_line;
 use crate::run_answers::ran;
@@ -63,6 +63,22 @@ fn classes<C: Check, H: WindowHash + Copy + Drop>(
     }
 }
 
+/// The reply to `maximal`.
+fn maximal<C: Check, H: WindowHash + Copy + Drop>(
+    alloc: Global,
+    session: &mut Session<C, H>,
+) -> Result<Bytes, Memory>
+    ensures reply { IfOk result (λ reply. PackageReply (IsMaximal session.old.bounds) session.old.texts reply) }
+    ensures kept { session.new ≡ record session.old { verdict = session.new.verdict } }
+    ensures known { IsSome session.old.verdict → session.new ≡ session.old }
+{
+    refresh::<C, H, Brand>(session, Blank::new(3))?;
+    match session.fault() {
+        Some(fault) => fault_line(alloc, session, &fault),
+        None => session.report(),
+    }
+}
+
 /// The reply to `stat`.
 fn stat<C: Check, H: WindowHash + Copy + Drop>(
     alloc: Global,
@@ -104,6 +120,7 @@ pub fn answer<C: Check, H: WindowHash + Copy + Drop>(
 {
     match command {
         Command::Classes => classes(alloc, session),
+        Command::Maximal => maximal(alloc, session),
         Command::Stat => stat(alloc, session),
         Command::Run { turns, input } => ran(alloc, session, u64::from(*turns), input.as_slice()),
         Command::Save | Command::Quit => Err(Memory),

@@ -129,8 +129,12 @@ pub fn answer<C: Check, H: WindowHash + Copy + Drop>(
         Command::Add { name, bytes } => add(alloc, session, name, bytes.as_slice())?,
         Command::Remove { name } => remove(alloc, session, name)?,
         Command::Show { name } => show(alloc, session, name)?,
-        Command::Classes | Command::Stat | Command::Run { .. } | Command::Save | Command::Quit =>
-            return Ok(None),
+        Command::Classes
+        | Command::Maximal
+        | Command::Stat
+        | Command::Run { .. }
+        | Command::Save
+        | Command::Quit => return Ok(None),
     };
     Ok(Some(reply))
 }

@@ -1,6 +1,6 @@
 //! A session.
 
-ghost use Rattle.std.specs.Prelude.{◌≡◌, ◌≤◌, ◌<◌, ◌+◌, ◌-◌, Some, None, IsSome, IsSomeAnd, IfSome, IfNone, IfOk, IfErr, OnOk, OnErr, is_some, length, min, take, drop, slice_get};
+ghost use Rattle.std.specs.Prelude.{◌≡◌, List, ◌≤◌, ◌<◌, ◌+◌, ◌-◌, Some, None, IsSome, IsSomeAnd, IfSome, IfNone, IfOk, IfErr, OnOk, OnErr, is_some, length, min, take, drop, slice_get};
 ghost use Rattle.std.specs.Option.{option_map};
 ghost use Rattle.go_base.specs.Gives.{Gives};
 ghost use Rattle.go_base.specs.Package.{IsPackage};
@@ -9,21 +9,26 @@ ghost use Rattle.edit_apply.specs.Answers.{edit_refusal, edit_answer, add_answer
 ghost use Rattle.go_scopes.specs.Views.{failure_of};
 ghost use Rattle.go_typed.specs.Contents.{Content as Whole};
 ghost use Rattle.go_package_defs.specs.Checked.{IsChecked, IsCheckedPackage, IsGood, IsReported, texts_of};
+ghost use Rattle.go_typed.specs.declared.window.Window.{Window as Member};
+ghost use Rattle.clone_classes.specs.Classes.{Among};
 ghost use Rattle.clone_classes.specs.Listing.{members_of};
 ghost use Rattle.clone_session.specs.Replies.{TextReply, IsOther};
 ghost use Rattle.clone_window.specs.declared.bounds.Bounds.{Bounds as Limits};
 ghost use Rattle.clone_replies.specs.Classes.{classes_in};
 ghost use Rattle.clone_replies.specs.Listing.{listing_reply};
+ghost use Rattle.clone_replies.specs.Maximal.{covered_in, maximal_in, maximal_reply};
 ghost use Rattle.go_eval.specs.Runs.{outcome_view, refusal};
 ghost use Rattle.clone_replies.specs.ReplyContents.{run_in};
 ghost use Rattle.clone_replies.specs.Numbers.{numbers_in};
 ghost use Rattle.clone_session.specs.After.{after_command};
+ghost use Rattle.clone_session.specs.Maximal.{LiesInOneOf};
 ghost use Rattle.clone_session.specs.Session.{IsGoodVerdict, fault_in, windows_entered};
 ghost use Rattle.clone_session.specs.declared.verdict.Verdict.TheVariants as verdict;
 
 use crate::check::Check;
 use crate::indexed::{classes_of, indexed};
 use crate::laws::listings_follow_from_the_texts;
+use crate::maximal::{covered_of, maximal_of, report_of};
 use crate::run::run_of;
 use crate::verdict::{Verdict, verdict_of};
 use crate::{answer, copy_under, file_at};
@@ -237,6 +242,48 @@ impl<C: Check, H: WindowHash + Copy + Drop> Session<C, H> {
     {
         let classes = self.classes()?;
         listing_of(self.alloc, self.checked(), &classes)
+    }
+
+    /// The numbers of the maximal ones among the clone classes of the present package, counted from 1.
+    ///
+    /// # Errors
+    ///
+    /// Want of memory.
+    pub fn maximal(&self) -> Result<Vec<u32>, Memory>
+        requires { IsGoodVerdict self.now.verdict }
+        ensures numbers { IfOk result (λ v. (c : Whole) → IsChecked self.now.texts c → v.items ≡ maximal_in self.now.bounds c) }
+        // Every member of every class lies within a member of one of these.
+        ensures within { IfOk result (λ v. (c : Whole) (class : List Member) (w : Member) → IsChecked self.now.texts c → Among (classes_in self.now.bounds c) class → Among class w → LiesInOneOf (classes_in self.now.bounds c) v.items w) }
+    {
+        let classes = self.classes()?;
+        maximal_of(self.alloc, self.checked(), &classes)
+    }
+
+    /// Of the statements in the functions of the file with this number, in the order of the names, how many are covered by members of
+    /// clone classes, and how many there are. A file that isn't held has none.
+    ///
+    /// # Errors
+    ///
+    /// Want of memory.
+    pub fn covered(&self, file: u32) -> Result<(u32, u32), Memory>
+        requires { IsGoodVerdict self.now.verdict }
+        ensures { IfOk result (λ n. (c : Whole) → IsChecked self.now.texts c → n ≡ covered_in self.now.bounds c file) }
+    {
+        let classes = self.classes()?;
+        covered_of(self.alloc, self.checked(), &classes, file)
+    }
+
+    /// The reply to `maximal`: the maximal clone classes of the present package, and how much of each file is covered.
+    ///
+    /// # Errors
+    ///
+    /// Want of memory.
+    pub fn report(&self) -> Result<Bytes, Memory>
+        requires { IsGoodVerdict self.now.verdict }
+        ensures { IfOk result (λ reply. (c : Whole) → IsChecked self.now.texts c → reply ≡ maximal_reply self.now.bounds c) }
+    {
+        let classes = self.classes()?;
+        report_of(self.alloc, self.checked(), &classes)
     }
 
     /// What the run of the present package with this input and so many turns comes to.

@@ -13,7 +13,8 @@ use Rattle.go_meaning_simulation.specs.Likeness.{Likeness, Mirror}
 use Rattle.go_meaning_simulation.specs.Links.{Links, Ways, nowhere}
 use Rattle.go_meaning_simulation.specs.Locals.{no_locals, none_here, window_links, Agree, Within}
 use Rattle.go_meaning_simulation.specs.Mates.{MatesOrNone, missing, found}
-use Rattle.go_meaning_simulation.proofs.Public.{Grows, in_order_grows, values_grow, called_grows, bounded_grows, meanings_grown, Frames, Follows, Room, exits, flip_links, flip_statement, flip_chain, flip_room, Base, Mates, neither, both, Claim, FunctionsMatch, chain_step, WindowsFollow, Setting, bounded_follow, program_follows, run_meets, AllIn, body_room, window_room, empty_agree, calls_begin, flip_all}
+use Rattle.go_meaning.proofs.Public.{Grows, in_order_grows, values_grow, called_grows, bounded_grows, meanings_grown}
+use Rattle.go_meaning_simulation.proofs.Public.{Frames, Follows, Room, exits, flip_links, flip_statement, flip_chain, flip_room, Base, Mates, neither, both, Claim, FunctionsMatch, chain_step, WindowsFollow, Setting, bounded_follow, program_follows, run_meets, AllIn, body_room, window_room, empty_agree, calls_begin, flip_all}
 use Rattle.go_meaning_numbers.proofs.Public.{forward, backward, mirrored, start_moved}
 use Rattle.extract_call.specs.Calls.{arguments, results, stored, ready}
 use Rattle.extract_call.specs.Extraction

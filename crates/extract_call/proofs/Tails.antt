@@ -7,7 +7,8 @@ use Rattle.go_meaning.specs.Computations.{World, Next, Return, Break, Continue, 
 use Rattle.go_meaning.specs.Meaning.{frame_of, entered, called, Program, bounded}
 use Rattle.go_meaning.specs.Laws.{IsPrefix}
 use Rattle.go_meaning_simulation.specs.Likeness.{Likeness}
-use Rattle.go_meaning_simulation.proofs.Public.{no_frames, Grows, Frames, Exits, Follows, Meets}
+use Rattle.go_meaning.proofs.Public.{Grows}
+use Rattle.go_meaning_simulation.proofs.Public.{no_frames, Frames, Exits, Follows, Meets}
 use Rattle.extract_call.specs.Calls.{arguments}
 use Rattle.extract_call.specs.Laws.{kept, give_back, Tail, TailCallsOneTurnLater}
 use Rattle.extract_call.proofs.Calls.{tail_runs, body_runs}

@@ -9,7 +9,8 @@ use Rattle.go_meaning.specs.Doings.{values_of}
 use Rattle.go_meaning.specs.Meaning.{meanings, Code, frame_of, entered, has_body, called, Program, bounded}
 use Rattle.go_meaning.specs.Laws.{IsPrefix}
 use Rattle.go_meaning_simulation.specs.Likeness.{Likeness}
-use Rattle.go_meaning_simulation.proofs.Public.{Grows, in_order_grows, values_grow, called_grows, bounded_grows, meanings_grown, Frames, Exits, Follows, Meets}
+use Rattle.go_meaning.proofs.Public.{Grows, in_order_grows, values_grow, called_grows, bounded_grows, meanings_grown}
+use Rattle.go_meaning_simulation.proofs.Public.{Frames, Exits, Follows, Meets}
 use Rattle.extract_call.specs.Calls.{Argument, arguments, results, stored, Fresh, ready, IsGap, IsBody}
 use Rattle.extract_call.specs.Laws.{row, come_back}
 use Rattle.extract_call.proofs.Calls.{gap_runs, after_call, body_runs}

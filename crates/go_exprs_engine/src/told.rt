@@ -42,8 +42,7 @@ fn as_type_place(types: &Types, hint: Hint) -> Hint
     ensures tree { hint_seen types.now result ≡ as_type_place (hint_seen types.now hint) }
 {
     match hint {
-        Hint::Loose => Hint::Loose,
-        Hint::LooseInside => Hint::LooseInside,
+        Hint::Loose | Hint::LooseInside => Hint::Loose,
         _ => Hint::TypePlace,
     }
 }

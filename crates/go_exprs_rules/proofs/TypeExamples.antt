@@ -21,6 +21,7 @@ type_examples_hold = record {
   wide_length = refl;
   constant_length = refl;
   open_length = refl;
+  variable_in_parentheses = refl;
   struct_type = refl;
   function_type = refl;
   unnamed_parameters = refl;

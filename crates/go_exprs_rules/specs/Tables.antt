@@ -48,7 +48,7 @@ in_parentheses h = one_inside
 
 abbrev pub as_type_place : Hint → Hint
 as_type_place loose = loose
-as_type_place loose_inside = loose_inside
+as_type_place loose_inside = loose
 as_type_place h = type_place
 
 -- what an element of a literal of the type t is told, by its underlying type

@@ -74,6 +74,11 @@ pub record TypeExamples : Type 0 where
       told type_place (sentence (mark ∷ word (codes "1") ∷ mark ∷ n_word ∷ mark ∷ predeclared_word predeclared.Int ∷ [])
       (node kind.SequenceType 0 6 (more (infix_of (operator.Compute arithmetic.ShiftLeft) (number 1) (name 3)) (more (name 5) none))))
       ≡ fault code.Operands 1 4
+  -- []([3]n)
+  pub variable_in_parentheses :
+      told type_place (sentence (mark ∷ mark ∷ mark ∷ mark ∷ word (codes "3") ∷ mark ∷ n_word ∷ mark ∷ [])
+      (node kind.SequenceType 0 8 (skip (more (node kind.ParenthesizedType 2 8 (more (node kind.SequenceType 3 7 (more (number 4) (more (name 6) none))) none)) none))))
+      ≡ fault code.NotAValue 6 7
   -- struct { a, b int; c []T }
   pub struct_type :
       told type_place (sentence (mark ∷ mark ∷ word (codes "a") ∷ mark ∷ b_word ∷ predeclared_word predeclared.Int ∷ mark ∷ word (codes "c") ∷ mark ∷ mark ∷ T_word ∷ mark ∷ [])

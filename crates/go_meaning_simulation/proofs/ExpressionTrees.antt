@@ -12,7 +12,7 @@ use Rattle.go_meaning.specs.Plans.{Plan, Give, Local, Variable, Ignore, Inner, S
 use Rattle.go_meaning.specs.Doings.{Doing, plain, absent, local_place, act, doing_of}
 use Rattle.go_meaning.specs.Planning.{plan}
 use Rattle.go_meaning.specs.Meaning.{turned, meaning, meanings}
-use Rattle.go_meaning_simulation.proofs.Growing.{Grows, give_grows, read_grows, plain_grown, local_grown}
+use Rattle.go_meaning.proofs.Public.{Grows, give_grows, read_grows, plain_grown, local_grown}
 use Rattle.go_meaning_simulation.specs.Likeness.{Likeness}
 use Rattle.go_meaning_simulation.specs.Links.{Links}
 use Rattle.go_meaning_simulation.specs.Kin.{Leaf, gives, reads, changes, holds, held, variable, blank, nothing, Expression, leaf, inner, keyed, keyed_back, Expressions, none, more, skip}

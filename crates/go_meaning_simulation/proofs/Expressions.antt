@@ -8,7 +8,7 @@ use Rattle.go_meaning.specs.Values.{Value, Truth, Whole, Text, Parts, Slice, Nil
 use Rattle.go_meaning.specs.Computations.{Panic, NilCall, Next, Panics, Comp, undecided, end_by, give, then_do, one, read, write, spend, choose, each}
 use Rattle.go_meaning.specs.Operations.{Operation, Compare, Field, WithField, Element, WithElement, InArray, Cell, SetCell, InSlice, ReadVariable, WriteVariable, operate}
 use Rattle.go_meaning.specs.Doings.{Doing, plain, chosen_by, absent, values_of, finds_of, at, local_place, name_place, blank_place, variable_place, field_place, element_place, cell_place, stores, assigned, operated, applied, matches, tag_of}
-use Rattle.go_meaning_simulation.proofs.Growing.{Grows, AllGrow, Grown, AllGrown, undecided_grows, give_grows, operate_grows, choose_grows, plain_grown, chosen_grown, stored_grows, element_stored_grows, index_found_grows, element_found_grows, stores_grow, assigned_rest_grows, operated_last_grows, operated_rest_grows, match_rest_grows, each_grows, local_grown, name_grown, blank_grown, variable_grown, field_grown, element_grown, cell_grown}
+use Rattle.go_meaning.proofs.Public.{Grows, AllGrow, Grown, AllGrown, undecided_grows, give_grows, operate_grows, choose_grows, plain_grown, chosen_grown, stored_grows, element_stored_grows, index_found_grows, element_found_grows, stores_grow, assigned_rest_grows, operated_last_grows, operated_rest_grows, match_rest_grows, each_grows, local_grown, name_grown, blank_grown, variable_grown, field_grown, element_grown, cell_grown}
 use Rattle.go_meaning_simulation.specs.Likeness.{Likeness, CalledAlike, functions, none, is_function}
 use Rattle.go_meaning_simulation.proofs.Following
 use Rattle.go_meaning_simulation.proofs.Following.{Frames, Exits, Follows}

@@ -7,7 +7,7 @@ use Rattle.go_meaning.specs.Computations.{World, Ending, Next, Return, Break, Co
 use Rattle.go_meaning.specs.Operations.{Operation, Deed, Gives, Traps, perform, done, operate}
 use Rattle.go_meaning.specs.Laws.{IsPrefix}
 use Rattle.go_meaning_simulation.specs.Likeness.{DeedLike, Likeness}
-use Rattle.go_meaning_simulation.proofs.Growing.{Grows, go_on_grows, go_round_grows, go_down_grows, leave_grows, end_grows, operate_grows, read_grows, write_grows, then_grows, looped_grows, clause_grows, spend_grows, enter_grows, over_grows}
+use Rattle.go_meaning.proofs.Public.{Grows, go_on_grows, go_round_grows, go_down_grows, leave_grows, end_grows, operate_grows, read_grows, write_grows, then_grows, looped_grows, clause_grows, spend_grows, enter_grows, over_grows}
 
 -- a relation of frames
 abbrev pub Frames : Type 1

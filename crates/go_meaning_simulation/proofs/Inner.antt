@@ -7,7 +7,7 @@ use Rattle.go_meaning.specs.Computations.{Comp, give, one, choose, each}
 use Rattle.go_meaning.specs.Operations.{Field, Element, operate}
 use Rattle.go_meaning.specs.Plans.{Plan, Give, Local, Variable, Declare, Ignore, Inner, FieldOf, ElementOf, CellOf, Perform, Both, Either, Apply, StepBy, OperateBy, AssignTo, ZeroTo, Skip, Returns, Breaks, Continues, Falls, Sequence, Branch, Select, CaseOf, Otherwise, Iterate}
 use Rattle.go_meaning.specs.Doings.{Doing, plain, values_of, at, field_place, element_place, assigned, operated, applied, act}
-use Rattle.go_meaning_simulation.proofs.Growing.{Grows, give_grows, operate_grows, choose_grows, field_grown, element_grown, applied_grows}
+use Rattle.go_meaning.proofs.Public.{Grows, give_grows, operate_grows, choose_grows, field_grown, element_grown, applied_grows}
 use Rattle.go_meaning_simulation.specs.Likeness.{Likeness}
 use Rattle.go_meaning_simulation.specs.Kin.{is_inner, modes}
 use Rattle.go_meaning_simulation.proofs.Following.{Frames, Exits}

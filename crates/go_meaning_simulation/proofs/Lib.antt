@@ -1,5 +1,3 @@
-pub mod Growing
-pub mod Trees
 pub mod Following
 pub mod Expressions
 pub mod Inner

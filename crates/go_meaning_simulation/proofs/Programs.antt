@@ -8,7 +8,7 @@ use Rattle.go_meaning.specs.Computations.{Next, Comp, in_order}
 use Rattle.go_meaning.specs.Operations.{ReadByte, operate}
 use Rattle.go_meaning.specs.Doings.{values_of}
 use Rattle.go_meaning.specs.Meaning.{meanings, Code, frame_of, entered, has_body, called, Program, bounded, all_bounded, program}
-use Rattle.go_meaning_simulation.proofs.Trees.{called_grows, bounded_grows}
+use Rattle.go_meaning.proofs.Public.{called_grows, bounded_grows}
 use Rattle.go_meaning_simulation.specs.Likeness.{Likeness}
 use Rattle.go_meaning_simulation.specs.Links.{Links, Ways, nowhere}
 use Rattle.go_meaning_simulation.specs.Kin.{Statement, Chain, AreKin, all_done, and_kin}

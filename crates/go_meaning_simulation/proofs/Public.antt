@@ -1,6 +1,4 @@
 -- What the proofs of other crates use of this crate's proofs. Declares nothing.
-pub use Rattle.go_meaning_simulation.proofs.Growing.{Grows, in_order_grows, values_grow}
-pub use Rattle.go_meaning_simulation.proofs.Trees.{called_grows, bounded_grows, meanings_grown}
 pub use Rattle.go_meaning_simulation.proofs.Following.{Frames, Exits, after, values_in, ending_with, tolled, Meets, Follows}
 pub use Rattle.go_meaning_simulation.proofs.Rooms.{Room, no_frames, exits}
 pub use Rattle.go_meaning_simulation.proofs.Rows.{go_on_twice, go_on_same, go_on_gives, values_joined, in_order_joined}

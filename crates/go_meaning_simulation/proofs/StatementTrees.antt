@@ -15,8 +15,7 @@ use Rattle.go_meaning.specs.Plans.{Plan, Declare, AssignTo, ZeroTo, Returns, Bre
 use Rattle.go_meaning.specs.Doings.{Doing, absent, values_of, at, name_place, assigned, selected, tag_of, loop, iterated, operand_of, condition_of, act, doing_of}
 use Rattle.go_meaning.specs.Planning.{part_at, is_there, plan}
 use Rattle.go_meaning.specs.Meaning.{without_first, turned, meaning, meanings}
-use Rattle.go_meaning_simulation.proofs.Growing.{Grows, AllGrown, give_grows, end_grows, name_grown, take_grown, at_grown, act_grown, iterated_grows}
-use Rattle.go_meaning_simulation.proofs.Trees.{meanings_grown}
+use Rattle.go_meaning.proofs.Public.{Grows, AllGrown, give_grows, end_grows, name_grown, take_grown, at_grown, act_grown, iterated_grows, meanings_grown}
 use Rattle.go_meaning_simulation.specs.Likeness.{Likeness}
 use Rattle.go_meaning_simulation.specs.Links.{Links, joined, Ways, loop_ways, clause_ways}
 use Rattle.go_meaning_simulation.specs.Kin.{Expression, Expressions, Names, Part, Values, Statement, First, Other, Chain, Clauses, Ranged}

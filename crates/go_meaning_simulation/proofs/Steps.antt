@@ -5,7 +5,7 @@ use Rattle.go_meaning.specs.Values.{Value, nth, is_true}
 use Rattle.go_meaning.specs.Computations.{World, Next, Comp, give, then_do, one, looped, spend, choose, each, falling, over}
 use Rattle.go_meaning.specs.Operations.{Items, Item, operate, item_count}
 use Rattle.go_meaning.specs.Doings.{Doing, values_of, finds_of, stores, assigned, selected, loop, iterated}
-use Rattle.go_meaning_simulation.proofs.Growing.{Grows, AllGrow, Grown, AllGrown, give_grows, choose_grows, each_grows, finds_grow, stores_grow, assigned_rest_grows, selected_grows}
+use Rattle.go_meaning.proofs.Public.{Grows, AllGrow, Grown, AllGrown, give_grows, choose_grows, each_grows, finds_grow, stores_grow, assigned_rest_grows, selected_grows}
 use Rattle.go_meaning_simulation.specs.Likeness.{Likeness}
 use Rattle.go_meaning_simulation.proofs.Following.{Frames, Exits, in_loop, in_clause, Follows, weaker, end_follows, operate_follows, then_follows, looped_follows, clause_follows, spend_follows, choose_follows, over_follows}
 

@@ -49,16 +49,7 @@ fn judge_value(
         return Err(Memory);
     };
     let locals = locals_at(alloc, specification.iota)?;
-    let scope = scope_in(
-        world.uses,
-        world.env,
-        tokens,
-        &locals,
-        sound,
-        world.basics,
-        specification.entity,
-        true,
-    );
+    let scope = scope_in(world, tokens, &locals, sound, specification.entity, true);
     let verdict = judge_name(alloc, types, &scope, specification, column)?;
     Ok(Held {
         right: None,
@@ -89,16 +80,7 @@ fn right_of(
         return Err(Memory);
     };
     let locals = locals_at(alloc, specification.iota)?;
-    let scope = scope_in(
-        world.uses,
-        world.env,
-        tokens,
-        &locals,
-        told,
-        world.basics,
-        specification.entity,
-        false,
-    );
+    let scope = scope_in(world, tokens, &locals, told, specification.entity, false);
     right_side(alloc, types, &scope, specification)
 }
 
@@ -122,16 +104,7 @@ fn fault_of(
         return Err(Memory);
     };
     let locals = locals_at(alloc, specification.iota)?;
-    let scope = scope_in(
-        world.uses,
-        world.env,
-        tokens,
-        &locals,
-        sound,
-        world.basics,
-        specification.entity,
-        true,
-    );
+    let scope = scope_in(world, tokens, &locals, sound, specification.entity, true);
     type_fault(alloc, types, &scope, specification)
 }
 

@@ -7,17 +7,14 @@ ghost use Rattle.go_package_defs.specs.Knowledge as knowledge;
 ghost use Rattle.go_package_defs.specs.Knowledge.{State, need_in, scope_where};
 ghost use Rattle.go_package_defs.specs.Sources.{tokens_in, text_at};
 ghost use Rattle.go_tokens.specs.Tokens.{IsTokenList};
-ghost use Rattle.go_package_rounds.specs.declared.world.World.{World};
 ghost use Rattle.go_package_rounds.specs.World.{package_in, outlines_in, Fits, StandsFor, KnownStandings};
 
 use crate::world::World;
 use go_base::Memory;
-use go_exprs_rules::Basics;
 use go_exprs_types::{Needed, Scope, Standing};
 use go_tokens::tokens::Tokens;
 use go_tree::context::Entity;
-use go_tree::uses::Uses;
-use go_typed::{Env, Locals};
+use go_typed::Locals;
 use std::alloc::Global;
 
 /// The tokens of the file of this number, if there are so many and it has this number itself.
@@ -61,29 +58,27 @@ fn need_in(entity: Entity) -> Needed
 
 /// The scope of a specification, in which the objects stand for this.
 pub fn scope_in<'b>(
-    uses: &'b Uses,
-    env: &'b Env,
+    world: &'b World<'b>,
     tokens: &'b Tokens,
     locals: &'b Locals,
     told: &'b [Standing],
-    basics: Basics,
     entity: Entity,
     limits: bool,
 ) -> Scope<'b>
-    ensures is { (w : World) (t : Table) (test : State → Bool) (ss : List State) (d : declarations.Specification) → uses.now ≡ w.uses.now → env.now ≡ w.env.now → Fits t w → StandsFor t w test told.now ss
-        → rights_of t ≡ knowledge.rights_of (package_in w) ss → tokens.now ≡ tokens_in (package_in w) d.file → tokens.now.file ≡ d.file
+    ensures is { (t : Table) (test : State → Bool) (ss : List State) (d : declarations.Specification) → Fits t world.now → StandsFor t world.now test told.now ss
+        → rights_of t ≡ knowledge.rights_of (package_in world.now) ss → tokens.now ≡ tokens_in (package_in world.now) d.file → tokens.now.file ≡ d.file
         → locals.now ≡ record { sorts = []; iota = d.iota } → entity ≡ d.entity
-        → names t result ≡ scope_where test limits (package_in w) (outlines_in w) ss d }
-    ensures known { (w : World) (t : Table) (n : ℕ) → env.now ≡ w.env.now → Fits t w → locals.now.sorts ≡ [] → KnownStandings n told.now → KnownScope n result }
-    ensures texts { (w : World) (file : ℕ) → tokens.now ≡ tokens_in (package_in w) file → text_in result ≡ text_at (package_in w) file }
-    ensures basics { result.basics ≡ basics }
+        → names t result ≡ scope_where test limits (package_in world.now) (outlines_in world.now) ss d }
+    ensures known { (t : Table) (n : ℕ) → Fits t world.now → locals.now.sorts ≡ [] → KnownStandings n told.now → KnownScope n result }
+    ensures texts { (file : ℕ) → tokens.now ≡ tokens_in (package_in world.now) file → text_in result ≡ text_at (package_in world.now) file }
+    ensures basics { result.basics ≡ world.now.basics }
 {
     Scope {
         tokens,
-        uses,
-        env,
+        uses: world.uses,
+        env: world.env,
         locals,
-        basics,
+        basics: world.basics,
         told,
         needed: need_in(entity),
         limits,

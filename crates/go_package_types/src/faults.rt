@@ -67,12 +67,10 @@ fn fault_as(
     };
     let locals = locals_at(alloc, specification.iota)?;
     let scope = scope_in(
-        world.uses,
-        world.env,
+        world,
         tokens,
         &locals,
         known.sound,
-        world.basics,
         specification.entity,
         true,
     );

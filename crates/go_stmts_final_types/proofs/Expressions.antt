@@ -22,7 +22,7 @@ use Rattle.go_typed.specs.Trees as sort
 use Rattle.go_exprs_rules.specs.declared.fault.TypeFault.{TypeFault}
 use Rattle.go_exprs_rules.specs.Faults.{or_else, reported}
 use Rattle.go_exprs_rules.specs.Names.{name_sort, name_form, place_failing}
-use Rattle.go_exprs_rules.specs.Scopes.{Scope, Hint, loose_inside, declares, free, member}
+use Rattle.go_exprs_rules.specs.Scopes.{Scope, Hint, declares, free, member}
 use Rattle.go_exprs_rules.specs.Settling.{Part}
 use Rattle.go_exprs_rules.specs.Sorts.{Stands, is_unknown, named_type}
 use Rattle.go_exprs_rules.specs.Tables.{Parts, hint, part_scope, layout, held, has_no_low, is_package, is_make_call, cut, first_cut, is_type, takes, is_placed, is_judged, no_faults, own_faults, failing, placing, form_by, sort_by, selector_form, bracketed_form, callee_form, key_form, on_first, made, built_by, built, found, as_type_place}
@@ -41,7 +41,7 @@ use Rattle.go_stmts_final_types.proofs.Places as places
 use Rattle.go_stmts_final_types.proofs.Reading.{reported_front, reported_back, one_none}
 use Rattle.go_stmts_final_types.proofs.RowRules.{front, behind_front, shaped_front, shaped_behind, shaped_skip}
 use Rattle.go_stmts_final_types.proofs.Rows.{ranked}
-use Rattle.go_stmts_final_types.proofs.Stood.{node_fits, node_typed, node_known, signature_typed}
+use Rattle.go_stmts_final_types.proofs.Stood.{node_fits, node_known, signature_typed}
 use Rattle.go_stmts_final_types.proofs.Typing.{typings_are}
 
 -- ---- parts as they are laid out
@@ -150,7 +150,6 @@ nothing_typed false = tt
 name_variable : (r : Standing) (s : Scope) (h : Hint) (i : ℕ) → NameIsKnown r s h i → VariableIsTyped (is_package_variable (name_form s h i)) (name_sort s h i)
 name_variable r s declares i n = nothing_typed (is_package_variable (name_form s declares i))
 name_variable r s free i n = nothing_typed (is_package_variable (name_form s free i))
-name_variable r s loose_inside i n = n.0.typed
 name_variable r s h i n = n.typed
 
 variable_by : (r : Standing) (s : Scope) (k : Kind) (h : Hint) (i j : ℕ) (ys : Parts) (b : Bool) → is_name k ≡ b → NodeIsKnown k r s h i → VariableIsTyped (is_package_variable (form_by s k h i j ys)) (sort_by s k h i j ys)
@@ -221,7 +220,6 @@ module _ (r : Standing) (s : Scope) (h : Hint) (i j : ℕ) where
   part_typed c k ps m p t =
       let x = sort_by s k h i j (laid s h k ps) in
       type_placed s.rights h i j x t (placed_by (is_placed k) (place_failing s.rights h i j x) (places.type_placed k p) m.places) (sort_known c k ps m)
-      (λ l. node_typed r s h i j (place_of c) k ps m.shape.1 m.names m.facts m.fails p l)
 
   -- ---- entries
 

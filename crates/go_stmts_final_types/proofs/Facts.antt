@@ -25,7 +25,6 @@ use Rattle.go_stmts_final_types.proofs.RowRules.{front, behind_front}
 abbrev pub is_typing : Hint → Bool
 is_typing type_place = true
 is_typing loose = true
-is_typing loose_inside = true
 is_typing h = false
 
 -- places where what a name stands for is read
@@ -126,12 +125,11 @@ typed_keeps rights (sort.IsType t) e = tt
 typed_keeps rights x e = cc
 
 -- a type's place has a type
-pub type_placed : (rights : Rights) (h : Hint) (i j : ℕ) (x : Stands) → is_typing h ≡ true → place_failing rights h i j x ≡ [] → is_unknown x ≡ false → (h ≡ loose_inside → is_type x ≡ true) → is_type x ≡ true
-type_placed rights type_place i j (sort.IsType t) a e u g = refl
-type_placed rights type_place i j sort.Unknown a e u g = cc
-type_placed rights type_place i j x a e u g = cc
-type_placed rights loose i j (sort.IsType t) a e u g = refl
-type_placed rights loose i j sort.Unknown a e u g = cc
-type_placed rights loose i j x a e u g = cc
-type_placed rights loose_inside i j x a e u g = g refl
-type_placed rights h i j x a e u g = cc
+pub type_placed : (rights : Rights) (h : Hint) (i j : ℕ) (x : Stands) → is_typing h ≡ true → place_failing rights h i j x ≡ [] → is_unknown x ≡ false → is_type x ≡ true
+type_placed rights type_place i j (sort.IsType t) a e u = refl
+type_placed rights type_place i j sort.Unknown a e u = cc
+type_placed rights type_place i j x a e u = cc
+type_placed rights loose i j (sort.IsType t) a e u = refl
+type_placed rights loose i j sort.Unknown a e u = cc
+type_placed rights loose i j x a e u = cc
+type_placed rights h i j x a e u = cc

@@ -1,5 +1,5 @@
 -- What nodes of expressions stand for, over parts that are known, where no rule fails.
-use Rattle.std.proofs.Common.{◌≡◌, ℕ, ◌-◌, Bool, true, false, cond, [], ◌∷◌, ◌++◌, List, Option, Some, None, pos, negsuc, refl, sym, ap, subst}
+use Rattle.std.proofs.Common.{◌≡◌, ℕ, ◌-◌, Bool, true, false, cond, [], ◌∷◌, ◌++◌, List, Option, Some, None, pos, negsuc, refl, sym, subst}
 use Rattle.std.specs.Prelude.{◌&&◌, ◌||◌, is_some}
 use Rattle.std.specs.Option.{option_map}
 use Rattle.go_base.specs.declared.fault.FaultCode.TheVariants as code
@@ -27,16 +27,16 @@ use Rattle.go_exprs_rules.specs.declared.fault.TypeFault.{TypeFault}
 use Rattle.go_exprs_rules.specs.Indexes.{value_or_unknown, named_field, selector_failing, selector_sort, bound_failing, text_length, index_failing_in, index_failing, index_sort, whole_or_absent, slice_failing, slice_sort}
 use Rattle.go_exprs_rules.specs.Literals.{literal_failing, literal_sort}
 use Rattle.go_exprs_rules.specs.Names.{name_sort}
-use Rattle.go_exprs_rules.specs.Scopes.{Scope, Hint, value, type_place, loose, loose_inside, callee, declares, free}
+use Rattle.go_exprs_rules.specs.Scopes.{Scope, Hint, value, type_place, loose, callee, declares, free}
 use Rattle.go_exprs_rules.specs.Settling.{Part, at_part}
 use Rattle.go_exprs_rules.specs.Sorts.{Stands, is_unknown, family_of_const, family_of_type, constant_of, is_constant, is_whole, is_text, is_negative, value_type, form_of_value, element_of, slice_element, byte}
-use Rattle.go_exprs_rules.specs.Tables.{Parts, in_parentheses, as_type_place, in_length, layout, is_package, is_make, is_type, is_placed, leaf, cut, first_cut, present, bounds_of, call_told, argument_told, literal_type, failing, sort_by}
+use Rattle.go_exprs_rules.specs.Tables.{Parts, as_type_place, in_length, layout, is_package, is_make, is_type, is_placed, leaf, cut, first_cut, present, bounds_of, call_told, argument_told, literal_type, failing, sort_by}
 use Rattle.go_exprs_rules.specs.TypeNodes.{part_type, type_sort, length_in, length_failing, array_of, sequence_type, signature_type, function_of, all_types, entry_types, result_types, parts_in}
 use Rattle.go_exprs_rules.specs.Typing.{typing, typings}
 use Rattle.go_stmts_final_types.specs.Names.{Standing, alone, called, selected, is_fit, KeepsFamily, NameIsKnown, NodeIsKnown, selected_in}
 use Rattle.go_stmts_final_types.specs.Shapes.{AreShaped}
 use Rattle.go_stmts_final_types.proofs.Called.{AllKeep, call_stood}
-use Rattle.go_stmts_final_types.proofs.Facts.{Fits, Facts, is_typing, reads, fit_known, alone_fits, inside_fits, inside_reads, type_asked, type_named, type_known, typed_known, typed_keeps}
+use Rattle.go_stmts_final_types.proofs.Facts.{Fits, Facts, reads, fit_known, alone_fits, inside_fits, inside_reads, type_asked, type_named, type_known, typed_known, typed_keeps}
 use Rattle.go_stmts_final_types.proofs.Families.{one_family}
 use Rattle.go_stmts_final_types.proofs.Known.{AllKnown, known_sort}
 use Rattle.go_stmts_final_types.proofs.Nodes.{and_first}
@@ -330,13 +330,6 @@ module _ (r : Standing) (s : Scope) (h : Hint) (i j : ℕ) (p : Place) where
   signature_typed (more q (more t (more o ps))) w f = elim w.1.1 [ ]
   signature_typed (more q (more t (skip ps))) w f = elim w.1.1 [ ]
 
-  parenthesized_typed : (ps : Trees) → AreShaped (rule p kind.ParenthesizedType) ps → Over kind.ParenthesizedType ps → h ≡ loose_inside → is_type (sort_over kind.ParenthesizedType ps) ≡ true
-  parenthesized_typed none w f e = elim w [ ]
-  parenthesized_typed (skip ps) w f e = elim w [ ]
-  parenthesized_typed (more q none) w f e = f.0.1 (ap (λ g. is_typing (in_parentheses g)) e)
-  parenthesized_typed (more q (more o ps)) w f e = elim w.1 [ ]
-  parenthesized_typed (more q (skip ps)) w f e = elim w.1 [ ]
-
   -- ---- all kinds
 
   name_read : reads h ≡ true → NameIsKnown r s h i → Fits r s.rights (name_sort s h i)
@@ -345,7 +338,6 @@ module _ (r : Standing) (s : Scope) (h : Hint) (i j : ℕ) (p : Place) where
       by : (g : Hint) → reads g ≡ true → NameIsKnown r s g i → Fits r s.rights (name_sort s g i)
       by declares e n = cc
       by free e n = cc
-      by loose_inside e n = record { fit = n.0.fit; family = n.0.family }
       by g e n = record { fit = n.fit; family = n.family }
 
   name_known : NameIsKnown r s h i → is_unknown (name_sort s h i) ≡ false
@@ -354,15 +346,7 @@ module _ (r : Standing) (s : Scope) (h : Hint) (i j : ℕ) (p : Place) where
       by : (g : Hint) → NameIsKnown r s g i → is_unknown (name_sort s g i) ≡ false
       by declares n = refl
       by free n = refl
-      by loose_inside n = fit_known r (name_sort s loose_inside i) n.0.fit
       by g n = fit_known r (name_sort s g i) n.fit
-
-  name_typed : NameIsKnown r s h i → h ≡ loose_inside → is_type (name_sort s h i) ≡ true
-  name_typed n e = by h n e
-    where
-      by : (g : Hint) → NameIsKnown r s g i → g ≡ loose_inside → is_type (name_sort s g i) ≡ true
-      by loose_inside n e = n.1
-      by g n e = cc
 
   pub node_fits : (k : Kind) (ps : Trees) → AreShaped (rule p k) ps → NodeIsKnown k r s h i → Over k ps → Passes k ps → is_placed k ≡ true → (is_name k ≡ true → reads h ≡ true) → Fits r s.rights (sort_over k ps)
   node_fits kind.Name ps w n f e m g = name_read (g refl) n
@@ -382,14 +366,6 @@ module _ (r : Standing) (s : Scope) (h : Hint) (i j : ℕ) (p : Place) where
   node_fits kind.FunctionType ps w n f e m g = typed_fits r s.rights _ (function_typed ps w f)
   node_fits kind.StructType ps w n f e m g = record { fit = alone_fits r (sort_over kind.StructType ps) refl; family = tt }
   node_fits k ps w n f e m g = cc
-
-  pub node_typed : (k : Kind) (ps : Trees) → AreShaped (rule p k) ps → NodeIsKnown k r s h i → Over k ps → Passes k ps → categories.is_type k ≡ true → h ≡ loose_inside → is_type (sort_over k ps) ≡ true
-  node_typed kind.Name ps w n f e m l = name_typed n l
-  node_typed kind.ParenthesizedType ps w n f e m l = parenthesized_typed ps w f l
-  node_typed kind.SequenceType ps w n f e m l = sequence_typed ps w f e
-  node_typed kind.FunctionType ps w n f e m l = function_typed ps w f
-  node_typed kind.StructType ps w n f e m l = refl
-  node_typed k ps w n f e m l = cc
 
   keyed_known : (ps : Trees) → AreShaped (rule p kind.Keyed) ps → AllKnown (typings s kind.Keyed h ps [] ps) → is_unknown (sort_over kind.Keyed ps) ≡ false
   keyed_known none w a = elim w [ ]

@@ -10,10 +10,10 @@ use Rattle.go_typed.specs.declared.form.Form.{Form}
 use Rattle.go_typed.specs.Trees as sort
 use Rattle.go_exprs_rules.specs.Calls.{keeps_value}
 use Rattle.go_exprs_rules.specs.Names.{name_sort, name_form, declared_form}
-use Rattle.go_exprs_rules.specs.Scopes.{Scope, Hint, value, loose_inside, declares, free}
+use Rattle.go_exprs_rules.specs.Scopes.{Scope, Hint, value, declares, free}
 use Rattle.go_exprs_rules.specs.Settling.{Part}
 use Rattle.go_exprs_rules.specs.Sorts.{Stands}
-use Rattle.go_exprs_rules.specs.Tables.{Parts, hint, part_scope, present, all_held, is_type}
+use Rattle.go_exprs_rules.specs.Tables.{Parts, hint, part_scope, present, all_held}
 use Rattle.go_exprs_rules.specs.Typing.{typing}
 use Rattle.go_stmts_defs.specs.Frames.{Frame, rights_of, scope_of}
 use Rattle.go_stmts_defs.specs.Laying.{told}
@@ -51,12 +51,10 @@ pub record IsKnownName (r : Standing) (rights : Rights) (f : Form) (x : Stands) 
   pub family : KeepsFamily rights x
   pub typed : VariableIsTyped (is_package_variable f) x
 
--- The name at this token, which is declared there, or used. One that is declared is none that is declared outside. Inside parentheses
--- in a slice's element or a function type, where not every place is judged, one that is used stands for a type.
+-- The name at this token, which is declared there, or used. One that is declared is none that is declared outside.
 abbrev pub NameIsKnown : Standing → Scope → Hint → ℕ → Type 0
 NameIsKnown r s declares i = is_object (declared_form s (s.objects i)) ≡ false
 NameIsKnown r s free i = Unit {0}
-NameIsKnown r s loose_inside i = IsKnownName r s.rights (name_form s loose_inside i) (name_sort s loose_inside i) × (is_type (name_sort s loose_inside i) ≡ true)
 NameIsKnown r s h i = IsKnownName r s.rights (name_form s h i) (name_sort s h i)
 
 abbrev pub NodeIsKnown : Kind → Standing → Scope → Hint → ℕ → Type 0

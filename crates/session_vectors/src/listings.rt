@@ -52,7 +52,7 @@ fn is_listed(alloc: Global, case: &mut Case, written: &[u8]) -> Result<bool, Mem
 }
 
 /// The lines of a reply.
-fn lines(alloc: Global, reply: &str) -> Result<String, Memory> {
+pub fn lines(alloc: Global, reply: &str) -> Result<String, Memory> {
     let mut lines = String::new(alloc);
     for line in reply.split("; ") {
         lines.push_str(line)?;

@@ -5,4 +5,4 @@ use Rattle.clone_script.proofs.laws.examples.Goals as goal
 
 pub returns : goal.returns
 unfolding literal_at with_digit next_number number_from number_at first_byte next_byte name_from name_at bytes_at keyword_of behind_keyword command_at command_of
-returns c = record { classes = refl; edit = refl; add = refl; save = refl; run = refl; turns = refl; begun = refl; cut_off = refl; other = refl; misspelled = refl; blank = refl; zero = refl }
+returns c = record { classes = refl; maximal = refl; edit = refl; add = refl; save = refl; run = refl; turns = refl; begun = refl; cut_off = refl; other = refl; begun_too = refl; misspelled = refl; blank = refl; zero = refl }

@@ -1,13 +1,18 @@
 use Rattle.std.proofs.Common.{ap}
 use Rattle.std.proofs.lemmas.Result.{IfOk-weaker}
 use Rattle.clone_session.specs.Answers.{settings_of}
-use Rattle.clone_session.proofs.Answering.{of-classes, of-run, of-stat}
+use Rattle.clone_session.proofs.Answering.{of-classes, of-maximal, of-run, of-stat}
 use Rattle.clone_session.proofs.answers.answer.Goals as goal
 
 pub returns-in-Classes-clause-reply : goal.returns-in-Classes-clause-reply
 returns-in-Classes-clause-reply g c =
     let s = c.args.session.now in
     IfOk-weaker c.classes.result _ _ (λ reply h. of-classes (settings_of s.bounds) s.texts c.args.command.now reply c.classes.new.session.texts c.in-Classes.is h (ap (λ x. x.texts) c.classes.ensures.kept)) c.classes.ensures.reply
+
+pub returns-in-Maximal-clause-reply : goal.returns-in-Maximal-clause-reply
+returns-in-Maximal-clause-reply g c =
+    let s = c.args.session.now in
+    IfOk-weaker c.maximal.result _ _ (λ reply h. of-maximal (settings_of s.bounds) s.texts c.args.command.now reply c.maximal.new.session.texts c.in-Maximal.is h (ap (λ x. x.texts) c.maximal.ensures.kept)) c.maximal.ensures.reply
 
 pub returns-in-Stat-clause-reply : goal.returns-in-Stat-clause-reply
 returns-in-Stat-clause-reply g c =

@@ -15,7 +15,7 @@ use Rattle.go_package_rounds.proofs.judge.fault_of.Goals as goal
 
 pub type_fault-requires-clause-scope : goal.type_fault-requires-clause-scope
 type_fault-requires-clause-scope c =
-    c.scope_in-scope.ensures.known c.args.world.now c.args.types.now (length c.args.types.now.shapes) refl c.requires.fits (ap (λ (l : LocalsView). l.sorts) c.in_ok-locals.ensures) c.requires.known
+    c.scope_in-scope.ensures.known c.args.types.now (length c.args.types.now.shapes) c.requires.fits (ap (λ (l : LocalsView). l.sorts) c.in_ok-locals.ensures) c.requires.known
 
 pub type_fault-requires-clause-basics : goal.type_fault-requires-clause-basics
 type_fault-requires-clause-basics c = subst (AreBasics c.args.types.now) (sym c.scope_in-scope.ensures.basics) c.requires.fits.basics
@@ -23,12 +23,12 @@ type_fault-requires-clause-basics c = subst (AreBasics c.args.types.now) (sym c.
 pub type_fault-requires-clause-of : goal.type_fault-requires-clause-of
 type_fault-requires-clause-of c =
     let d = specification_view c.args.specification.now in
-    subst (λ texts. PartRead texts d.type_tree) (sym (c.scope_in-scope.ensures.texts c.args.world.now d.file c.in-Some.ensures.tokens)) c.requires.literals.of
+    subst (λ texts. PartRead texts d.type_tree) (sym (c.scope_in-scope.ensures.texts d.file c.in-Some.ensures.tokens)) c.requires.literals.of
 
 pub returns-clause-fault : goal.returns-clause-fault
 returns-clause-fault c = λ ss stands rights.
     let w = c.args.world.now in
     let a = c.args.types.now in
     let d = specification_view c.args.specification.now in
-    let same = c.scope_in-scope.ensures.is w a knowledge.is_sound ss d refl refl c.requires.fits stands rights c.in-Some.ensures.tokens c.in-Some.ensures.number c.in_ok-locals.ensures refl in
+    let same = c.scope_in-scope.ensures.is a knowledge.is_sound ss d c.requires.fits stands rights c.in-Some.ensures.tokens c.in-Some.ensures.number c.in_ok-locals.ensures refl in
     IfOk-weaker c.type_fault.result _ _ (λ o h. h ∙ ap (λ s. least (type_faults s d)) same) c.type_fault.ensures.fault

@@ -15,7 +15,7 @@ use Rattle.go_package_rounds.proofs.judge.judge_value.Goals as goal
 
 pub judge_name-requires-clause-scope : goal.judge_name-requires-clause-scope
 judge_name-requires-clause-scope c =
-    c.scope_in-scope.ensures.known c.args.world.now c.args.types.now (length c.args.types.now.shapes) refl c.requires.fits (ap (λ (l : LocalsView). l.sorts) c.in_ok-locals.ensures) c.requires.known
+    c.scope_in-scope.ensures.known c.args.types.now (length c.args.types.now.shapes) c.requires.fits (ap (λ (l : LocalsView). l.sorts) c.in_ok-locals.ensures) c.requires.known
 
 pub judge_name-requires-clause-basics : goal.judge_name-requires-clause-basics
 judge_name-requires-clause-basics c = subst (AreBasics c.args.types.now) (sym c.scope_in-scope.ensures.basics) c.requires.fits.basics
@@ -23,12 +23,12 @@ judge_name-requires-clause-basics c = subst (AreBasics c.args.types.now) (sym c.
 pub judge_name-requires-clause-of : goal.judge_name-requires-clause-of
 judge_name-requires-clause-of c =
     let d = specification_view c.args.specification.now in
-    subst (λ texts. PartRead texts d.type_tree) (sym (c.scope_in-scope.ensures.texts c.args.world.now d.file c.in-Some.ensures.tokens)) c.requires.literals.of
+    subst (λ texts. PartRead texts d.type_tree) (sym (c.scope_in-scope.ensures.texts d.file c.in-Some.ensures.tokens)) c.requires.literals.of
 
 pub judge_name-requires-clause-value : goal.judge_name-requires-clause-value
 judge_name-requires-clause-value c =
     let d = specification_view c.args.specification.now in
-    let texts = c.scope_in-scope.ensures.texts c.args.world.now d.file c.in-Some.ensures.tokens in
+    let texts = c.scope_in-scope.ensures.texts d.file c.in-Some.ensures.tokens in
     subst (λ ts. PartRead ts (own_value d c.args.column)) (sym texts) (own_read _ d c.args.column c.requires.literals)
 
 pub returns-clause-shows : goal.returns-clause-shows
@@ -40,7 +40,7 @@ returns-clause-shows c = λ ss stands rights.
     let d = specification_view c.args.specification.now in
     let n = c.args.column in
     let free = free_scope (package_in w) (outlines_in w) ss d in
-    let same = c.scope_in-scope.ensures.is w a knowledge.is_sound ss d refl refl c.requires.fits stands rights c.in-Some.ensures.tokens c.in-Some.ensures.number c.in_ok-locals.ensures refl in
+    let same = c.scope_in-scope.ensures.is a knowledge.is_sound ss d c.requires.fits stands rights c.in-Some.ensures.tokens c.in-Some.ensures.number c.in_ok-locals.ensures refl in
     value_shown z v free d n (subst (λ s. ShowsState z v (value_state s d n (own_faults s d n))) same c.in_ok-verdict.ensures.shows)
 
 pub returns-clause-known : goal.returns-clause-known

@@ -16,7 +16,7 @@ use Rattle.go_package_rounds.proofs.judge.right_of.Goals as goal
 
 pub right_side-requires-clause-scope : goal.right_side-requires-clause-scope
 right_side-requires-clause-scope c =
-    c.scope_in-scope.ensures.known c.args.world.now c.args.types.now (length c.args.types.now.shapes) refl c.requires.fits (ap (λ (l : LocalsView). l.sorts) c.in_ok-locals.ensures) c.requires.known
+    c.scope_in-scope.ensures.known c.args.types.now (length c.args.types.now.shapes) c.requires.fits (ap (λ (l : LocalsView). l.sorts) c.in_ok-locals.ensures) c.requires.known
 
 pub right_side-requires-clause-basics : goal.right_side-requires-clause-basics
 right_side-requires-clause-basics c = subst (AreBasics c.args.types.now) (sym c.scope_in-scope.ensures.basics) c.requires.fits.basics
@@ -24,7 +24,7 @@ right_side-requires-clause-basics c = subst (AreBasics c.args.types.now) (sym c.
 pub right_side-requires-clause-of : goal.right_side-requires-clause-of
 right_side-requires-clause-of c =
     let d = specification_view c.args.specification.now in
-    subst (λ texts. PartRead texts d.type_tree) (sym (c.scope_in-scope.ensures.texts c.args.world.now d.file c.in-Some.ensures.tokens)) c.requires.literals.of
+    subst (λ texts. PartRead texts d.type_tree) (sym (c.scope_in-scope.ensures.texts d.file c.in-Some.ensures.tokens)) c.requires.literals.of
 
 pub returns-clause-right : goal.returns-clause-right
 returns-clause-right c = λ ss stands rights.
@@ -32,7 +32,7 @@ returns-clause-right c = λ ss stands rights.
     let a = c.args.types.now in
     let z = c.right_side.new.types in
     let d = specification_view c.args.specification.now in
-    let same = c.scope_in-scope.ensures.is w a knowledge.is_told ss d refl refl c.requires.fits stands rights c.in-Some.ensures.tokens c.in-Some.ensures.number c.in_ok-locals.ensures refl in
+    let same = c.scope_in-scope.ensures.is a knowledge.is_told ss d c.requires.fits stands rights c.in-Some.ensures.tokens c.in-Some.ensures.number c.in_ok-locals.ensures refl in
     IfOk-weaker c.right_side.result _ _ (λ t h. h ∙ ap (λ s. right_found (type_faults s d) (typed_type s d)) same) c.right_side.ensures.right
 
 pub returns-clause-known : goal.returns-clause-known

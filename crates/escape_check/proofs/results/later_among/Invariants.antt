@@ -1,0 +1,10 @@
+use Rattle.std.proofs.Common.{◌≡◌, ◌++◌, filter, drop}
+use Rattle.go_typed.specs.Packages.{PackageView}
+use Rattle.param_choose.specs.Members.{occurs_later}
+use Rattle.escape_check.specs.Shown.{IsSound, member_view}
+use Rattle.escape_check.proofs.results.later_among.Given as goal
+
+abbrev pub invariant-loop-local : goal.invariant-loop-local
+invariant-loop-local l =
+    (p : PackageView) → IsSound p l.member
+    → filter (occurs_later (member_view l.member)) l.locals ≡ l.later.items ++ filter (occurs_later (member_view l.member)) (drop l.local-index l.locals)

@@ -1,0 +1,15 @@
+pub mod Firsts
+pub mod Places
+pub mod Statements
+pub mod Endings
+pub mod Names
+pub mod Lookups
+pub mod Types
+pub mod Refusals
+pub mod Shown
+pub mod Tokens
+pub mod Texts
+pub mod Written
+pub mod Called
+pub mod Examples
+pub mod Collecting

@@ -1,0 +1,8 @@
+//! Refusals of worked examples.
+
+ghost use Rattle.escape_check.specs.Examples.{Examples};
+
+/// What the definitions say of windows of small functions, worked out by hand.
+pub fn examples()
+    ensures { Examples }
+{}

@@ -1,0 +1,27 @@
+//! When windows that are the same may not be taken out into a function, and why.
+//!
+//! Each refusal has a code, and each code one definition in `specs`. `refusal` answers the least code that applies to windows, with the
+//! first window to which it applies and the first place there.
+#![tactic(auto)]
+
+mod branches;
+mod ends;
+mod escapes;
+mod imports;
+pub mod laws;
+mod lost;
+mod member;
+mod overlap;
+mod place;
+pub mod refusal;
+pub mod report;
+mod results;
+mod rule;
+mod shadow;
+mod site;
+mod sites;
+mod type_names;
+mod types;
+mod unused;
+mod used;
+mod written;

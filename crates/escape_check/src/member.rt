@@ -1,0 +1,185 @@
+//! Members: windows with what is read of their functions.
+
+ghost use Rattle.std.specs.Prelude.{◌≡◌, Some, map, slice_get, IfOk};
+ghost use Rattle.std.specs.List.{AllByRecursion};
+ghost use Rattle.go_tree.specs.Uses.{functions_among};
+ghost use Rattle.go_typed.specs.Funcs.{tree_of};
+ghost use Rattle.param_choose.specs.Ends.{ends_of};
+ghost use Rattle.param_choose.specs.Members.{is_declared_inside, member_over, members_in};
+ghost use Rattle.escape_check.specs.Places.{file_in, local_text, place, sources_in, token_place, window_place};
+ghost use Rattle.escape_check.specs.Shown.{IsSound, covers_token, member_view, place_view, unnumbered};
+
+use crate::place::{Place, name_text};
+use clone_window::run::statements;
+use go_tree::object::Declared;
+use go_typed::checked::Checked;
+use go_typed::func::TypedFunc;
+use go_typed::node::TypedNode;
+use go_typed::window::Window;
+use param_choose::later::ends_at;
+use param_choose::template::{declared_in, extent_of, function_at};
+use param_choose::variables::{Extent, is_inside};
+use std::alloc::{AllocError, Global};
+
+/// A window with what is read of its function.
+#[derive(Clone, Copy)]
+pub(crate) struct Member<'a> {
+    pub window: Window,
+    pub func: &'a TypedFunc,
+    /// Where the locals of the function are declared.
+    pub declared: &'a [Declared],
+    /// The statements of the window.
+    pub statements: &'a [Option<TypedNode>],
+    /// The file of the function.
+    pub file: u32,
+    /// The number of the function's first token in the file.
+    pub first: u32,
+    /// The number of the window's first token, counted from that one.
+    pub from: u32,
+    /// The number of the token behind its last one, counted so too.
+    pub upto: u32,
+    /// For each local of the function the number behind the last token that names it, counted so too; 0 where none does.
+    pub ends: &'a [usize],
+}
+
+/// The windows whose functions the package has. The rows say for each function where its locals occur last.
+///
+/// # Errors
+///
+/// Want of memory.
+#[tactic(auto, using(crate::proofs::Members::member_there, crate::proofs::Members::member_missing, crate::proofs::Members::sound_more))]
+pub(crate) fn members_of<'a>(
+    alloc: Global,
+    checked: &'a Checked,
+    ends: &'a [Vec<usize>],
+    windows: &[Window],
+) -> Result<Vec<Member<'a>>, AllocError>
+    requires { map (λ row. row.items) ends.now ≡ map ends_of checked.now.functions }
+    ensures members { IfOk result (λ v. map member_view v.items ≡ map unnumbered (members_in checked.now windows.now)) }
+    ensures sound { IfOk result (λ v. AllByRecursion (IsSound checked.entry.now) v.items) }
+{
+    let mut members = Vec::new(alloc);
+    for window in windows {
+        if let Some(func) = checked.function(window.func) {
+            members.push(member_of(checked, ends, func, *window))?;
+        }
+    }
+    Ok(members)
+}
+
+/// A window of a function of the package.
+pub(crate) fn member_of<'a>(
+    checked: &'a Checked,
+    ends: &'a [Vec<usize>],
+    func: &'a TypedFunc,
+    window: Window,
+) -> Member<'a>
+    requires ends { map (λ row. row.items) ends.now ≡ map ends_of checked.now.functions }
+    requires function { slice_get checked.now.functions window.func ≡ Some func.now }
+    ensures window { result.window ≡ window }
+    ensures func { result.func.now ≡ func.entry.now }
+    ensures shown { member_view result ≡ unnumbered (member_over checked.entry.now.uses window func.entry.now.locals func.entry.now.tokens (tree_of func.entry.now)) }
+    ensures sound { IsSound checked.entry.now result }
+{
+    let statements = statements(func, &window);
+    let uses = checked.uses();
+    let extent = extent_of(uses, window.func, statements, 0);
+    Member {
+        window,
+        func,
+        declared: declared_in(uses, window.func),
+        statements,
+        file: file_of(checked, window.func),
+        first: extent.first,
+        from: extent.from,
+        upto: extent.upto,
+        ends: ends_at(ends, window.func),
+    }
+}
+
+/// The file of the function of this number; the first one where there is no such function.
+fn file_of(checked: &Checked, function: u32) -> u32
+    ensures { result ≡ file_in (slice_get (functions_among checked.now.uses.package_level) function) }
+{
+    match function_at(checked.uses().package_objects(), function) {
+        Some(declared) => declared.file,
+        None => 0,
+    }
+}
+
+impl Member<'_> {
+    /// So many tokens of its function.
+    pub(crate) fn place(&self, checked: &Checked, from: u32, upto: u32) -> Place
+        requires { IsSound checked.now self.now }
+        ensures { place_view result ≡ place (sources_in checked.now) (member_view self.now) from upto }
+    {
+        let first = u64::from(self.first);
+        Place {
+            file: self.file,
+            from: first + u64::from(from),
+            upto: first + u64::from(upto),
+        }
+    }
+
+    /// One of these tokens.
+    pub(crate) fn token_place(&self, checked: &Checked, token: u32) -> Place
+        requires { IsSound checked.now self.now }
+        ensures { place_view result ≡ token_place (sources_in checked.now) (member_view self.now) token }
+    {
+        let from = u64::from(self.first) + u64::from(token);
+        Place {
+            file: self.file,
+            from,
+            upto: from + 1,
+        }
+    }
+
+    /// The place of its window.
+    pub(crate) fn window_place(&self, checked: &Checked) -> Place
+        requires { IsSound checked.now self.now }
+        ensures { place_view result ≡ window_place (sources_in checked.now) (member_view self.now) }
+    {
+        self.place(checked, self.from, self.upto)
+    }
+
+    /// Whether a local is declared in its window.
+    pub(crate) fn is_inside(&self, local: u32) -> bool
+        ensures { result ≡ is_declared_inside (member_view self.now) local }
+    {
+        is_inside(self.declared, self.extent(), local)
+    }
+
+    /// Whether a token of a file is one of its window.
+    pub(crate) fn has_token(&self, file: u32, token: u64) -> bool
+        ensures { result ≡ covers_token file token self.now }
+    {
+        let first = u64::from(self.first);
+        file == self.file
+            && first + u64::from(self.from) <= token
+            && token < first + u64::from(self.upto)
+    }
+
+    /// Where its window stands.
+    pub(crate) fn extent(&self) -> Extent
+        ensures first { result.first ≡ self.now.first }
+        ensures from { result.from ≡ self.now.from }
+        ensures upto { result.upto ≡ self.now.upto }
+    {
+        Extent {
+            first: self.first,
+            from: self.from,
+            upto: self.upto,
+            start: 0,
+        }
+    }
+
+    /// The name of a local of its function; none where there is no such local.
+    pub(crate) fn local_text<'c>(&self, checked: &'c Checked, local: u32) -> &'c [u8]
+        ensures { result.now ≡ local_text (sources_in checked.entry.now) (member_view self.now) local }
+    {
+        match self.declared.get(local as usize) {
+            Some(declared) => name_text(checked, *declared),
+            None => &[],
+        }
+    }
+}
