@@ -246,6 +246,11 @@ func-known p i k f e =
 pub site_known : (p : PackageView) → IsPackage p → (m : Found) → IsSound p m → (ns : List ℕ) → AllByRecursion (λ t. t < length p.types.shapes) (local_types (member_view m) ns)
 site_known p i m s ns = locals-known (length p.types.shapes) (member_view m) ns (func-known p i m.window.func m.func.now s.func).0
 
+-- the types of variables among them
+pub variables_known : (p : PackageView) → IsPackage p → (m : Found) → IsSound p m → (test : ℕ → Bool) (ns : List ℕ) →
+    AllByRecursion (λ t. t < length p.types.shapes) (variable_types (variables_where m.func.now.locals test ns))
+variables_known p i m s test ns = variables-known (length p.types.shapes) m.func.now.locals test ns (func-known p i m.window.func m.func.now s.func).0
+
 -- the types of what the members of a window's template hand over
 pub choice_known : (p : PackageView) → IsPackage p → (w : Window) (f : FuncView) → slice_get p.functions w.func ≡ Some f → (ms : List (Member ℕ)) →
     AreKnownTypes p (handed (choice (array_in p.types) ms (member_over p.uses w f.locals f.tokens (tree_of f))))

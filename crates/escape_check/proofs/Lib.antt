@@ -19,6 +19,7 @@ pub mod MappedStatements
 pub mod MappedTypes
 pub mod Members
 pub mod Parts
+pub mod Public
 pub mod Refusing
 pub mod Shadowing
 pub mod Staying

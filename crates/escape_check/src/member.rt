@@ -23,7 +23,7 @@ use std::alloc::{AllocError, Global};
 
 /// A window with what is read of its function.
 #[derive(Clone, Copy)]
-pub(crate) struct Member<'a> {
+pub struct Member<'a> {
     pub window: Window,
     pub func: &'a TypedFunc,
     /// Where the locals of the function are declared.
@@ -48,7 +48,7 @@ pub(crate) struct Member<'a> {
 ///
 /// Want of memory.
 #[tactic(auto, using(crate::proofs::Members::member_there, crate::proofs::Members::member_missing, crate::proofs::Members::sound_more))]
-pub(crate) fn members_of<'a>(
+pub fn members_of<'a>(
     alloc: Global,
     checked: &'a Checked,
     ends: &'a [Vec<usize>],
@@ -68,7 +68,7 @@ pub(crate) fn members_of<'a>(
 }
 
 /// A window of a function of the package.
-pub(crate) fn member_of<'a>(
+pub fn member_of<'a>(
     checked: &'a Checked,
     ends: &'a [Vec<usize>],
     func: &'a TypedFunc,
@@ -109,7 +109,7 @@ fn file_of(checked: &Checked, function: u32) -> u32
 
 impl Member<'_> {
     /// So many tokens of its function.
-    pub(crate) fn place(&self, checked: &Checked, from: u32, upto: u32) -> Place
+    pub fn place(&self, checked: &Checked, from: u32, upto: u32) -> Place
         requires { IsSound checked.now self.now }
         ensures { place_view result ≡ place (sources_in checked.now) (member_view self.now) from upto }
     {
@@ -135,7 +135,7 @@ impl Member<'_> {
     }
 
     /// The place of its window.
-    pub(crate) fn window_place(&self, checked: &Checked) -> Place
+    pub fn window_place(&self, checked: &Checked) -> Place
         requires { IsSound checked.now self.now }
         ensures { place_view result ≡ window_place (sources_in checked.now) (member_view self.now) }
     {
@@ -174,7 +174,7 @@ impl Member<'_> {
     }
 
     /// The name of a local of its function; none where there is no such local.
-    pub(crate) fn local_text<'c>(&self, checked: &'c Checked, local: u32) -> &'c [u8]
+    pub fn local_text<'c>(&self, checked: &'c Checked, local: u32) -> &'c [u8]
         ensures { result.now ≡ local_text (sources_in checked.entry.now) (member_view self.now) local }
     {
         match self.declared.get(local as usize) {

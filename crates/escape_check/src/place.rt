@@ -15,7 +15,7 @@ use go_typed::checked::Checked;
 
 /// Tokens of a file.
 #[derive(Clone, Copy, Debug)]
-pub(crate) struct Place {
+pub struct Place {
     pub file: u32,
     /// The number of the first one.
     pub from: u64,
@@ -45,7 +45,7 @@ pub(crate) fn declaring_place(declared: Declared) -> Place
 }
 
 /// The bytes of a place: from the first byte of its first token to the last one of its last token.
-pub(crate) fn bytes_of(checked: &Checked, place: Place) -> Span
+pub fn bytes_of(checked: &Checked, place: Place) -> Span
     ensures { place_of result ≡ bytes_of (sources_in checked.now) (place_view place) }
 {
     match checked.files().get(place.file as usize) {

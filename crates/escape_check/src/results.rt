@@ -55,7 +55,7 @@ pub(crate) fn later_among(
 
 /// Whether a local of a member's function occurs behind the member.
 #[tactic(auto, using(crate::proofs::Later::occurs_told))]
-pub(crate) fn occurs_later(member: &Member<'_>, local: u32) -> bool
+pub fn occurs_later(member: &Member<'_>, local: u32) -> bool
     ensures { (p : PackageView) → IsSound p member.now → result ≡ occurs_later (member_view member.now) local }
 {
     member.func.root();

@@ -104,8 +104,8 @@ fn is_in_word(c: char) -> bool
     is_letter(c) || GeneralCategory::for_char(c) == GeneralCategory::DecimalNumber
 }
 
-/// Whether it is a keyword.
-fn is_keyword(name: &[u8]) -> bool
+/// Whether it is a keyword (Go specification: Keywords).
+pub fn is_keyword(name: &[u8]) -> bool
     ensures { result ≡ specs.is_keyword name.now }
 {
     is_listed(&KEYWORDS, name)
@@ -129,8 +129,8 @@ fn is_reserved(name: &[u8]) -> bool
     same(name, b"_") || same(name, b"init") || same(name, b"main")
 }
 
-/// Whether it is a predeclared name of Go 1.22.
-fn is_predeclared(name: &[u8]) -> bool
+/// Whether it is a predeclared name of Go 1.22 (Go specification: Predeclared identifiers).
+pub fn is_predeclared(name: &[u8]) -> bool
     ensures { result ≡ specs.is_predeclared name.now }
 {
     predeclared_object(name).is_some() || is_unknown(name)
@@ -163,7 +163,7 @@ fn names_file(file: &File, name: &[u8]) -> bool
 }
 
 /// Whether a token of this kind is an identifier.
-fn is_identifier(kind: TokenKind) -> bool
+pub fn is_identifier(kind: TokenKind) -> bool
     ensures { result ≡ is_identifier kind }
 {
     matches!(kind, TokenKind::Identifier)

@@ -1,6 +1,6 @@
 -- What is typed says of its nodes what their parts say.
 use Rattle.std.proofs.Common.{◌≡◌, ◌∙◌, ℕ, Bool, true, false, List, [], ◌∷◌, ◌++◌, Option, Some, None, refl, sym, ap}
-use Rattle.std.specs.Prelude.{◌&&◌, ◌||◌, not, if◌then◌else◌}
+use Rattle.std.specs.Prelude.{◌||◌, if◌then◌else◌}
 use Rattle.std.specs.List.{list_any}
 use Rattle.go_grammar.specs.declared.kind.Category.{Category}
 use Rattle.go_grammar.specs.declared.kind.Kind.{Kind}
@@ -13,7 +13,6 @@ use Rattle.go_grammar.specs.Trees.{Tree, node, Trees, none, more, skip, kind_of}
 use Rattle.go_tree.specs.declared.object.Object.{Object}
 use Rattle.go_tree.specs.declared.object.Object.TheVariants as object
 use Rattle.go_types.specs.Trees.{TypeTree}
-use Rattle.go_types.specs.Relations.{Rights}
 use Rattle.go_typed.specs.declared.form.Form.{Form}
 use Rattle.go_typed.specs.declared.form.Form.TheVariants as form
 use Rattle.go_typed.specs.Trees.{Sort, Label, Typed, typed, Typeds, sort_of, form_of, label_of, parts_of, row, list_of}
@@ -24,7 +23,7 @@ use Rattle.go_exprs_rules.specs.Settling.{Part, Take, stay, default, as_type, gi
 use Rattle.go_exprs_rules.specs.Sorts.{open_kind, default_type}
 use Rattle.go_exprs_rules.specs.declared.family.OpenKind.{OpenKind}
 use Rattle.go_exprs_rules.specs.Tables.{Parts, hint, part_scope, held, all_held, leaf, is_type, cut, first_cut, call_parts, is_make_call, bounds_of, has_no_low, bracketed_parts, selector_parts, is_package, behind_first, layout}
-use Rattle.go_exprs_rules.specs.Tables.{is_held, form_by, sort_by, takes, all_given, label, made, built_by, built_on, built, is_sound, own_faults, varies_in, is_variable_name, key_form, callee_form, bracketed_form, selector_form}
+use Rattle.go_exprs_rules.specs.Tables.{is_held, form_by, sort_by, takes, all_given, label, made, built_by, built, is_sound, own_faults, varies_in, is_variable_name, key_form, callee_form}
 use Rattle.go_exprs_rules.specs.Typing.{typing, typings}
 use Rattle.go_exprs_variables.specs.Over.{any_varies, varies_over}
 use Rattle.go_exprs_variables.specs.Shapes.{IsShaped, AreShaped}
@@ -56,7 +55,7 @@ both_agree (Some x ∷ xs) ys g h = (g.0, both_agree xs ys g.1 h)
 
 -- ---- what parts are given
 
-given_agrees : (k : Take) (x : Part) → Agrees x → Agrees (given k x)
+pub given_agrees : (k : Take) (x : Part) → Agrees x → Agrees (given k x)
 given_agrees stay x h = h
 given_agrees (as_type t) x h = keys_kept t x h
 given_agrees default x h = by_kind (open_kind (sort_of x))
@@ -108,7 +107,7 @@ all_held_agree : (xs : Parts) → EachAgrees xs → EachAgrees (all_held xs)
 all_held_agree [] h = tt
 all_held_agree (x ∷ xs) h = let both = first_agrees x xs h in both_agree (held x) (all_held xs) (held_agrees x both.0) (all_held_agree xs both.1)
 
-leaf_agrees : (x : Part) → Agrees (leaf x)
+pub leaf_agrees : (x : Part) → Agrees (leaf x)
 leaf_agrees (typed f i j l ps) = (tt, refl, tt)
 
 cut_agrees : (x : Option Part) → EachAgrees (x ∷ []) → EachAgrees (cut x ∷ [])

@@ -1,15 +1,14 @@
 -- Values that a node gives types: whether they fit, and what they are with variables in them.
-use Rattle.std.proofs.Common.{◌≡◌, ◌∙◌, ◌⊎◌, inl, inr, ℕ, Bool, true, false, List, [], ◌∷◌, ◌++◌, map, length, Option, Some, None, refl, sym, ap, subst}
-use Rattle.std.specs.Prelude.{◌||◌, if◌then◌else◌, is_some}
+use Rattle.std.proofs.Common.{◌≡◌, ◌∙◌, Bool, true, false, [], Option, Some, None, refl, ap, subst}
+use Rattle.std.specs.Prelude.{◌||◌, is_some}
 use Rattle.std.specs.Option.{option_map}
 use Rattle.go_base.specs.declared.fault.FaultCode.TheVariants as code
 use Rattle.go_types.specs.Trees.{TypeTree}
 use Rattle.go_types.specs.Relations.{Rights}
 use Rattle.go_typed.specs.Trees.{Sort, typed, sort_of}
 use Rattle.go_typed.specs.Trees as sort
-use Rattle.go_exprs_rules.specs.declared.fault.TypeFault.{TypeFault}
 use Rattle.go_exprs_rules.specs.declared.family.OpenKind.{OpenKind}
-use Rattle.go_exprs_rules.specs.Settling.{Part, settled, unrepresented, Take, stay, default, as_type, given, defaulted, unassignable_by, unassignable, untyped_unassignable}
+use Rattle.go_exprs_rules.specs.Settling.{Part, settled, unrepresented, Take, default, as_type, given, defaulted, unassignable_by, unassignable, untyped_unassignable}
 use Rattle.go_exprs_rules.specs.Sorts.{Stands, is_constant, is_open, is_nil, is_unknown, takes_type, open_kind, default_type, suits}
 use Rattle.go_exprs_rules.specs.Tables.{is_type}
 use Rattle.go_exprs_variables.specs.Operands.{Operand}
@@ -22,7 +21,7 @@ use Rattle.go_exprs_variables.proofs.Given.{passes, no_place}
 use Rattle.go_exprs_variables.proofs.Operands.{Ready, Fitting, closed_so, open_so, Defaulting, closed_default, open_default, operand, default_operand, given_under, given_default}
 use Rattle.go_exprs_variables.proofs.Ready.{Facts}
 
-still_known : (rights : Rights) (u : Option TypeTree) (b c : Stands) → Stood rights u b c → is_unknown b ≡ false → is_unknown c ≡ false
+pub still_known : (rights : Rights) (u : Option TypeTree) (b c : Stands) → Stood rights u b c → is_unknown b ≡ false → is_unknown c ≡ false
 still_known rights u b c (as_before v z) e = e
 still_known rights u b c (in_place v t z) e = refl
 still_known rights u b c (early t z k m n) e = refl

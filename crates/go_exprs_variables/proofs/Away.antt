@@ -1,17 +1,17 @@
 -- Typed trees at whose holes no variable stands: nothing is put into them.
-use Rattle.std.proofs.Common.{◌≡◌, ◌∙◌, ℕ, Bool, true, false, [], ◌∷◌, ◌++◌, Option, Some, None, refl, sym, ap, subst}
-use Rattle.std.specs.Prelude.{◌&&◌, ◌||◌, not, if◌then◌else◌}
+use Rattle.std.proofs.Common.{◌≡◌, ◌∙◌, ℕ, Bool, true, false, None, refl, sym, ap, subst}
+use Rattle.std.specs.Prelude.{◌&&◌, not, if◌then◌else◌}
 use Rattle.go_types.specs.Trees.{TypeTree}
 use Rattle.go_typed.specs.declared.form.Form.{Form}
 use Rattle.go_typed.specs.declared.form.Form.TheVariants as form
 use Rattle.go_typed.specs.Trees.{Sort, Label, Typed, typed, Typeds, sort_of}
 use Rattle.go_typed.specs.Trees as sort
 use Rattle.go_exprs_rules.specs.Settling.{Part}
-use Rattle.go_exprs_rules.specs.Sorts.{Stands, is_open}
+use Rattle.go_exprs_rules.specs.Sorts.{is_open}
 use Rattle.go_exprs_rules.specs.Tables.{is_held}
 use Rattle.clone_window.specs.Masses.{is_hole, is_inside, is_constant_expression}
 use Rattle.go_exprs_variables.specs.Over.{varies_over, sort_over}
-use Rattle.go_exprs_variables.specs.Variables.{Standin, Standins, at_hole, put_over, put, all_put, wanted, all_wanted, first_wanted, or_wanted, put_with, begun, all_begun}
+use Rattle.go_exprs_variables.specs.Variables.{Standins, at_hole, put_over, put, all_put, wanted, all_wanted, first_wanted, or_wanted, put_with, begun, all_begun}
 use Rattle.go_exprs_variables.proofs.Begun.{unless_none}
 use Rattle.go_exprs_variables.proofs.Trees.{KeyAgrees, Agrees, AllAgree}
 

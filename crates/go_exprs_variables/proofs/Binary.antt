@@ -22,7 +22,7 @@ use Rattle.go_exprs_variables.specs.Operands.{Both}
 use Rattle.go_exprs_variables.specs.Stood.{Stood, as_before, early, taken}
 use Rattle.go_exprs_variables.proofs.Families.{suited}
 use Rattle.go_exprs_variables.proofs.Unary.{IsValue, folds, truth_differs}
-use Rattle.go_exprs_variables.proofs.Parts.{Operand, both_none, none_of_both, neither, of_neither}
+use Rattle.go_exprs_variables.proofs.Parts.{both_none, none_of_both, neither, of_neither}
 use Rattle.go_exprs_variables.proofs.Meeting.{seen, constants, meeting_take, Meets, there, sooner, meets}
 
 -- What operands take is the same; or they take the type of the node at once, which they took later.

@@ -1,7 +1,6 @@
 -- Index and slice expressions: from the node that fits to its parts, and the step.
 use Rattle.std.proofs.Common.{◌≡◌, ◌∙◌, ◌+◌, ℕ, Bool, true, false, [], ◌∷◌, ◌++◌, Option, Some, None, refl, sym, ap, subst}
 use Rattle.std.specs.Prelude.{◌&&◌, ◌||◌, not, if◌then◌else◌, is_some}
-use Rattle.std.specs.List.{list_any}
 use Rattle.std.specs.Option.{option_map}
 use Rattle.go_base.specs.declared.fault.FaultCode.TheVariants as code
 use Rattle.go_grammar.specs.declared.kind.Kind.TheVariants as kind
@@ -11,18 +10,15 @@ use Rattle.go_typed.specs.declared.form.Form.TheVariants as form
 use Rattle.go_typed.specs.declared.sort.Untyped.TheVariants as untyped
 use Rattle.go_typed.specs.Trees.{Sort, Label, typed, Typeds, sort_of, form_of, label_of, row}
 use Rattle.go_typed.specs.Trees as sort
-use Rattle.go_exprs_rules.specs.declared.fault.TypeFault.{TypeFault}
 use Rattle.go_exprs_rules.specs.declared.family.Family.TheVariants as family
 use Rattle.go_exprs_rules.specs.declared.family.OpenKind.{OpenKind}
 use Rattle.go_exprs_rules.specs.declared.family.OpenKind.TheVariants as untyped_kind
-use Rattle.go_exprs_rules.specs.Faults.{fault_at}
-use Rattle.go_exprs_rules.specs.Indexes.{index_failing, index_failing_in, index_sort, bound_failing, outside, text_length, optional_bound, bounds_failing, disordered, whole_or_absent, slice_failing, slice_sort, value_or_unknown}
+use Rattle.go_exprs_rules.specs.Indexes.{index_failing_in, index_sort, bound_failing, outside, text_length, optional_bound, bounds_failing, disordered, whole_or_absent, slice_failing, slice_sort, value_or_unknown}
 use Rattle.go_exprs_rules.specs.Scopes.{Scope, Hint}
 use Rattle.go_exprs_rules.specs.Settling.{Part, settled, unrepresented, at_part, default, as_type, given}
-use Rattle.go_exprs_rules.specs.Sorts.{Stands, is_family, or_family, family_of_kind, family_of_type, is_constant, is_open, is_nil, is_unknown, is_text, is_whole, takes_type, open_kind, own_type, constant_of, default_type, suits, form_of_value, element_of, slice_element, array_length, value_type, underlying_in, int, byte}
-use Rattle.go_exprs_rules.specs.Tables.{Parts, is_judged, is_lost, is_type, is_held, has_no_low, held, bounds_of, bracketed_parts, label, built_on, own_faults, failing, sort_by, takes, all_given}
-use Rattle.clone_window.specs.Masses as masses
-use Rattle.go_exprs_variables.specs.Operands.{Operand, Bounded, no_bound, a_bound}
+use Rattle.go_exprs_rules.specs.Sorts.{Stands, is_family, or_family, family_of_kind, family_of_type, is_constant, is_open, is_nil, is_unknown, is_text, is_whole, takes_type, open_kind, own_type, constant_of, suits, form_of_value, element_of, slice_element, array_length, value_type, underlying_in, int, byte}
+use Rattle.go_exprs_rules.specs.Tables.{Parts, is_judged, is_lost, is_type, is_held, bracketed_parts, label, built_on, own_faults, failing, sort_by, takes, all_given}
+use Rattle.go_exprs_variables.specs.Operands.{Bounded, no_bound, a_bound}
 use Rattle.go_exprs_variables.specs.Stood.{Stood, as_before}
 use Rattle.go_exprs_variables.specs.Variables as variables
 use Rattle.go_exprs_variables.specs.Variables.{Standins, all_wanted, begun, put, Fits, AllFit, WillFit}

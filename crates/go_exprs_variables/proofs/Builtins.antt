@@ -2,20 +2,16 @@
 use Rattle.std.proofs.Common.{◌≡◌, ◌∙◌, ◌⊎◌, inl, inr, ℕ, Bool, true, false, List, [], ◌∷◌, ◌++◌, length, nat_le, Option, Some, None, refl, sym, ap}
 use Rattle.std.specs.Prelude.{suc, ◌&&◌, ◌||◌, if◌then◌else◌, is_some}
 use Rattle.std.specs.List.{list_all}
-use Rattle.std.specs.Option.{option_map}
 use Rattle.go_base.specs.declared.fault.FaultCode.TheVariants as code
 use Rattle.go_constants.specs.declared.values.Const.{Const}
-use Rattle.go_constants.specs.declared.values.Const.TheVariants as const
 use Rattle.go_types.specs.Trees.{TypeTree}
 use Rattle.go_types.specs.Relations.{Rights}
 use Rattle.go_types_relations.specs.Identity.{is_identical}
 use Rattle.go_types_relations.specs.Tests.{both_identical}
-use Rattle.go_typed.specs.declared.sort.Untyped.TheVariants as untyped
 use Rattle.go_typed.specs.Trees.{typed, sort_of, label_of}
 use Rattle.go_typed.specs.Trees as sort
-use Rattle.go_exprs_rules.specs.declared.fault.TypeFault.{TypeFault}
 use Rattle.go_exprs_rules.specs.declared.family.OpenKind.{OpenKind}
-use Rattle.go_exprs_rules.specs.Calls.{operands_unless, count_unless, printed, all_printed, has_elements, length_failing, sizes_failing, make_failing, each_unassignable, append_failing_in, append_failing, copies, copy_failing, panic_failing, first_count, array_count, constant_length}
+use Rattle.go_exprs_rules.specs.Calls.{count_unless, printed, has_elements, length_failing, sizes_failing, make_failing, each_unassignable, append_failing_in, append_failing, copies, copy_failing, first_count, array_count, constant_length}
 use Rattle.go_exprs_rules.specs.Faults.{fault_at}
 use Rattle.go_exprs_rules.specs.Indexes.{bound_failing, disordered, text_length}
 use Rattle.go_exprs_rules.specs.Settling.{Part, unrepresented, undefaulted, undefaulted_by, unassignable}
@@ -24,8 +20,8 @@ pub use Rattle.go_exprs_variables.specs.Operands.{Operands, no_operand, an_opera
 use Rattle.go_exprs_variables.specs.Stood.{Stood, as_before, in_place, early}
 use Rattle.go_exprs_variables.proofs.Conversions.{unless_true, unless_is}
 use Rattle.go_exprs_variables.proofs.Given.{unassignable_kept}
-use Rattle.go_exprs_variables.proofs.Indexes.{family_kept, whole_kept, text_kept, bound_kept, length_kept}
-use Rattle.go_exprs_variables.proofs.Meeting.{Seen, unchanged, closed, seen, constants}
+use Rattle.go_exprs_variables.proofs.Indexes.{family_kept, whole_kept, text_kept, bound_kept}
+use Rattle.go_exprs_variables.proofs.Meeting.{constants}
 use Rattle.go_exprs_variables.proofs.Parts.{Operand, both_none, none_of_both, holds, held}
 use Rattle.go_exprs_variables.proofs.Shifts.{and_true, true_and}
 use Rattle.go_exprs_variables.proofs.Slices.{disordered_kept}
@@ -64,7 +60,7 @@ module _ (rights : Rights) where
       (or_kept (texts && is_text rights (sort_of x)) (texts && is_text rights (sort_of y)) (has_elements rights (sort_of x)) (has_elements rights (sort_of y)) (ap (λ z. texts && z) (sym (text_kept rights o (sort_of x) (sort_of y) st))) (elements_kept o (sort_of x) (sort_of y) st)
       (unless_true ((texts && is_text rights (sort_of x)) || has_elements rights (sort_of x)) i j e))
 
-  none_first : (a b : Option ℕ) → first_count a b ≡ None → (a ≡ None) × (b ≡ None)
+  pub none_first : (a b : Option ℕ) → first_count a b ≡ None → (a ≡ None) × (b ≡ None)
   none_first None b e = (refl, e)
   none_first (Some n) b e = cc
 

@@ -8,20 +8,18 @@ use Rattle.go_grammar.specs.declared.kind.Kind.{Kind}
 use Rattle.go_grammar.specs.declared.kind.Kind.TheVariants as kind
 use Rattle.go_grammar.specs.declared.kind.Operator.TheVariants as operator
 use Rattle.go_types.specs.Trees.{TypeTree}
-use Rattle.go_types.specs.Relations.{Rights}
-use Rattle.go_types_relations.specs.Tests.{underlying_of, is_assignable}
+use Rattle.go_types_relations.specs.Tests.{underlying_of}
 use Rattle.go_typed.specs.declared.form.Form.TheVariants as form
 use Rattle.go_typed.specs.Trees.{Sort, Label, typed, Typeds, sort_of, label_of, row}
 use Rattle.go_typed.specs.Trees as sort
-use Rattle.go_exprs_rules.specs.declared.fault.TypeFault.{TypeFault}
 use Rattle.go_exprs_rules.specs.declared.family.OpenKind.{OpenKind}
 use Rattle.go_exprs_rules.specs.declared.family.OpenKind.TheVariants as untyped_kind
 use Rattle.go_exprs_rules.specs.Faults.{fault_at}
 use Rattle.go_exprs_rules.specs.Operators.{Common, in_type, in_kind, type_in, common_kind, comparing, folded_both, one_typed, open_kinds, nil_common, compared_in, compared_failing, compared_failing_in, compared_refuse, compared_sort, compared_take, compared_take_in, unfit, result_in}
 use Rattle.go_exprs_rules.specs.Scopes.{Scope, Hint}
-use Rattle.go_exprs_rules.specs.Settling.{Part, settled, unrepresented, default, as_type}
+use Rattle.go_exprs_rules.specs.Settling.{Part, settled, unrepresented, as_type}
 use Rattle.go_exprs_rules.specs.Sorts.{Stands, is_constant, is_open, is_nil, is_unknown, takes_type, open_kind, own_type, constant_of, default_type, suits, has_nil}
-use Rattle.go_exprs_rules.specs.Tables.{Parts, is_judged, is_type, label, built, own_faults, all_given}
+use Rattle.go_exprs_rules.specs.Tables.{Parts, is_type, label, built, own_faults, all_given}
 use Rattle.clone_window.specs.Masses as masses
 use Rattle.go_exprs_variables.specs.Operands.{Operand, IsValue}
 use Rattle.go_exprs_variables.specs.Stood.{Stood, as_before, in_place, early}
@@ -36,7 +34,7 @@ use Rattle.go_exprs_variables.proofs.Defaults.{default_suits}
 use Rattle.go_exprs_variables.proofs.Identities.{tree_self}
 use Rattle.go_exprs_variables.proofs.Meeting.{constants, both_of, kinds_are, by_family}
 use Rattle.go_exprs_variables.proofs.NodeSteps.{node_step, parts_fit_later, stands_made, rule_of}
-use Rattle.go_exprs_variables.proofs.Operands.{Ready, closed_so, open_so, calls_kept, closed_wants, varies_given}
+use Rattle.go_exprs_variables.proofs.Operands.{Ready, open_so, calls_kept, closed_wants, varies_given}
 use Rattle.go_exprs_variables.proofs.Parts.{both_none, none_of_both, neither, of_neither}
 use Rattle.go_exprs_variables.proofs.Ready.{Facts}
 use Rattle.go_exprs_variables.proofs.Waits.{plain_tests, known_first, known_sort, judged}

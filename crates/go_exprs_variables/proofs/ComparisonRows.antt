@@ -7,11 +7,10 @@ use Rattle.go_types.specs.Trees.{TypeTree}
 use Rattle.go_types.specs.Relations.{Rights}
 use Rattle.go_types_relations.specs.Identity.{is_identical}
 use Rattle.go_typed.specs.Trees.{sort_of}
-use Rattle.go_typed.specs.Trees as sort
 use Rattle.go_exprs_rules.specs.declared.family.OpenKind.{OpenKind}
 use Rattle.go_exprs_rules.specs.Operators.{Common, in_type, in_kind, type_in, compared_in, compared_failing, compared_failing_in, compared_refuse, compared_take, compared_take_in, unfit}
 use Rattle.go_exprs_rules.specs.Settling.{Part, default, as_type, unrepresented}
-use Rattle.go_exprs_rules.specs.Sorts.{Stands, is_constant, is_nil, constant_of, open_kind, default_type}
+use Rattle.go_exprs_rules.specs.Sorts.{Stands, is_constant, is_nil, constant_of, default_type}
 use Rattle.go_exprs_variables.specs.Operands.{Operand}
 use Rattle.go_exprs_variables.specs.Stood.{Stood, as_before, in_place, early}
 use Rattle.go_exprs_variables.proofs.Comparisons.{Compared, there, sooner, compared, fit_in_default}

@@ -1,6 +1,6 @@
 -- Constant expressions in place of which no variable stands: none stands in them.
-use Rattle.std.proofs.Common.{◌≡◌, ◌∙◌, ℕ, Bool, true, false, List, [], ◌∷◌, ◌++◌, Option, Some, None, refl, sym, ap, subst, IsTrue}
-use Rattle.std.specs.Prelude.{◌&&◌, ◌||◌, not, if◌then◌else◌, is_some, nat_eq}
+use Rattle.std.proofs.Common.{◌≡◌, ◌∙◌, ℕ, Bool, true, false, List, [], ◌∷◌, ◌++◌, Option, Some, None, refl, sym, ap, subst}
+use Rattle.std.specs.Prelude.{◌&&◌, ◌||◌, if◌then◌else◌, is_some, nat_eq}
 use Rattle.std.proofs.lemmas.Bool.{eq-eqb}
 use Rattle.go_grammar.specs.declared.kind.Category.{Category}
 use Rattle.go_grammar.specs.declared.kind.Category.TheVariants as category
@@ -9,7 +9,7 @@ use Rattle.go_grammar.specs.declared.kind.Kind.TheVariants as kind
 use Rattle.go_grammar.specs.declared.kind.Level.TheVariants as level
 use Rattle.go_grammar.specs.declared.kind.Place.{Place}
 use Rattle.go_grammar.specs.declared.kind.Place.TheVariants as place
-use Rattle.go_grammar.specs.Categories.{place_of, within, is_literal_type}
+use Rattle.go_grammar.specs.Categories.{place_of, is_literal_type}
 use Rattle.go_grammar.specs.Grammar.{rule}
 use Rattle.go_grammar.specs.Rules.{Items, Rule, End, Then, Maybe, Unless, Many, item}
 use Rattle.go_grammar.specs.Trees.{Tree, node, Trees, none, more, skip, kind_of}
@@ -17,14 +17,13 @@ use Rattle.go_tokens.specs.declared.token.TokenKind.{TokenKind}
 use Rattle.go_types.specs.Trees.{TypeTree}
 use Rattle.go_types.specs.Relations.{Rights}
 use Rattle.go_typed.specs.declared.form.Form.{Form}
-use Rattle.go_typed.specs.declared.form.Form.TheVariants as form
 use Rattle.go_typed.specs.Trees.{Sort, Label, Typed, typed, Typeds, sort_of, form_of, label_of, parts_of, first_of, last_of, row, list_of}
 use Rattle.go_typed.specs.Trees as sort
 use Rattle.go_exprs_rules.specs.Scopes.{Scope, Hint}
 use Rattle.go_exprs_rules.specs.Settling.{Part, settled, all_settled, Take, stay, default, as_type, given, defaulted}
-use Rattle.go_exprs_rules.specs.Sorts.{Stands, open_kind, default_type, takes_type, is_open}
+use Rattle.go_exprs_rules.specs.Sorts.{Stands, open_kind, default_type, takes_type}
 use Rattle.go_exprs_rules.specs.declared.family.OpenKind.{OpenKind}
-use Rattle.go_exprs_rules.specs.Tables.{Parts, hint, part_scope, held, all_held, leaf, is_type, cut, first_cut, call_parts, is_make, bounds_of, has_no_low, selector_parts, is_package, layout}
+use Rattle.go_exprs_rules.specs.Tables.{Parts, hint, part_scope, held, all_held, leaf, is_type, cut, first_cut, is_make, bounds_of, has_no_low, selector_parts, is_package, layout}
 use Rattle.go_exprs_rules.specs.Tables.{is_held, form_by, takes, all_given, built_by, is_sound, own_faults}
 use Rattle.go_exprs_rules.specs.Typing.{typing, typings}
 use Rattle.clone_window.specs.Masses.{is_hole, is_inside, is_expression, is_constant_expression}
@@ -38,7 +37,7 @@ use Rattle.go_exprs_variables.proofs.Same.{Kept, AllKept, kept_free, all_kept_fr
 use Rattle.go_exprs_variables.proofs.Away.{Away, AllAway, all_away_inside}
 use Rattle.go_exprs_variables.proofs.Expressing.{is_asking, not_constant, expressed, form_unheld}
 use Rattle.go_exprs_variables.proofs.Standing.{Each, front_each, part_of, behind, typings_are, Still}
-use Rattle.go_exprs_variables.proofs.Named.{is_operand, is_named, operand_within, expression_operand, named_rest}
+use Rattle.go_exprs_variables.proofs.Named.{is_operand, is_named, expression_operand, named_rest}
 
 literal_operand : (p : Place) (k : Kind) → is_literal_type p k ≡ true → is_operand k ≡ true
 literal_operand place.Free kind.Name e = refl
@@ -48,7 +47,7 @@ literal_operand p kind.StructType e = refl
 literal_operand place.Free k e = cc
 literal_operand place.Header k e = cc
 
-literal_type_operand : (p : Place) (x : Tree) → IsShaped (category.LiteralType p) x → is_operand (kind_of x) ≡ true
+pub literal_type_operand : (p : Place) (x : Tree) → IsShaped (category.LiteralType p) x → is_operand (kind_of x) ≡ true
 literal_type_operand p (node k i j ps) e = literal_operand p k e.0
 
 constant_expresses : (k : Kind) → may_be_constant k ≡ true → expresses k ≡ true

@@ -68,7 +68,7 @@ module _ (rights : Rights) (itself : (t : TypeTree) → is_identical t t ≡ tru
   plain_by t v false true e f h = absurd (truth_differs h.constant)
   plain_by t v false false e f h = (refl, refl)
 
-  plain : (t : TypeTree) (a : Stands) → IsValue (conversion_sort rights t a) → Plain t a
+  pub plain : (t : TypeTree) (a : Stands) → IsValue (conversion_sort rights t a) → Plain t a
   plain t a h =
       let p = plain_by t (constant_of a) (keeps_value rights t (constant_of a)) (becomes_text rights t (constant_of a)) refl refl h in
       record { keeps = p.0; becomes = p.1 }
@@ -78,7 +78,7 @@ module _ (rights : Rights) (itself : (t : TypeTree) → is_identical t t ≡ tru
       ap (λ b. if b then constant_or_value t (constant_of a) else (if becomes_text rights t (constant_of a) then sort.Constant t (const.Text (text_of (constant_of a))) else sort.Value t)) h.keeps
       ∙ ap (λ b. if b then sort.Constant t (const.Text (text_of (constant_of a))) else sort.Value t) h.becomes
 
-  plain_rule : (i j : ℕ) (t : TypeTree) (x : Part) → Plain t (sort_of x) → conversion_failing rights i j t x ≡ value_conversion rights i j t x (sort_of x)
+  pub plain_rule : (i j : ℕ) (t : TypeTree) (x : Part) → Plain t (sort_of x) → conversion_failing rights i j t x ≡ value_conversion rights i j t x (sort_of x)
   plain_rule i j t x h =
       ap (λ b. if b then kept_conversion rights t x (constant_of (sort_of x)) else (if becomes_text rights t (constant_of (sort_of x)) then undefaulted rights x else value_conversion rights i j t x (sort_of x))) h.keeps
       ∙ ap (λ b. if b then undefaulted rights x else value_conversion rights i j t x (sort_of x)) h.becomes
@@ -122,7 +122,7 @@ module _ (rights : Rights) (itself : (t : TypeTree) → is_identical t t ≡ tru
   or_second true b e = refl
   or_second false b e = e
 
-  open_take : (t : TypeTree) (k : Untyped) → suits rights (kind_of_untyped k) t ≡ true → conversion_take rights t (sort.Open k) ≡ as_type t
+  pub open_take : (t : TypeTree) (k : Untyped) → suits rights (kind_of_untyped k) t ≡ true → conversion_take rights t (sort.Open k) ≡ as_type t
   open_take t untyped.Integer e = integers_take t untyped.Integer refl e
   open_take t untyped.Rune e = integers_take t untyped.Rune refl e
   open_take t untyped.Boolean e =

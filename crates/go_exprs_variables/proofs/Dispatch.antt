@@ -1,13 +1,12 @@
 -- The kinds of expressions: from a node that fits to its parts, and the step.
-use Rattle.std.proofs.Common.{◌≡◌, ◌∙◌, ◌⊎◌, inl, inr, ℕ, ◌-◌, Bool, true, false, [], ◌∷◌, ◌++◌, Option, Some, None, refl, sym, ap, subst, IsTrue}
-use Rattle.std.specs.Prelude.{◌&&◌, ◌||◌, not, if◌then◌else◌, is_some}
+use Rattle.std.proofs.Common.{◌≡◌, ◌∙◌, inr, ℕ, ◌-◌, Bool, true, false, [], ◌∷◌, Option, Some, None, refl, sym, ap, subst, IsTrue}
+use Rattle.std.specs.Prelude.{◌&&◌, if◌then◌else◌, is_some}
 use Rattle.go_grammar.specs.declared.kind.Category.{Category}
 use Rattle.go_grammar.specs.declared.kind.Category.TheVariants as category
 use Rattle.go_grammar.specs.declared.kind.Arithmetic.{Arithmetic}
 use Rattle.go_grammar.specs.declared.kind.Comparison.{Comparison}
 use Rattle.go_grammar.specs.declared.kind.Kind.{Kind}
 use Rattle.go_grammar.specs.declared.kind.Kind.TheVariants as kind
-use Rattle.go_grammar.specs.declared.kind.Level.{Level}
 use Rattle.go_grammar.specs.declared.kind.Level.TheVariants as level
 use Rattle.go_grammar.specs.declared.kind.Operator.{Operator}
 use Rattle.go_grammar.specs.declared.kind.Operator.TheVariants as operator
@@ -15,7 +14,6 @@ use Rattle.go_grammar.specs.declared.kind.Place.{Place}
 use Rattle.go_grammar.specs.declared.kind.Place.TheVariants as place
 use Rattle.go_grammar.specs.declared.kind.Sign.{Sign}
 use Rattle.go_grammar.specs.Categories.{within, place_of}
-use Rattle.go_grammar.specs.Categories as categories
 use Rattle.go_grammar.specs.Grammar.{rule}
 use Rattle.go_grammar.specs.Operators.{operator_level, tighter}
 use Rattle.go_grammar.specs.Trees.{Tree, node, Trees, none, more, skip, kind_of}
@@ -26,27 +24,29 @@ use Rattle.go_exprs_rules.specs.Indexes.{selector_failing}
 use Rattle.go_exprs_rules.specs.Operators.{is_shift, unary_sort}
 use Rattle.go_exprs_rules.specs.Scopes.{Scope, Hint, value}
 use Rattle.go_exprs_rules.specs.Settling.{Part, all_settled}
-use Rattle.go_exprs_rules.specs.Sorts.{Stands, is_unknown, is_open, takes_type, own_type}
-use Rattle.go_exprs_rules.specs.Tables.{Parts, hint, in_parentheses, is_package, is_type, is_held, selector_parts, bracketed_parts, layout, is_sound, sort_by, built, built_by, built_on, found, own_faults}
+use Rattle.go_exprs_rules.specs.Sorts.{Stands, is_unknown, takes_type, own_type}
+use Rattle.go_exprs_rules.specs.Tables.{Parts, in_parentheses, is_package, is_type, is_held, selector_parts, bracketed_parts, is_sound, sort_by, built, built_by, built_on, found, own_faults}
 use Rattle.go_exprs_rules.specs.Typing.{typing, typings}
 use Rattle.clone_window.specs.Masses.{is_hole, is_inside}
 use Rattle.clone_window.specs.Masses as masses
 use Rattle.go_exprs_variables.specs.Shapes.{IsShaped, AreShaped}
 use Rattle.go_exprs_variables.specs.Variables as variables
-use Rattle.go_exprs_variables.specs.Variables.{Standin, Standins, StandsIn, ends_at, at_hole, may_be_constant, expresses, is_calling, is_naming, NameFree, PartsFree, Stays, ProperNode, Proper, AllProper, put_over, put, all_put, put_with, wanted, begun, all_begun, WillFit}
+use Rattle.go_exprs_variables.specs.Variables.{Standin, Standins, StandsIn, ends_at, at_hole, may_be_constant, expresses, is_naming, NameFree, PartsFree, Stays, ProperNode, Proper, AllProper, put_over, put, all_put, put_with, wanted, begun, all_begun, WillFit}
 use Rattle.go_exprs_variables.specs.Over.{varies_over}
 use Rattle.go_exprs_variables.proofs.Agreeing.{is_name_kind, typing_agrees}
 use Rattle.go_exprs_variables.proofs.Induction.{holds, news, PartsFollow, Follows}
+use Rattle.go_exprs_variables.proofs.CallWays.{call_both}
+use Rattle.go_exprs_variables.proofs.Keys.{operand_unheld}
 use Rattle.go_exprs_variables.proofs.Leaves.{name_step}
+use Rattle.go_exprs_variables.proofs.LiteralWays.{composite_both, value_both}
 use Rattle.go_exprs_variables.proofs.Named.{is_operand, is_named, operand_kind, expression_operand}
-use Rattle.go_exprs_variables.proofs.Ready.{Facts, split_operand, operand_facts, operand_follows, still_follows, named_follows}
+use Rattle.go_exprs_variables.proofs.Ready.{Facts, operand_facts, operand_follows, still_follows, named_follows}
 use Rattle.go_exprs_variables.proofs.Same.{built_same, found_same}
-use Rattle.go_exprs_variables.proofs.Waits.{judged, known_first, known_sort, will_of}
+use Rattle.go_exprs_variables.proofs.Waits.{judged, will_of}
 use Rattle.go_exprs_variables.proofs.Ones.{FieldFacts, unary_facts, unary_whole, inner_facts, inner_whole, field_facts, selector_whole}
 use Rattle.go_exprs_variables.proofs.Twos.{two_known, plain_fits, plain_whole, plain_values, shift_facts, shift_whole, shift_values}
-use Rattle.go_exprs_variables.proofs.BracketSteps.{MaybeFacts, no_facts, some_facts, Bound, present, index_parts, index_facts, index_whole, slice_facts, slice_whole}
+use Rattle.go_exprs_variables.proofs.BracketSteps.{no_facts, some_facts, Bound, present, index_parts, index_facts, index_whole, slice_facts, slice_whole}
 use Rattle.go_exprs_variables.proofs.BinarySteps.{IsPlain}
-use Rattle.go_exprs_variables.proofs.Expressing.{unheld}
 use Rattle.go_exprs_variables.proofs.Holes.{never_unknown}
 use Rattle.go_exprs_variables.proofs.NodeSteps.{stands_made, rule_of}
 use Rattle.go_exprs_variables.proofs.Operands.{Ready}
@@ -60,25 +60,6 @@ parens_naming h = refl
 unknown_operand : (z : Stands) → is_package z ≡ true → is_named z ≡ true
 unknown_operand sort.Package e = refl
 unknown_operand z e = cc
-
-operand_unheld : (w : Standins) (s : Scope) (h : Hint) (c : Category) (x : Tree) → IsShaped c x → is_operand (kind_of x) ≡ true → is_held (form_of (typing s h x)) ≡ false
-operand_unheld w s h c (node k i j ps) e o = by_kind (split_operand w k o)
-  where
-    ys : Parts
-    ys = layout k (typings s k h ps [] ps)
-
-    by_sound : (k : Kind) (zs : Parts) (b : Bool) → categories.is_type_literal k ≡ true → is_held (form_of (built_by s k h i j zs b)) ≡ false
-    by_sound kind.SequenceType zs true e = refl
-    by_sound kind.SequenceType zs false e = refl
-    by_sound kind.FunctionType zs true e = refl
-    by_sound kind.FunctionType zs false e = refl
-    by_sound kind.StructType zs true e = refl
-    by_sound kind.StructType zs false e = refl
-    by_sound k zs b e = cc
-
-    by_kind : (expresses k ≡ true) ⊎ (categories.is_type_literal k ≡ true) → is_held (form_of (typing s h (node k i j ps))) ≡ false
-    by_kind (inl x) = unheld s k h i j ys (is_sound k ys (own_faults s k h i j ys)) x
-    by_kind (inr l) = by_sound k ys (is_sound k ys (own_faults s k h i j ys)) l
 
 begun_unheld : (w : Standins) (x : Part) → is_held (form_of x) ≡ false → is_held (form_of (begun w false x)) ≡ false
 begun_unheld w (typed f i j l ps) e = ap (λ y. is_held (form_of y)) (begun_is e) ∙ by_wanted (wanted w false (typed f i j l ps))
@@ -98,6 +79,9 @@ begun_unheld w (typed f i j l ps) e = ap (λ y. is_held (form_of y)) (begun_is e
     by_wanted None = by_hole (at_hole w (is_hole false f l) i) l (all_put w (is_inside false f l) ps)
     by_wanted (Some t) = by_taking t (takes_type l.sort)
 
+never_true : IsTrue false → ⊥
+never_true e = cc
+
 bracket_operand : (k : Kind) → holds k ≡ false → IsTrue (within category.Bracket k) → is_operand k ≡ true
 bracket_operand kind.Name n e = refl
 bracket_operand kind.Integer n e = refl
@@ -115,6 +99,7 @@ bracket_operand kind.FunctionType n e = refl
 bracket_operand kind.StructType n e = refl
 bracket_operand kind.Bounds n e = cc
 bracket_operand kind.BoundsFrom n e = cc
+bracket_operand kind.Keyed n e = cc
 bracket_operand k n e = cc
 
 -- the parts of a node in place of which no variable stands
@@ -384,6 +369,7 @@ module _ (w : Standins) (s : Scope) (h : Hint) (i j : ℕ) (p : Place) where
       bounds_both a q r m n e eb.1.0 eb.1.1.0 eb pa inner.0 inner.1.0 at
   bracket_both a (node kind.BoundsFrom m n (more q (more r (more t qs)))) e eb pa pb at = elim eb.1.1.1 [ ]
   bracket_both a (node kind.BoundsFrom m n (more q (more r (skip qs)))) e eb pa pb at = elim eb.1.1.1 [ ]
+  bracket_both a (node kind.Keyed m n qs) e eb pa pb at = absurd (never_true eb.0)
   bracket_both a (node k m n qs) e eb pa pb at = index_both a (node k m n qs) e eb (bracket_operand k refl eb.0) pa pb at
 
 -- ---- all kinds
@@ -397,54 +383,54 @@ module _ (w : Standins) where
   Ways s h k i j ps = PartsFollow w s k h ps [] ps × Step w s s h k i j (typings s k h ps [] ps)
 
   -- from a node that fits to its parts, and the step in its scope; names have none
-  ways : (s : Scope) (h : Hint) (p : Place) (k : Kind) (i j : ℕ) (ps : Trees) → AreShaped (rule p k) ps → expresses k ≡ true → is_calling k ≡ false → is_name_kind k ≡ false → PartsFree w k ps → AllProper w ps → masses.is_constant (sort_of (typing s h (node k i j ps))) ≡ false
+  ways : (s : Scope) (h : Hint) (p : Place) (k : Kind) (i j : ℕ) (ps : Trees) → AreShaped (rule p k) ps → expresses k ≡ true → is_name_kind k ≡ false → PartsFree w k ps → AllProper w ps → masses.is_constant (sort_of (typing s h (node k i j ps))) ≡ false
       → is_named (sort_of (typing s h (node k i j ps))) ≡ false → found s k h i j (typings s k h ps [] ps) ≡ [] → WillFit s.rights w false (typing s h (node k i j ps)) → Ways s h k i j ps
-  ways s h p kind.Name i j ps e x n m free pr plain unnamed f fits = cc
-  ways s h p kind.Integer i j ps e x n m free pr plain unnamed f fits = let ys = typings s kind.Integer h ps [] ps in no_constant_literal s h kind.Integer i j ys (is_sound kind.Integer ys (own_faults s kind.Integer h i j ys)) refl plain fits
-  ways s h p kind.Rune i j ps e x n m free pr plain unnamed f fits = let ys = typings s kind.Rune h ps [] ps in no_constant_literal s h kind.Rune i j ys (is_sound kind.Rune ys (own_faults s kind.Rune h i j ys)) refl plain fits
-  ways s h p kind.Text i j ps e x n m free pr plain unnamed f fits = let ys = typings s kind.Text h ps [] ps in no_constant_literal s h kind.Text i j ys (is_sound kind.Text ys (own_faults s kind.Text h i j ys)) refl plain fits
-  ways s h p kind.Parenthesized i j none e x n m free pr plain unnamed f fits = elim e [ ]
-  ways s h p kind.Parenthesized i j (skip qs) e x n m free pr plain unnamed f fits = elim e [ ]
-  ways s h p kind.Parenthesized i j (more q (more r qs)) e x n m free pr plain unnamed f fits = elim e.1 [ ]
-  ways s h p kind.Parenthesized i j (more q (skip qs)) e x n m free pr plain unnamed f fits = elim e.1 [ ]
-  ways s h p kind.Parenthesized i j (more q none) e x n m free pr plain unnamed f fits = (inner_follow w s h i j p q e.0 pr.0 plain f fits, inner_step w s h i j p q e.0 pr.0 plain unnamed f fits)
-  ways s h p (kind.Unary o) i j none e x n m free pr plain unnamed f fits = elim e [ ]
-  ways s h p (kind.Unary o) i j (skip qs) e x n m free pr plain unnamed f fits = elim e [ ]
-  ways s h p (kind.Unary o) i j (more q (more r qs)) e x n m free pr plain unnamed f fits = elim e.1 [ ]
-  ways s h p (kind.Unary o) i j (more q (skip qs)) e x n m free pr plain unnamed f fits = elim e.1 [ ]
-  ways s h p (kind.Unary o) i j (more q none) e x n m free pr plain unnamed f fits = (unary_follow w s h i j p o q e.0 pr.0 plain f fits, unary_step w s h i j p o q e.0 pr.0 plain f fits)
-  ways s h p (kind.Binary o) i j none e x n m free pr plain unnamed f fits = elim e [ ]
-  ways s h p (kind.Binary o) i j (skip qs) e x n m free pr plain unnamed f fits = elim e [ ]
-  ways s h p (kind.Binary o) i j (more a none) e x n m free pr plain unnamed f fits = elim e.1 [ ]
-  ways s h p (kind.Binary o) i j (more a (skip qs)) e x n m free pr plain unnamed f fits = elim e.1 [ ]
-  ways s h p (kind.Binary o) i j (more a (more b (more q qs))) e x n m free pr plain unnamed f fits = elim e.1.1 [ ]
-  ways s h p (kind.Binary o) i j (more a (more b (skip qs))) e x n m free pr plain unnamed f fits = elim e.1.1 [ ]
-  ways s h p (kind.Binary o) i j (more a (more b none)) e x n m free pr plain unnamed f fits = binary_both w s h i j p o a b (e.0, e.1.0) pr.0 pr.1.0 (f, plain, fits)
-  ways s h p kind.Selector i j none e x n m free pr plain unnamed f fits = elim e [ ]
-  ways s h p kind.Selector i j (skip qs) e x n m free pr plain unnamed f fits = elim e [ ]
-  ways s h p kind.Selector i j (more q (more r qs)) e x n m free pr plain unnamed f fits = elim e.1 [ ]
-  ways s h p kind.Selector i j (more q (skip qs)) e x n m free pr plain unnamed f fits = elim e.1 [ ]
-  ways s h p kind.Selector i j (more q none) e x n m free pr plain unnamed f fits =
+  ways s h p kind.Name i j ps e x m free pr plain unnamed f fits = cc
+  ways s h p kind.Integer i j ps e x m free pr plain unnamed f fits = let ys = typings s kind.Integer h ps [] ps in no_constant_literal s h kind.Integer i j ys (is_sound kind.Integer ys (own_faults s kind.Integer h i j ys)) refl plain fits
+  ways s h p kind.Rune i j ps e x m free pr plain unnamed f fits = let ys = typings s kind.Rune h ps [] ps in no_constant_literal s h kind.Rune i j ys (is_sound kind.Rune ys (own_faults s kind.Rune h i j ys)) refl plain fits
+  ways s h p kind.Text i j ps e x m free pr plain unnamed f fits = let ys = typings s kind.Text h ps [] ps in no_constant_literal s h kind.Text i j ys (is_sound kind.Text ys (own_faults s kind.Text h i j ys)) refl plain fits
+  ways s h p kind.Parenthesized i j none e x m free pr plain unnamed f fits = elim e [ ]
+  ways s h p kind.Parenthesized i j (skip qs) e x m free pr plain unnamed f fits = elim e [ ]
+  ways s h p kind.Parenthesized i j (more q (more r qs)) e x m free pr plain unnamed f fits = elim e.1 [ ]
+  ways s h p kind.Parenthesized i j (more q (skip qs)) e x m free pr plain unnamed f fits = elim e.1 [ ]
+  ways s h p kind.Parenthesized i j (more q none) e x m free pr plain unnamed f fits = (inner_follow w s h i j p q e.0 pr.0 plain f fits, inner_step w s h i j p q e.0 pr.0 plain unnamed f fits)
+  ways s h p (kind.Unary o) i j none e x m free pr plain unnamed f fits = elim e [ ]
+  ways s h p (kind.Unary o) i j (skip qs) e x m free pr plain unnamed f fits = elim e [ ]
+  ways s h p (kind.Unary o) i j (more q (more r qs)) e x m free pr plain unnamed f fits = elim e.1 [ ]
+  ways s h p (kind.Unary o) i j (more q (skip qs)) e x m free pr plain unnamed f fits = elim e.1 [ ]
+  ways s h p (kind.Unary o) i j (more q none) e x m free pr plain unnamed f fits = (unary_follow w s h i j p o q e.0 pr.0 plain f fits, unary_step w s h i j p o q e.0 pr.0 plain f fits)
+  ways s h p (kind.Binary o) i j none e x m free pr plain unnamed f fits = elim e [ ]
+  ways s h p (kind.Binary o) i j (skip qs) e x m free pr plain unnamed f fits = elim e [ ]
+  ways s h p (kind.Binary o) i j (more a none) e x m free pr plain unnamed f fits = elim e.1 [ ]
+  ways s h p (kind.Binary o) i j (more a (skip qs)) e x m free pr plain unnamed f fits = elim e.1 [ ]
+  ways s h p (kind.Binary o) i j (more a (more b (more q qs))) e x m free pr plain unnamed f fits = elim e.1.1 [ ]
+  ways s h p (kind.Binary o) i j (more a (more b (skip qs))) e x m free pr plain unnamed f fits = elim e.1.1 [ ]
+  ways s h p (kind.Binary o) i j (more a (more b none)) e x m free pr plain unnamed f fits = binary_both w s h i j p o a b (e.0, e.1.0) pr.0 pr.1.0 (f, plain, fits)
+  ways s h p kind.Selector i j none e x m free pr plain unnamed f fits = elim e [ ]
+  ways s h p kind.Selector i j (skip qs) e x m free pr plain unnamed f fits = elim e [ ]
+  ways s h p kind.Selector i j (more q (more r qs)) e x m free pr plain unnamed f fits = elim e.1 [ ]
+  ways s h p kind.Selector i j (more q (skip qs)) e x m free pr plain unnamed f fits = elim e.1 [ ]
+  ways s h p kind.Selector i j (more q none) e x m free pr plain unnamed f fits =
       (selector_follow w s h i j p q (is_package (sort_of (typing s value q))) refl e.0 free pr.0 f fits, selector_step w s h i j p q e.0 pr.0 f fits)
-  ways s h p kind.Bracketed i j none e x n m free pr plain unnamed f fits = elim e [ ]
-  ways s h p kind.Bracketed i j (skip qs) e x n m free pr plain unnamed f fits = elim e [ ]
-  ways s h p kind.Bracketed i j (more a none) e x n m free pr plain unnamed f fits = elim e.1 [ ]
-  ways s h p kind.Bracketed i j (more a (skip qs)) e x n m free pr plain unnamed f fits = elim e.1 [ ]
-  ways s h p kind.Bracketed i j (more a (more b (more q qs))) e x n m free pr plain unnamed f fits = elim e.1.1 [ ]
-  ways s h p kind.Bracketed i j (more a (more b (skip qs))) e x n m free pr plain unnamed f fits = elim e.1.1 [ ]
-  ways s h p kind.Bracketed i j (more a (more b none)) e x n m free pr plain unnamed f fits = bracket_both w s h i j p a b e.0 e.1.0 pr.0 pr.1.0 (f, fits)
-  ways s h p kind.Call i j ps e x n m free pr plain unnamed f fits = cc
-  ways s h p kind.Composite i j ps e x n m free pr plain unnamed f fits = cc
-  ways s h p kind.LiteralValue i j ps e x n m free pr plain unnamed f fits = cc
-  ways s h p k i j ps e x n m free pr plain unnamed f fits = cc
+  ways s h p kind.Bracketed i j none e x m free pr plain unnamed f fits = elim e [ ]
+  ways s h p kind.Bracketed i j (skip qs) e x m free pr plain unnamed f fits = elim e [ ]
+  ways s h p kind.Bracketed i j (more a none) e x m free pr plain unnamed f fits = elim e.1 [ ]
+  ways s h p kind.Bracketed i j (more a (skip qs)) e x m free pr plain unnamed f fits = elim e.1 [ ]
+  ways s h p kind.Bracketed i j (more a (more b (more q qs))) e x m free pr plain unnamed f fits = elim e.1.1 [ ]
+  ways s h p kind.Bracketed i j (more a (more b (skip qs))) e x m free pr plain unnamed f fits = elim e.1.1 [ ]
+  ways s h p kind.Bracketed i j (more a (more b none)) e x m free pr plain unnamed f fits = bracket_both w s h i j p a b e.0 e.1.0 pr.0 pr.1.0 (f, fits)
+  ways s h p kind.Call i j ps e x m free pr plain unnamed f fits = call_both w s h i j p ps e pr plain f fits
+  ways s h p kind.Composite i j ps e x m free pr plain unnamed f fits = composite_both w s h i j p ps e pr f fits
+  ways s h p kind.LiteralValue i j ps e x m free pr plain unnamed f fits = value_both w s h i j p ps e pr f fits
+  ways s h p k i j ps e x m free pr plain unnamed f fits = cc
 
   other_free : (k : Kind) (i : ℕ) → is_name_kind k ≡ false → NameFree w k i
   other_free kind.Name i e = cc
   other_free k i e = tt
 
   pub descends : (s : Scope) (h : Hint) (c : Category) (k : Kind) (i j : ℕ) (ps : Trees) → IsShaped c (node k i j ps) → expresses k ≡ true → PartsFree w k ps → AllProper w ps → masses.is_constant (sort_of (typing s h (node k i j ps))) ≡ false
-      → is_named (sort_of (typing s h (node k i j ps))) ≡ false → is_calling k ≡ false → found s k h i j (typings s k h ps [] ps) ≡ [] → WillFit s.rights w false (typing s h (node k i j ps)) → PartsFollow w s k h ps [] ps
-  descends s h c k i j ps e x free pr plain unnamed n f fits = by_name (is_name_kind k) refl
+      → is_named (sort_of (typing s h (node k i j ps))) ≡ false → found s k h i j (typings s k h ps [] ps) ≡ [] → WillFit s.rights w false (typing s h (node k i j ps)) → PartsFollow w s k h ps [] ps
+  descends s h c k i j ps e x free pr plain unnamed f fits = by_name (is_name_kind k) refl
     where
       name_parts : (k : Kind) (ps : Trees) → is_name_kind k ≡ true → AreShaped (rule (place_of c) k) ps → PartsFollow w s k h ps [] ps
       name_parts kind.Name none m e = tt
@@ -454,7 +440,7 @@ module _ (w : Standins) where
 
       by_name : (b : Bool) → is_name_kind k ≡ b → PartsFollow w s k h ps [] ps
       by_name true m = name_parts k ps m e.1
-      by_name false m = (ways s h (place_of c) k i j ps e.1 x n m free pr plain unnamed f fits).0
+      by_name false m = (ways s h (place_of c) k i j ps e.1 x m free pr plain unnamed f fits).0
 
   name_at : (s t : Scope) (h : Hint) (p : Place) (k : Kind) (i j : ℕ) (ps : Trees) → is_name_kind k ≡ true → StandsIn w s t → AreShaped (rule p k) ps → is_naming h ≡ false → NameFree w k i → masses.is_constant (sort_of (typing s h (node k i j ps))) ≡ false → found s k h i j (typings s k h ps [] ps) ≡ []
       → Step w s t h k i j (typings s k h ps [] ps)
@@ -464,9 +450,9 @@ module _ (w : Standins) where
   name_at s t h p k i j ps m st e naming free plain f = cc
 
   pub step : (s t : Scope) (h : Hint) (c : Category) (k : Kind) (i j : ℕ) (ps : Trees) → StandsIn w s t → IsShaped c (node k i j ps) → expresses k ≡ true → is_naming h ≡ false → NameFree w k i → PartsFree w k ps → AllProper w ps → masses.is_constant (sort_of (typing s h (node k i j ps))) ≡ false
-      → is_named (sort_of (typing s h (node k i j ps))) ≡ false → is_calling k ≡ false → found s k h i j (typings s k h ps [] ps) ≡ [] → WillFit s.rights w false (typing s h (node k i j ps)) → Step w s t h k i j (typings s k h ps [] ps)
-  step s t h c k i j ps st e x naming name free pr plain unnamed n f fits = by_name (is_name_kind k) refl
+      → is_named (sort_of (typing s h (node k i j ps))) ≡ false → found s k h i j (typings s k h ps [] ps) ≡ [] → WillFit s.rights w false (typing s h (node k i j ps)) → Step w s t h k i j (typings s k h ps [] ps)
+  step s t h c k i j ps st e x naming name free pr plain unnamed f fits = by_name (is_name_kind k) refl
     where
       by_name : (b : Bool) → is_name_kind k ≡ b → Step w s t h k i j (typings s k h ps [] ps)
       by_name true m = name_at s t h (place_of c) k i j ps m st e.1 naming name plain f
-      by_name false m = across w s t h k i j (typings s k h ps [] ps) st name (ways s h (place_of c) k i j ps e.1 x n m free pr plain unnamed f fits).1
+      by_name false m = across w s t h k i j (typings s k h ps [] ps) st name (ways s h (place_of c) k i j ps e.1 x m free pr plain unnamed f fits).1

@@ -1,5 +1,5 @@
 -- Elements of composite literals, where variables stand in place of constants in them.
-use Rattle.std.proofs.Common.{◌≡◌, ◌∙◌, ◌==◌, ℕ, zero, suc, Bool, true, false, List, [], ◌∷◌, ◌++◌, length, Option, Some, None, refl, sym, ap}
+use Rattle.std.proofs.Common.{◌≡◌, ◌∙◌, ◌==◌, ℕ, zero, suc, Bool, true, false, List, [], ◌++◌, length, Option, Some, None, refl, sym, ap}
 use Rattle.std.specs.Prelude.{◌&&◌, ◌||◌, if◌then◌else◌}
 use Rattle.std.specs.List.{list_all}
 use Rattle.go_base.specs.declared.fault.FaultCode.TheVariants as code
@@ -13,7 +13,7 @@ use Rattle.go_exprs_rules.specs.Calls.{row_length, all_unassignable, each_unassi
 use Rattle.go_exprs_rules.specs.Faults.{fault_at}
 use Rattle.go_exprs_rules.specs.Literals.{key_of, is_keyed, has_keys, is_below, first_part, nth_part, at_optional, too_many, elements_failing, keyed_type, given_to_field, keyed_unassignable, keyed_failing, ordered_failing}
 use Rattle.go_exprs_rules.specs.Settling.{Part, unassignable}
-use Rattle.go_exprs_variables.specs.Operands.{Operand, Alike, none_alike, one_alike, InOrder, none_in_order, next_in_order, Keyed, none_keyed, one_keyed}
+use Rattle.go_exprs_variables.specs.Operands.{Alike, none_alike, one_alike, InOrder, none_in_order, next_in_order, Keyed, none_keyed, one_keyed}
 use Rattle.go_exprs_variables.proofs.Given.{no_place, unassignable_kept}
 use Rattle.go_exprs_variables.proofs.Parts.{both_none, none_of_both, holds, held}
 
@@ -57,7 +57,7 @@ module _ (rights : Rights) (itself : (t : TypeTree) → is_identical t t ≡ tru
   order_length ts xs ys (none_in_order us) = refl
   order_length ts xs ys (next_in_order t us x y cs bs p rest) = ap (λ n. suc n) (order_length us cs bs rest)
 
-  order_given : (ts : TypeRow) (xs ys : List Part) → InOrder rights ts xs ys → all_unassignable rights ts xs ≡ [] → all_unassignable rights ts ys ≡ []
+  pub order_given : (ts : TypeRow) (xs ys : List Part) → InOrder rights ts xs ys → all_unassignable rights ts xs ≡ [] → all_unassignable rights ts ys ≡ []
   order_given types.none xs ys (none_in_order us) e = refl
   order_given (types.more t ts) xs ys (none_in_order us) e = refl
   order_given (types.more t ts) xs ys (next_in_order t' us x y cs bs p rest) e =

@@ -1,27 +1,24 @@
 -- What is known of the nodes of expressions by their kinds: their forms, and which of them may be constant.
-use Rattle.std.proofs.Common.{◌≡◌, ◌∙◌, ℕ, ◌-◌, Bool, true, false, List, [], ◌∷◌, Option, Some, None, refl, sym, ap}
-use Rattle.std.specs.Prelude.{◌&&◌, ◌||◌, not, if◌then◌else◌, is_some}
+use Rattle.std.proofs.Common.{◌≡◌, ◌∙◌, ℕ, Bool, true, false, List, [], ◌∷◌, Option, Some, None, refl, ap}
+use Rattle.std.specs.Prelude.{◌&&◌, ◌||◌}
 use Rattle.go_grammar.specs.declared.kind.Kind.{Kind}
 use Rattle.go_grammar.specs.declared.kind.Kind.TheVariants as kind
 use Rattle.go_tree.specs.declared.object.Object.{Object}
 use Rattle.go_tree.specs.declared.object.Object.TheVariants as object
-use Rattle.go_types.specs.Trees.{TypeTree}
-use Rattle.go_types.specs.Relations.{Rights}
 use Rattle.go_typed.specs.declared.form.Form.{Form}
 use Rattle.go_typed.specs.declared.form.Form.TheVariants as form
 use Rattle.go_typed.specs.declared.form.Referent.{Referent}
 use Rattle.go_typed.specs.declared.form.Referent.TheVariants as referent
 use Rattle.go_typed.specs.Trees.{Sort, sort_of, form_of, label_of}
 use Rattle.go_typed.specs.Trees as sort
-use Rattle.go_exprs_rules.specs.Indexes.{value_or_unknown, selector_sort, named_field}
 use Rattle.go_exprs_rules.specs.Names.{name_form, name_sort, object_form, object_sort, declared_form, form_or_type, need_of}
 use Rattle.go_exprs_rules.specs.Scopes.{Needed, Scope, Hint, declares, free, member}
-use Rattle.go_exprs_rules.specs.Sorts.{Stands, is_open, form_of_value}
-use Rattle.go_exprs_rules.specs.Tables.{Parts, form_by, sort_by, takes, all_given, label, made, built_by, is_held, key_form, callee_form}
+use Rattle.go_exprs_rules.specs.Sorts.{Stands, is_open}
+use Rattle.go_exprs_rules.specs.Tables.{Parts, form_by, sort_by, built_by, is_held, key_form, callee_form}
 use Rattle.clone_window.specs.Masses.{is_expression, is_constant_expression}
 use Rattle.clone_window.specs.Masses as masses
-use Rattle.go_exprs_variables.specs.Variables.{may_be_constant, expresses, is_naming}
-use Rattle.go_exprs_variables.proofs.Quiet.{is_silent, value_loud, selector_loud, bracketed_loud, literal_loud, untyped_literal_loud}
+use Rattle.go_exprs_variables.specs.Variables.{may_be_constant, expresses}
+use Rattle.go_exprs_variables.proofs.Quiet.{is_silent, selector_loud, bracketed_loud, literal_loud, untyped_literal_loud}
 
 -- a value that may take a type, or a constant
 abbrev pub is_asking : Stands → Bool

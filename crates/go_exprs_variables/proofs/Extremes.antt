@@ -1,6 +1,6 @@
 -- `min` and `max`, where variables stand in place of constants in the arguments.
-use Rattle.std.proofs.Common.{◌≡◌, ◌∙◌, ◌⊎◌, inl, inr, ℕ, Bool, true, false, List, [], ◌∷◌, ◌++◌, Option, Some, None, refl, sym, ap, subst}
-use Rattle.std.specs.Prelude.{◌&&◌, ◌||◌, if◌then◌else◌, is_some, Result, Ok}
+use Rattle.std.proofs.Common.{◌≡◌, ◌∙◌, ◌⊎◌, inl, inr, ℕ, Bool, true, false, List, [], ◌∷◌, Option, Some, None, refl, sym, ap, subst}
+use Rattle.std.specs.Prelude.{◌&&◌, ◌||◌, if◌then◌else◌, is_some}
 use Rattle.go_base.specs.declared.fault.FaultCode.TheVariants as code
 use Rattle.go_constants.specs.declared.values.Const.{Const}
 use Rattle.go_ints.specs.declared.operators.Op.{Op}
@@ -9,21 +9,17 @@ use Rattle.go_types.specs.Relations.{Rights}
 use Rattle.go_types_relations.specs.Identity.{is_identical}
 use Rattle.go_typed.specs.Trees.{sort_of}
 use Rattle.go_typed.specs.Trees as sort
-use Rattle.go_exprs_rules.specs.declared.fault.TypeFault.{TypeFault}
 use Rattle.go_exprs_rules.specs.declared.family.Family.TheVariants as family
 use Rattle.go_exprs_rules.specs.declared.family.OpenKind.{OpenKind}
 use Rattle.go_exprs_rules.specs.Calls.{met, all_met, meeting, are_constants, each_unrepresented, extreme_refuse, extreme_failing_in, extreme_failing, better, extreme_behind, extreme_value, extreme_in, extreme_sort, extreme_take_in, extreme_take}
-use Rattle.go_exprs_rules.specs.Faults.{fault_at, or_else}
-use Rattle.go_exprs_rules.specs.Operators.{Common, in_type, in_kind, type_in, common_kind, kind_common, one_typed, own, own_by, unordered, family_in, constant_in}
-use Rattle.go_exprs_rules.specs.Settling.{Part, Take, default, as_type, unrepresented}
-use Rattle.go_exprs_rules.specs.Sorts.{Stands, constant_of, is_constant, is_family, own_type, open_kind, default_type, suits, family_of_open}
-use Rattle.go_exprs_variables.specs.Stood.{Stood, as_before, in_place, early}
+use Rattle.go_exprs_rules.specs.Faults.{fault_at}
+use Rattle.go_exprs_rules.specs.Operators.{Common, in_type, in_kind, type_in, common_kind, kind_common, one_typed, own, own_by, unordered}
+use Rattle.go_exprs_rules.specs.Settling.{Part, as_type, unrepresented}
+use Rattle.go_exprs_rules.specs.Sorts.{Stands, constant_of, is_constant, is_family, own_type, open_kind, default_type, suits}
 use Rattle.go_exprs_variables.proofs.Builtins.{Operands, no_operand, an_operand}
-use Rattle.go_exprs_variables.proofs.Defaults.{default_suits}
 use Rattle.go_exprs_variables.proofs.Families.{suited}
-use Rattle.go_exprs_variables.proofs.Meeting.{Seen, unchanged, closed, seen, constants, both_of, kinds_are, by_family}
+use Rattle.go_exprs_variables.proofs.Meeting.{Seen, unchanged, closed, seen, constants, both_of, by_family}
 use Rattle.go_exprs_variables.proofs.Parts.{Operand, both_none, none_of_both, neither, of_neither}
-use Rattle.go_exprs_variables.proofs.Unary.{IsValue, truth_differs}
 
 module _ (rights : Rights) (itself : (t : TypeTree) → is_identical t t ≡ true) (alike : (t u : TypeTree) → is_identical t u ≡ true → t ≡ u) where
   -- ---- where values meet that all take the type t at last
@@ -55,7 +51,7 @@ module _ (rights : Rights) (itself : (t : TypeTree) → is_identical t t ≡ tru
   one_kind : (t : TypeTree) (k : OpenKind) → suits rights k t ≡ true → one_typed rights t (Some k) ≡ Some (in_type t)
   one_kind t k e = ap (λ b. if b then Some (in_type t) else None) e
 
-  none_met : (xs : List Part) → all_met rights None xs ≡ None
+  pub none_met : (xs : List Part) → all_met rights None xs ≡ None
   none_met [] = refl
   none_met (x ∷ xs) = none_met xs
 
@@ -117,7 +113,7 @@ module _ (rights : Rights) (itself : (t : TypeTree) → is_identical t t ≡ tru
       by_test false g = let none : None ≡ Some c = sym (none_met xs) ∙ g in cc
 
   -- what meets at last in c began in the type, if it began in one
-  began : (u : TypeTree) (xs : List Part) (c : Common) → all_met rights (Some (in_type u)) xs ≡ Some c → c ≡ in_type u
+  pub began : (u : TypeTree) (xs : List Part) (c : Common) → all_met rights (Some (in_type u)) xs ≡ Some c → c ≡ in_type u
   began u [] c e = cc
   began u (x ∷ xs) c e = began_by u (own (sort_of x)) xs c (λ g. began u xs c g) e
 
@@ -231,7 +227,7 @@ module _ (rights : Rights) (itself : (t : TypeTree) → is_identical t t ≡ tru
     pub stands : extreme_sort rights o ys ≡ extreme_sort rights o xs
     pub take : extreme_take rights ys ≡ extreme_take rights xs
 
-  refused_now : (c : Common) (xs : List Part) → extreme_refuse rights false c xs ≡ [] → each_unrepresented rights (type_in c) xs ≡ []
+  pub refused_now : (c : Common) (xs : List Part) → extreme_refuse rights false c xs ≡ [] → each_unrepresented rights (type_in c) xs ≡ []
   refused_now (in_type t) xs e = e
   refused_now (in_kind k) xs e = e
 
@@ -239,7 +235,7 @@ module _ (rights : Rights) (itself : (t : TypeTree) → is_identical t t ≡ tru
   refuses (in_type t) xs e = e
   refuses (in_kind k) xs e = e
 
-  taken_now : (c : Common) → extreme_take_in false (Some c) ≡ as_type (type_in c)
+  pub taken_now : (c : Common) → extreme_take_in false (Some c) ≡ as_type (type_in c)
   taken_now (in_type t) = refl
   taken_now (in_kind k) = refl
 

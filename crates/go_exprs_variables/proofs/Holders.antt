@@ -1,30 +1,39 @@
--- The step of the induction at nodes that only hold parts: bounds.
-use Rattle.std.proofs.Common.{◌≡◌, ◌∙◌, ◌⊎◌, inl, inr, ℕ, Bool, true, false, List, [], ◌∷◌, ◌++◌, Option, Some, None, refl, sym, ap, subst}
+-- The step of the induction at nodes that only hold parts: bounds, and elements with keys.
+use Rattle.std.proofs.Common.{◌≡◌, ◌∙◌, inl, inr, ℕ, Bool, true, false, List, [], ◌∷◌, ◌++◌, Some, None, refl, sym, ap, subst}
 use Rattle.std.specs.Prelude.{◌||◌, if◌then◌else◌}
 use Rattle.std.specs.List.{list_any}
+use Rattle.go_grammar.specs.declared.kind.Category.{Category}
+use Rattle.go_grammar.specs.declared.kind.Category.TheVariants as category
 use Rattle.go_grammar.specs.declared.kind.Kind.{Kind}
 use Rattle.go_grammar.specs.declared.kind.Kind.TheVariants as kind
-use Rattle.go_grammar.specs.Trees.{Tree, node, Trees, none, more, skip, kind_of}
+use Rattle.go_grammar.specs.Trees.{Tree, node, Trees, none, more, skip}
 use Rattle.go_types.specs.Relations.{Rights}
 use Rattle.go_types.specs.Trees.{TypeTree}
 use Rattle.go_typed.specs.declared.form.Form.TheVariants as form
 use Rattle.go_typed.specs.Trees.{typed, Typeds, sort_of, label_of, row}
 use Rattle.go_typed.specs.Trees as sort
 use Rattle.go_exprs_rules.specs.declared.fault.TypeFault.{TypeFault}
-use Rattle.go_exprs_rules.specs.Scopes.{Scope, Hint}
+use Rattle.go_exprs_rules.specs.Scopes.{Scope, Hint, free}
 use Rattle.go_exprs_rules.specs.Settling.{Part}
-use Rattle.go_exprs_rules.specs.Tables.{Parts, hint, found, built, built_by, made, is_judged, calls_in, varies_in, part_scope}
+use Rattle.go_exprs_rules.specs.Tables.{Parts, found, built, made, is_judged, calls_in, varies_in, part_scope}
 use Rattle.go_exprs_rules.specs.Typing.{typing, typings}
 use Rattle.go_exprs_variables.specs.Over.{any_varies, varies_over}
 use Rattle.go_exprs_variables.specs.Shapes.{IsShaped}
-use Rattle.go_exprs_variables.specs.Variables.{Standins, StandsIn, expresses, begun, all_begun, WillFit}
+use Rattle.go_exprs_variables.specs.Variables.{Standins, StandsIn, begun, all_begun}
 use Rattle.go_exprs_variables.proofs.Agreeing.{typing_agrees}
 use Rattle.go_exprs_variables.proofs.Away.{begun_nothing}
-use Rattle.go_exprs_variables.proofs.Induction.{walks, holds, news, told, typed_part, Follows, PartsFollow}
+use Rattle.go_exprs_variables.proofs.Induction.{walks, holds, news, told, Follows, PartsFollow}
+use Rattle.go_exprs_variables.proofs.Keys.{operand_unheld, value_operand, key_step, key_quiet}
 use Rattle.go_exprs_variables.proofs.Operands.{calls_kept}
 use Rattle.go_exprs_variables.proofs.Ready.{ready_part}
+use Rattle.go_exprs_variables.proofs.Same.{built_same, found_same}
 use Rattle.go_exprs_variables.proofs.Standing.{part_of, behind, typings_are}
 use Rattle.go_exprs_variables.proofs.Waits.{known_sort}
+
+abbrev is_bounds : Kind → Bool
+is_bounds kind.Bounds = true
+is_bounds kind.BoundsFrom = true
+is_bounds k = false
 
 module _ (rights : Rights) (w : Standins) where
   row_begun : (ys : Parts) → row (news w ys) ≡ all_begun w false (row ys)
@@ -67,10 +76,10 @@ module _ (rights : Rights) (w : Standins) where
   no_rule false = refl
 
   -- The step at bounds.
-  pub holder_step : (s t : Scope) (h : Hint) (k : Kind) (i j : ℕ) (ys : Parts) → holds k ≡ true → Quiet ys → (found t k h i j (news w ys) ≡ []) × (built t k h i j (news w ys) ≡ begun w false (built s k h i j ys))
-  holder_step s t h kind.Bounds i j ys e q = (no_rule (is_judged (news w ys)), held_by kind.Bounds i j ys q)
-  holder_step s t h kind.BoundsFrom i j ys e q = (no_rule (is_judged (news w ys)), held_by kind.BoundsFrom i j ys q)
-  holder_step s t h k i j ys e q = cc
+  bounds_step : (s t : Scope) (h : Hint) (k : Kind) (i j : ℕ) (ys : Parts) → is_bounds k ≡ true → Quiet ys → (found t k h i j (news w ys) ≡ []) × (built t k h i j (news w ys) ≡ begun w false (built s k h i j ys))
+  bounds_step s t h kind.Bounds i j ys e q = (no_rule (is_judged (news w ys)), held_by kind.Bounds i j ys q)
+  bounds_step s t h kind.BoundsFrom i j ys e q = (no_rule (is_judged (news w ys)), held_by kind.BoundsFrom i j ys q)
+  bounds_step s t h k i j ys e q = cc
 
   -- ---- scopes of parts
 
@@ -88,6 +97,7 @@ module _ (w : Standins) where
       calls_kept s.rights w false (typing s h (node k i j ps)) (ready_part w s h shape.0 (node k i j ps) shape.1 fits.0 (known_sort w s.rights (typing s h (node k i j ps)) fits.2))
   calls_follow s h (node kind.Bounds i j ps) (shape, inr (inr held)) = refl
   calls_follow s h (node kind.BoundsFrom i j ps) (shape, inr (inr held)) = refl
+  calls_follow s h (node kind.Keyed i j ps) (shape, inr (inr held)) = key_quiet s.rights w s h i j (typings s kind.Keyed h ps [] ps)
   calls_follow s h (node k i j ps) (shape, inr (inr held)) = cc
 
   quiet_parts : (s : Scope) (k : Kind) (h : Hint) (all : Trees) (xs : Parts) (ps : Trees) → PartsFollow w s k h all xs ps → Quiet s.rights w (behind s k h all xs ps)
@@ -96,5 +106,23 @@ module _ (w : Standins) where
   quiet_parts s k h all xs (more p ps) f =
       a_part (part_of s k h all xs p) (behind s k h all (xs ++ Some (part_of s k h all xs p) ∷ []) ps) (calls_follow (part_scope s k xs) (told w s k h all xs p) p f.0) (quiet_parts s k h all (xs ++ Some (part_of s k h all xs p) ∷ []) ps f.1)
 
-  pub quiet_all : (s : Scope) (k : Kind) (h : Hint) (ps : Trees) → PartsFollow w s k h ps [] ps → Quiet s.rights w (typings s k h ps [] ps)
+  quiet_all : (s : Scope) (k : Kind) (h : Hint) (ps : Trees) → PartsFollow w s k h ps [] ps → Quiet s.rights w (typings s k h ps [] ps)
   quiet_all s k h ps f = subst (Quiet s.rights w) (sym (typings_are s k h ps [] ps)) (quiet_parts s k h ps [] ps f)
+
+  -- The step at a node that only holds parts.
+  pub holder_step : (s t : Scope) (h : Hint) (c : Category) (k : Kind) (i j : ℕ) (ps : Trees) → StandsIn w s t → IsShaped c (node k i j ps) → holds k ≡ true → PartsFollow w s k h ps [] ps
+      → (found t k h i j (news w (typings s k h ps [] ps)) ≡ []) × (built t k h i j (news w (typings s k h ps [] ps)) ≡ begun w false (built s k h i j (typings s k h ps [] ps)))
+  holder_step s t h c kind.Bounds i j ps st e held f = bounds_step s.rights w s t h kind.Bounds i j (typings s kind.Bounds h ps [] ps) refl (quiet_all s kind.Bounds h ps f)
+  holder_step s t h c kind.BoundsFrom i j ps st e held f = bounds_step s.rights w s t h kind.BoundsFrom i j (typings s kind.BoundsFrom h ps [] ps) refl (quiet_all s kind.BoundsFrom h ps f)
+  holder_step s t h c kind.Keyed i j none st e held f = elim e.1 [ ]
+  holder_step s t h c kind.Keyed i j (skip qs) st e held f = elim e.1 [ ]
+  holder_step s t h c kind.Keyed i j (more n none) st e held f = elim e.1.1 [ ]
+  holder_step s t h c kind.Keyed i j (more n (skip qs)) st e held f = elim e.1.1 [ ]
+  holder_step s t h c kind.Keyed i j (more n (more v (more q qs))) st e held f = elim e.1.1.1 [ ]
+  holder_step s t h c kind.Keyed i j (more n (more v (skip qs))) st e held f = elim e.1.1.1 [ ]
+  holder_step s t h c kind.Keyed i j (more n (more v none)) st e held f =
+      let xs = typings s kind.Keyed h (more n (more v none)) [] (more n (more v none)) in
+      let x = typing s free n in
+      let step = key_step s.rights w s h i j x (typing s h v) (begun w false x) (operand_unheld w s h category.Value v e.1.1.0 (value_operand v e.1.1.0)) (calls_follow s h v f.1.0) in
+      (found_same w s t st kind.Keyed h i j (news w xs) tt ∙ step.0, built_same w s t st kind.Keyed h i j (news w xs) tt ∙ step.1)
+  holder_step s t h c k i j ps st e held f = cc

@@ -22,7 +22,7 @@ use Rattle.go_exprs_rules.specs.Typing.{typing, typings, faults, faults_of_parts
 use Rattle.clone_window.specs.Masses.{is_hole, is_inside, is_expression}
 use Rattle.clone_window.specs.Masses as masses
 use Rattle.go_exprs_variables.specs.Variables as variables
-use Rattle.go_exprs_variables.specs.Variables.{Standin, Standins, StandsIn, ends_at, may_be_constant, node_with, with_variables, all_with_variables, is_naming, at_hole, variable_node, put_over, put, all_put, wanted, all_wanted, first_wanted, begun, final_type, Fits, WillFit, no_rule_fails, IsTypedWithVariables}
+use Rattle.go_exprs_variables.specs.Variables.{Standin, Standins, StandsIn, ends_at, may_be_constant, node_with, with_variables, all_with_variables, is_naming, at_hole, variable_node, put_over, put, all_put, wanted, all_wanted, first_wanted, begun, final_type, is_unfolded, any_variable, Fits, WillFit, no_rule_fails, IsTypedWithVariables}
 use Rattle.go_exprs_variables.proofs.Parts.{neither}
 use Rattle.go_exprs_variables.proofs.Places.{stands, untyped_is_none}
 use Rattle.go_exprs_variables.proofs.Trees.{hole_kept, retyped_label}
@@ -100,10 +100,11 @@ begun_hole rights w v f i j l qs at ends (variables.takes t k o m r fits) =
     }
 
 pub never_unknown : (rights : Rights) (w : Standins) (x : Part) → WillFit rights w false x → is_unknown (sort_of x) ≡ true → ⊥
-never_unknown rights w (typed f i j l qs) (variables.has o fits) e = both (fits.1) e
+never_unknown rights w (typed f i j l qs) (variables.has o fits) e = both (is_unknown l.sort) (is_unfolded f l.sort qs && any_variable w (is_inside false f l) qs) fits.1 e
   where
-    both : {b : Bool} → b ≡ false → b ≡ true → ⊥
-    both e f = cc
+    both : (b c : Bool) → (b || c) ≡ false → b ≡ true → ⊥
+    both true c e f = cc
+    both false c e f = cc
 never_unknown rights w (typed f i j l qs) (variables.takes t k o m r fits) e = unknown l.sort o e
   where
     unknown : (z : Stands) → open_kind z ≡ Some k → is_unknown z ≡ true → ⊥

@@ -1,5 +1,5 @@
 -- The induction over trees. What it needs of the kinds of nodes stands in one record.
-use Rattle.std.proofs.Common.{◌≡◌, ◌∙◌, ◌⊎◌, inl, inr, ℕ, Bool, true, false, List, [], ◌∷◌, ◌++◌, Option, Some, None, refl, sym, ap, subst}
+use Rattle.std.proofs.Common.{◌≡◌, ◌∙◌, ◌⊎◌, inl, inr, ℕ, Bool, true, false, [], ◌∷◌, ◌++◌, Option, Some, None, refl, sym, ap, subst}
 use Rattle.std.specs.Prelude.{◌&&◌, ◌||◌}
 use Rattle.go_grammar.specs.declared.kind.Category.{Category}
 use Rattle.go_grammar.specs.declared.kind.Kind.{Kind}
@@ -7,17 +7,15 @@ use Rattle.go_grammar.specs.declared.kind.Kind.TheVariants as kind
 use Rattle.go_grammar.specs.Categories.{is_type_literal}
 use Rattle.go_grammar.specs.Trees.{Tree, node, Trees, none, more, skip, kind_of}
 use Rattle.go_typed.specs.Trees.{sort_of}
-use Rattle.go_exprs_rules.specs.declared.fault.TypeFault.{TypeFault}
 use Rattle.go_exprs_rules.specs.Scopes.{Scope, Hint}
 use Rattle.go_exprs_rules.specs.Settling.{Part}
 use Rattle.go_exprs_rules.specs.Tables.{Parts, hint, part_scope, built, found}
 use Rattle.go_exprs_rules.specs.Typing.{typing, typings, faults, faults_of_parts}
 use Rattle.clone_window.specs.Masses as masses
 use Rattle.go_exprs_variables.specs.Shapes.{IsShaped}
-use Rattle.go_exprs_variables.specs.Variables.{expresses, is_calling, Standins, ends_at, may_be_constant, node_with, with_variables, all_with_variables, NameFree, PartsFree, ProperNode, Proper, AllProper, StandsIn, begun, WillFit, no_rule_fails, IsTypedWithVariables, is_naming}
+use Rattle.go_exprs_variables.specs.Variables.{expresses, Standins, ends_at, may_be_constant, node_with, with_variables, all_with_variables, NameFree, PartsFree, ProperNode, Proper, AllProper, StandsIn, begun, WillFit, no_rule_fails, IsTypedWithVariables, is_naming}
 use Rattle.go_exprs_variables.proofs.Agreeing.{EachAgrees, both_agree, typing_agrees}
 use Rattle.go_exprs_variables.proofs.Away.{begun_nothing, clear_away}
-use Rattle.go_exprs_variables.proofs.Calling.{calling_still}
 use Rattle.go_exprs_variables.proofs.Constants.{constant_still}
 use Rattle.go_exprs_variables.proofs.Holes.{all_of, of_all, nothing_found, found_nothing, hole_typed}
 use Rattle.go_exprs_variables.proofs.Named.{is_named, named_rest}
@@ -26,10 +24,11 @@ use Rattle.go_exprs_variables.proofs.Standing.{Still}
 
 -- ---- nodes that have expressions among their parts
 
--- nodes that only hold parts of the node above: bounds
+-- nodes that only hold parts of the node above: bounds, and the values of elements with keys
 abbrev pub holds : Kind → Bool
 holds kind.Bounds = true
 holds kind.BoundsFrom = true
+holds kind.Keyed = true
 holds k = false
 
 abbrev pub walks : Kind → Bool
@@ -83,13 +82,13 @@ module _ (w : Standins) where
   pub record Rest : Type 0 where
     -- from a node that fits to its parts
     pub descends : (s : Scope) (h : Hint) (c : Category) (k : Kind) (i j : ℕ) (ps : Trees) → IsShaped c (node k i j ps) → expresses k ≡ true → PartsFree w k ps → AllProper w ps → masses.is_constant (sort_of (typing s h (node k i j ps))) ≡ false
-        → is_named (sort_of (typing s h (node k i j ps))) ≡ false → is_calling k ≡ false → found s k h i j (typings s k h ps [] ps) ≡ [] → WillFit s.rights w false (typing s h (node k i j ps)) → PartsFollow s k h ps [] ps
+        → is_named (sort_of (typing s h (node k i j ps))) ≡ false → found s k h i j (typings s k h ps [] ps) ≡ [] → WillFit s.rights w false (typing s h (node k i j ps)) → PartsFollow s k h ps [] ps
     -- parts are told what they were
     pub same_scope : (s t : Scope) (k : Kind) (xs : Parts) → StandsIn w s t → walks k ≡ true → StandsIn w (part_scope s k xs) (part_scope t k (news xs))
     pub same_told : (s t : Scope) (k : Kind) (h : Hint) (all : Trees) (xs : Parts) (p : Tree) → StandsIn w s t → walks k ≡ true → EachAgrees xs → hint t k h (all_with_variables w all) (news xs) (kind_of (with_variables w p)) ≡ told s k h all xs p
     -- the step: a node over parts with variables in them
     pub step : (s t : Scope) (h : Hint) (c : Category) (k : Kind) (i j : ℕ) (ps : Trees) → StandsIn w s t → IsShaped c (node k i j ps) → expresses k ≡ true → is_naming h ≡ false → NameFree w k i → PartsFree w k ps → AllProper w ps
-        → masses.is_constant (sort_of (typing s h (node k i j ps))) ≡ false → is_named (sort_of (typing s h (node k i j ps))) ≡ false → is_calling k ≡ false → found s k h i j (typings s k h ps [] ps) ≡ []
+        → masses.is_constant (sort_of (typing s h (node k i j ps))) ≡ false → is_named (sort_of (typing s h (node k i j ps))) ≡ false → found s k h i j (typings s k h ps [] ps) ≡ []
         → WillFit s.rights w false (typing s h (node k i j ps)) → (found t k h i j (news (typings s k h ps [] ps)) ≡ []) × (built t k h i j (news (typings s k h ps [] ps)) ≡ begun w false (built s k h i j (typings s k h ps [] ps)))
     -- the node that holds parts
     pub holder : (s t : Scope) (h : Hint) (c : Category) (k : Kind) (i j : ℕ) (ps : Trees) → StandsIn w s t → IsShaped c (node k i j ps) → holds k ≡ true → PartsFollow s k h ps [] ps → no_rule_fails (faults_of_parts s k h ps [] ps) ≡ true
@@ -98,6 +97,7 @@ module _ (w : Standins) where
   holds_walks : (k : Kind) → holds k ≡ true → walks k ≡ true
   holds_walks kind.Bounds e = refl
   holds_walks kind.BoundsFrom e = refl
+  holds_walks kind.Keyed e = refl
   holds_walks k e = cc
 
   -- ---- trees in which no variable stands
@@ -130,20 +130,19 @@ module _ (w : Standins) where
     abbrev Under : Scope → Scope → Kind → Hint → Trees → Type 0
     Under s t k h ps = AllProper w ps → no_rule_fails (faults_of_parts s k h ps [] ps) ≡ true → PartsFollow s k h ps [] ps → PartsTyped s t k h ps [] ps
 
-    -- a node that isn't constant: one that stands for no value, a call or a composite literal, or another one
-    plain_typed : (s t : Scope) (h : Hint) (c : Category) (k : Kind) (i j : ℕ) (ps : Trees) (b d : Bool) → is_named (sort_of (typing s h (node k i j ps))) ≡ b → is_calling k ≡ d → StandsIn w s t → IsShaped c (node k i j ps) → expresses k ≡ true → is_naming h ≡ false
+    -- a node that isn't constant: one that stands for no value, or another one
+    plain_typed : (s t : Scope) (h : Hint) (c : Category) (k : Kind) (i j : ℕ) (ps : Trees) (b : Bool) → is_named (sort_of (typing s h (node k i j ps))) ≡ b → StandsIn w s t → IsShaped c (node k i j ps) → expresses k ≡ true → is_naming h ≡ false
         → (may_be_constant k && ends_at (w i) j) ≡ false → masses.is_constant (sort_of (typing s h (node k i j ps))) ≡ false → Proper w (node k i j ps) → NameFree w k i × PartsFree w k ps × AllProper w ps → no_rule_fails (faults s h (node k i j ps)) ≡ true
         → WillFit s.rights w false (typing s h (node k i j ps)) → Under s t k h ps → IsTypedWithVariables w s t h (node k i j ps)
-    plain_typed s t h c k i j ps true d m n st shape walk naming e v proper inner f fits parts =
+    plain_typed s t h c k i j ps true m st shape walk naming e v proper inner f fits parts =
         let r = named_rest w s h c (node k i j ps) shape (ap (λ b. b || is_type_literal k) walk) e proper m in
         still_typed s t h c (node k i j ps) shape st (r.0, clear_away w false (typing s h (node k i j ps)) r.1) f
-    plain_typed s t h c k i j ps false true m n st shape walk naming e v proper inner f fits parts = still_typed s t h c (node k i j ps) shape st (calling_still w s h k i j ps n e inner.1 v) f
-    plain_typed s t h c k i j ps false false m n st shape walk naming e v proper inner f fits parts =
+    plain_typed s t h c k i j ps false m st shape walk naming e v proper inner f fits parts =
         let both = all_of (faults_of_parts s k h ps [] ps) (found s k h i j (typings s k h ps [] ps) ∷ []) f in
         let none_found = nothing_found (found s k h i j (typings s k h ps [] ps)) both.1 in
-        let follow = rest.descends s h c k i j ps shape walk inner.1 inner.2 v m n none_found fits in
+        let follow = rest.descends s h c k i j ps shape walk inner.1 inner.2 v m none_found fits in
         let under = parts inner.2 both.0 follow in
-        let at = rest.step s t h c k i j ps st shape walk naming inner.0 inner.1 inner.2 v m n none_found fits in
+        let at = rest.step s t h c k i j ps st shape walk naming inner.0 inner.1 inner.2 v m none_found fits in
         over_parts s t h k i j ps e under at
 
     -- by whether a variable stands there, and whether it is constant
@@ -153,11 +152,12 @@ module _ (w : Standins) where
     node_typed s t h c k i j ps false true st shape walk naming e v proper f fits parts = still_typed s t h c (node k i j ps) shape st (constant_still w s h c k i j ps shape walk proper e v fits) f
     node_typed s t h c k i j ps false false st shape walk naming e v proper f fits parts =
         let inner : ProperNode false w k i ps (AllProper w ps) = subst (λ b. ProperNode b w k i ps (AllProper w ps)) e proper in
-        plain_typed s t h c k i j ps (is_named (sort_of (typing s h (node k i j ps)))) (is_calling k) refl refl st shape walk naming e v proper inner f fits parts
+        plain_typed s t h c k i j ps (is_named (sort_of (typing s h (node k i j ps)))) refl st shape walk naming e v proper inner f fits parts
 
     no_constant : (k : Kind) (b : Bool) → holds k ≡ true → (may_be_constant k && b) ≡ false
     no_constant kind.Bounds b e = refl
     no_constant kind.BoundsFrom b e = refl
+    no_constant kind.Keyed b e = refl
     no_constant k b e = cc
 
     -- a node that only holds parts: no variable stands there

@@ -1,11 +1,9 @@
--- The law on expressions: variables stand in place of constants outside of calls and composite literals.
-use Rattle.std.proofs.Common.{[]}
-use Rattle.go_exprs_variables.specs.Variables.{Standins, VariablesOutsideCalls}
+-- The law on expressions: variables stand in place of constants.
+use Rattle.go_exprs_variables.specs.Variables.{Standins, ExpressionsTyped}
 use Rattle.go_exprs_variables.proofs.Dispatch.{descends, step}
-use Rattle.go_exprs_variables.proofs.Holders.{holder_step, same_scope, quiet_all}
+use Rattle.go_exprs_variables.proofs.Holders.{holder_step, same_scope}
 use Rattle.go_exprs_variables.proofs.Induction.{Rest, variables_for_constants}
 use Rattle.go_exprs_variables.proofs.Told.{same_told}
-use Rattle.go_exprs_rules.specs.Typing.{typings}
 
 rest : (w : Standins) → Rest w
 rest w = record {
@@ -13,9 +11,9 @@ rest w = record {
   same_scope = λ s t k xs st e. same_scope s.rights w s t k xs st e;
   same_told = same_told w;
   step = step w;
-  holder = λ s t h c k i j ps st shape held follow f. holder_step s.rights w s t h k i j (typings s k h ps [] ps) held (quiet_all w s k h ps follow);
+  holder = λ s t h c k i j ps st shape held follow f. holder_step w s t h c k i j ps st shape held follow;
 }
 
 -- With variables in place of constants an expression is typed the same, with that change alone, and no rule fails.
-pub variables_outside_calls : VariablesOutsideCalls
-variables_outside_calls w s t h c x shape e n st proper f fits = variables_for_constants w (rest w) s t h c x shape e n st proper f fits
+pub expressions_are_typed : ExpressionsTyped
+expressions_are_typed w s t h c x shape e n st proper f fits = variables_for_constants w (rest w) s t h c x shape e n st proper f fits

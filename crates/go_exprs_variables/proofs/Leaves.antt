@@ -1,8 +1,6 @@
 -- The steps of the induction at names.
-use Rattle.std.proofs.Common.{◌≡◌, ◌∙◌, ℕ, Bool, true, false, List, [], ◌∷◌, Option, Some, None, refl, sym, ap}
-use Rattle.std.specs.Prelude.{◌||◌, if◌then◌else◌}
-use Rattle.std.specs.List.{list_any}
-use Rattle.go_grammar.specs.declared.kind.Kind.{Kind}
+use Rattle.std.proofs.Common.{◌≡◌, ◌∙◌, ℕ, Bool, true, false, [], Option, Some, None, refl, sym, ap}
+use Rattle.std.specs.Prelude.{if◌then◌else◌}
 use Rattle.go_grammar.specs.declared.kind.Kind.TheVariants as kind
 use Rattle.go_tree.specs.declared.object.Object.{Object}
 use Rattle.go_tree.specs.declared.object.Object.TheVariants as object
@@ -13,16 +11,13 @@ use Rattle.go_typed.specs.declared.form.Form.TheVariants as form
 use Rattle.go_typed.specs.declared.form.Referent.{Referent}
 use Rattle.go_typed.specs.Trees.{Sort, Label, typed, Typeds, sort_of, form_of, label_of, row}
 use Rattle.go_typed.specs.Trees as sort
-use Rattle.go_exprs_rules.specs.declared.fault.TypeFault.{TypeFault}
 use Rattle.go_exprs_rules.specs.Names.{name_sort, name_form, object_sort, object_form, form_or_type, need_of, place_failing}
 use Rattle.go_exprs_rules.specs.Scopes.{Scope, Hint, declares, free}
-use Rattle.go_exprs_rules.specs.Settling.{Part}
 use Rattle.go_exprs_rules.specs.Sorts.{Stands, is_open}
-use Rattle.go_exprs_rules.specs.Tables.{Parts, found, built, built_by, made, label, is_sound, is_judged, is_held, calls_in, varies_in, part_scope}
+use Rattle.go_exprs_rules.specs.Tables.{found, built, built_by, made, label, is_sound, is_held}
 use Rattle.clone_window.specs.Masses.{is_hole, is_inside}
 use Rattle.clone_window.specs.Masses as masses
-use Rattle.go_exprs_variables.specs.Over.{any_varies, varies_over}
-use Rattle.go_exprs_variables.specs.Variables.{Standins, StandsIn, is_naming, at_hole, put_over, begun, all_begun, wanted, first_wanted}
+use Rattle.go_exprs_variables.specs.Variables.{Standins, StandsIn, is_naming, at_hole, put_over, begun, wanted, first_wanted}
 use Rattle.go_exprs_variables.proofs.Trees.{is_key, plain_sort}
 use Rattle.go_exprs_variables.proofs.Begun.{begun_by}
 use Rattle.go_exprs_variables.proofs.Steps.{no_hole}

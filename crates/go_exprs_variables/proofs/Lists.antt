@@ -1,27 +1,23 @@
 -- Lists of parts: arguments of calls and elements of literals.
-use Rattle.std.proofs.Common.{◌≡◌, ◌∙◌, ℕ, Bool, true, false, List, [], ◌∷◌, ◌++◌, map, length, Option, Some, None, refl, sym, ap, subst}
-use Rattle.std.specs.Prelude.{◌||◌, not, suc, if◌then◌else◌}
+use Rattle.std.proofs.Common.{◌≡◌, ◌∙◌, ℕ, true, false, List, [], ◌∷◌, ◌++◌, map, length, Some, None, refl, sym, ap, subst}
+use Rattle.std.specs.Prelude.{◌||◌, suc}
 use Rattle.std.specs.List.{list_any}
-use Rattle.go_grammar.specs.declared.kind.Category.{Category}
 use Rattle.go_grammar.specs.declared.kind.Kind.{Kind}
 use Rattle.go_grammar.specs.Rules.{Items, Many, item}
-use Rattle.go_grammar.specs.Trees.{Tree, node, Trees, none, more, skip, kind_of}
+use Rattle.go_grammar.specs.Trees.{Tree, Trees, none, more, skip, kind_of}
 use Rattle.go_tokens.specs.declared.token.TokenKind.{TokenKind}
-use Rattle.go_types.specs.Trees.{TypeTree}
 use Rattle.go_types.specs.Relations.{Rights}
-use Rattle.go_typed.specs.Trees.{Typed, typed, Typeds, sort_of, form_of, label_of, row}
-use Rattle.go_typed.specs.Trees as sort
+use Rattle.go_typed.specs.Trees.{sort_of, label_of, row}
 use Rattle.go_exprs_rules.specs.Scopes.{Scope, Hint}
 use Rattle.go_exprs_rules.specs.Settling.{Part, Take, given}
-use Rattle.go_exprs_rules.specs.Sorts.{Stands, is_unknown}
+use Rattle.go_exprs_rules.specs.Sorts.{is_unknown}
 use Rattle.go_exprs_rules.specs.Tables.{Parts, hint, part_scope, present, is_judged, is_lost, all_given}
-use Rattle.go_exprs_rules.specs.Typing.{typing}
 use Rattle.go_exprs_variables.specs.Shapes.{IsShaped, AreShaped}
-use Rattle.go_exprs_variables.specs.Variables.{Standins, is_naming, Proper, AllProper, begun, put, Fits, AllFit, WillFit}
+use Rattle.go_exprs_variables.specs.Variables.{Standins, is_naming, AllProper, begun, put, Fits, AllFit, WillFit}
 use Rattle.go_exprs_variables.proofs.Assembly.{Become, no_more, one}
-use Rattle.go_exprs_variables.proofs.Induction.{new_part, news, told, PartsFollow, Follows}
+use Rattle.go_exprs_variables.proofs.Induction.{news, told, PartsFollow}
 use Rattle.go_exprs_variables.proofs.Named.{is_operand}
-use Rattle.go_exprs_variables.proofs.Operands.{Ready, calls_kept, varies_given}
+use Rattle.go_exprs_variables.proofs.Operands.{varies_given}
 use Rattle.go_exprs_variables.proofs.Quiet.{rights_kept}
 use Rattle.go_exprs_variables.proofs.Ready.{Facts, operand_facts, operand_follows}
 use Rattle.go_exprs_variables.proofs.Standing.{part_of, behind}
@@ -80,7 +76,8 @@ module _ (w : Standins) where
     Fine x = (is_unknown (sort_of x) ≡ false) × WillFit s.rights w false x
 
     -- Parts of which each will fit follow.
-    pub many_follow : (all : Trees) (xs : Parts) (ps : Trees) (vs : List Part) (ws : List TokenKind) (l : Items) → ((p : Tree) → IsShaped (item l) p → is_operand (kind_of p) ≡ true) → ((ys : Parts) (n : Kind) → is_naming (hint s k h all ys n) ≡ false)
+    pub many_follow : (all : Trees) (xs : Parts) (ps : Trees) (vs : List Part) (ws : List TokenKind) (l : Items) → ((p : Tree) → IsShaped (item l) p → is_operand (kind_of p) ≡ true)
+        → ((ys : Parts) (n : Kind) → is_naming (hint s k h all ys n) ≡ false)
         → AreShaped (Many ws l) ps → AllProper w ps → behind s k h all xs ps ≡ each vs → All Fine vs → PartsFollow w s k h all xs ps
     many_follow all xs none vs ws l operands naming e p is fine = tt
     many_follow all xs (skip ps) vs ws l operands naming e p is fine = elim e [ ]
@@ -97,20 +94,31 @@ module _ (w : Standins) where
   -- ---- what becomes of them
 
   module _ (rights : Rights) where
-    -- Parts that are given these, with variables in them or before that.
-    pub data Gives : List Take → List Part → Type 0 where
-      nothing_given : Gives [] []
-      one_given : (k : Take) (ks : List Take) (x : Part) (xs : List Part) → Ready rights w false x → given k (begun w false x) ≡ put w false (given k x) → is_unknown (sort_of (begun w false x)) ≡ false → Gives ks xs → Gives (k ∷ ks) (x ∷ xs)
+    -- A part that is given this: with variables in it it has the calls that it had, is given what it was given, with the variables in it, and is known.
+    pub record Passes (k : Take) (x : Part) : Type 0 where
+      pub calls : (label_of (begun w false x)).calls ≡ (label_of x).calls
+      pub gives : given k (begun w false x) ≡ put w false (given k x)
+      pub known : is_unknown (sort_of (begun w false x)) ≡ false
 
-    pub gives_become : (ks : List Take) (xs : List Part) → Gives ks xs → Become rights w false None (each xs) (all_given ks (each xs)) (each (all_new xs)) (all_given ks (each (all_new xs)))
-    gives_become ks xs nothing_given = no_more
-    gives_become ks xs (one_given k ls x ys r e known rest) =
-        one x (given k x) (begun w false x) (given k (begun w false x)) (each ys) (all_given ls (each ys)) (each (all_new ys)) (all_given ls (each (all_new ys))) e (calls_kept rights w false x r) (varies_given rights w false k (begun w false x))
-        (gives_become ls ys rest)
+    abbrev pub AllPass : List Take → List Part → Type 0
+    AllPass [] [] = Unit {0}
+    AllPass [] (x ∷ xs) = ⊥
+    AllPass (k ∷ ks) [] = Unit {0}
+    AllPass (k ∷ ks) (x ∷ xs) = Passes k x × AllPass ks xs
 
-    pub gives_known : (ks : List Take) (xs : List Part) → Gives ks xs → list_any is_lost (each (all_new xs)) ≡ false
-    gives_known ks xs nothing_given = refl
-    gives_known ks xs (one_given k ls x ys r e known rest) = ap (λ b. b || list_any is_lost (each (all_new ys))) known ∙ gives_known ls ys rest
+    pub all_become : (ks : List Take) (xs : List Part) → AllPass ks xs → Become rights w false None (each xs) (all_given ks (each xs)) (each (all_new xs)) (all_given ks (each (all_new xs)))
+    all_become [] [] p = no_more
+    all_become [] (x ∷ xs) p = absurd p
+    all_become (k ∷ ks) [] p = no_more
+    all_become (k ∷ ks) (x ∷ xs) p =
+        one x (given k x) (begun w false x) (given k (begun w false x)) (each xs) (all_given ks (each xs)) (each (all_new xs)) (all_given ks (each (all_new xs))) p.0.gives p.0.calls (varies_given rights w false k (begun w false x))
+        (all_become ks xs p.1)
+
+    pub pass_known : (ks : List Take) (xs : List Part) → AllPass ks xs → list_any is_lost (each (all_new xs)) ≡ false
+    pass_known [] [] p = refl
+    pass_known [] (x ∷ xs) p = absurd p
+    pass_known (k ∷ ks) [] p = refl
+    pass_known (k ∷ ks) (x ∷ xs) p = ap (λ b. b || list_any is_lost (each (all_new xs))) p.0.known ∙ pass_known ks xs p.1
 
     -- each fits once it is given
     abbrev pub AllGiven : List Take → List Part → Type 0

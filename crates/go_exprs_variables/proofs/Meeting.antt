@@ -10,7 +10,6 @@ use Rattle.go_typed.specs.Trees as sort
 use Rattle.go_exprs_rules.specs.declared.family.OpenKind.{OpenKind}
 use Rattle.go_exprs_rules.specs.declared.family.OpenKind.TheVariants as untyped_kind
 use Rattle.go_exprs_rules.specs.Operators.{Common, in_type, in_kind, common, common_by, common_kind, kind_common, one_typed, open_kinds}
-use Rattle.go_exprs_rules.specs.Settling.{Take, stay, as_type}
 use Rattle.go_exprs_rules.specs.Sorts.{Stands, own_type, open_kind, constant_of, suits, is_family, family_of_open, family_of_type}
 pub use Rattle.go_exprs_variables.specs.Operands.{meeting_take}
 use Rattle.go_exprs_variables.specs.Stood.{Stood, as_before, in_place, early, taken}

@@ -1,7 +1,7 @@
 -- Operands that stand for no value: types, `nil`, predeclared functions and what is selected of the package. No variable stands in them.
-use Rattle.std.proofs.Common.{◌≡◌, ◌∙◌, ℕ, suc, ◌-◌, Bool, true, false, List, [], ◌∷◌, ◌++◌, Option, Some, None, refl, sym, ap, subst, IsTrue, nat_le, arith}
+use Rattle.std.proofs.Common.{◌≡◌, ℕ, suc, ◌-◌, Bool, true, false, List, [], ◌∷◌, Option, Some, None, refl, subst, IsTrue, nat_le, arith}
 use Rattle.std.proofs.lemmas.Bool.Decides.{nat_tests}
-use Rattle.std.specs.Prelude.{◌&&◌, ◌||◌, not, if◌then◌else◌, Result, Ok, Err}
+use Rattle.std.specs.Prelude.{◌&&◌, ◌||◌, if◌then◌else◌, Result, Ok, Err}
 use Rattle.go_constants.specs.declared.values.Const.{Const}
 use Rattle.go_constants.specs.declared.values.Const.TheVariants as const
 use Rattle.go_constants.specs.declared.values.ConstFault.{ConstFault}
@@ -21,7 +21,6 @@ use Rattle.go_grammar.specs.Categories as categories
 use Rattle.go_grammar.specs.Grammar.{rule}
 use Rattle.go_grammar.specs.Operators.{rank}
 use Rattle.go_grammar.specs.Trees.{Tree, node, Trees, none, more, skip, kind_of}
-use Rattle.go_ints.specs.declared.operators.Op.{Op}
 use Rattle.go_ints.specs.declared.operators.Op.TheVariants as op
 use Rattle.go_tree.specs.declared.object.Predeclared.{Predeclared}
 use Rattle.go_tree.specs.declared.object.Predeclared.TheVariants as predeclared
@@ -32,20 +31,20 @@ use Rattle.go_types_relations.specs.Tests.{underlying_of}
 use Rattle.go_typed.specs.Trees.{Sort, typed, Typeds, sort_of, form_of, label_of}
 use Rattle.go_typed.specs.Trees as sort
 use Rattle.go_exprs_rules.specs.declared.family.OpenKind.TheVariants as untyped_kind
-use Rattle.go_exprs_rules.specs.Calls.{keeps_value, becomes_text, constant_or_value, text_of, converted_sort, conversion_sort, call_sort, builtin_sort, function_call_sort, called, results_of, constant_length, length_value, extreme_in, extreme_value, extreme_sort, meeting}
+use Rattle.go_exprs_rules.specs.Calls.{keeps_value, becomes_text, constant_or_value, text_of, conversion_sort, call_sort, builtin_sort, called, results_of, constant_length, length_value, extreme_in, extreme_value, meeting}
 use Rattle.go_exprs_rules.specs.Indexes.{value_or_unknown, selector_sort, named_field}
-use Rattle.go_exprs_rules.specs.Operators.{Common, in_type, in_kind, constant_in, result_in, binary_sort_in, shift_sort_in, common, own, is_shift, operation_sort, compared_sort, comparing, folded_both, binary_value, unary_sort, unary_sort_in, unary_value}
+use Rattle.go_exprs_rules.specs.Operators.{Common, in_type, in_kind, constant_in, result_in, binary_sort_in, shift_sort_in, common, own, is_shift, operation_sort, comparing, folded_both, binary_value, unary_sort_in, unary_value}
 use Rattle.go_exprs_rules.specs.Scopes.{Scope, Hint, value}
 use Rattle.go_exprs_rules.specs.Settling.{Part}
-use Rattle.go_exprs_rules.specs.Sorts.{Stands, constant_of, own_type, form_of_value, element_of, is_text, byte, value_type}
-use Rattle.go_exprs_rules.specs.Tables.{Parts, present, hint, in_parentheses, is_package, selector_parts, layout, form_by, sort_by, takes, all_given, made, built_by, built, is_sound, own_faults, literal_type, selector_form}
+use Rattle.go_exprs_rules.specs.Sorts.{Stands, constant_of, form_of_value, element_of, is_text, byte, value_type}
+use Rattle.go_exprs_rules.specs.Tables.{Parts, present, in_parentheses, is_package, layout, form_by, sort_by, takes, all_given, built_by, is_sound, own_faults, literal_type}
 use Rattle.go_exprs_rules.specs.Typing.{typing, typings}
 use Rattle.clone_window.specs.Masses.{is_expression}
 use Rattle.clone_window.specs.Masses as masses
 use Rattle.go_exprs_variables.specs.Shapes.{IsShaped, AreShaped}
-use Rattle.go_exprs_variables.specs.Variables.{Standins, ends_at, may_be_constant, expresses, Free, AllFree, NameFree, PartsFree, Stays, ProperNode, Proper, AllProper}
+use Rattle.go_exprs_variables.specs.Variables.{Standins, may_be_constant, expresses, Free, AllFree, NameFree, PartsFree, Stays, ProperNode, Proper, AllProper}
 use Rattle.go_exprs_variables.proofs.Same.{Kept, kept_free}
-use Rattle.go_exprs_variables.proofs.Away.{Away, Clear, clear_away}
+use Rattle.go_exprs_variables.proofs.Away.{Clear}
 use Rattle.go_exprs_variables.proofs.Standing.{Each, clear_node, typing_clear}
 
 -- ---- kinds of operands

@@ -1,42 +1,29 @@
--- The steps of the induction at conversions, parentheses and selectors.
+-- The steps of the induction at parentheses and selectors.
 use Rattle.std.proofs.Common.{◌≡◌, ◌∙◌, ℕ, Bool, true, false, List, [], ◌∷◌, Option, Some, None, refl, sym, ap, subst}
-use Rattle.std.specs.Prelude.{◌&&◌, ◌||◌, ◌-◌, not, if◌then◌else◌, is_some, unwrap_or}
+use Rattle.std.specs.Prelude.{◌||◌, ◌-◌, not, if◌then◌else◌, is_some, unwrap_or}
 use Rattle.go_constants.specs.declared.values.Const.{Const}
-use Rattle.go_constants.specs.declared.values.Const.TheVariants as const
 use Rattle.go_grammar.specs.declared.kind.Kind.TheVariants as kind
 use Rattle.go_types.specs.Trees.{TypeTree}
 use Rattle.go_types_relations.specs.Identity.{is_identical}
-use Rattle.go_types_relations.specs.Tests.{underlying_of}
 use Rattle.go_typed.specs.declared.form.Form.TheVariants as form
 use Rattle.go_typed.specs.Trees.{Sort, Label, typed, Typeds, sort_of, form_of, label_of, row}
 use Rattle.go_typed.specs.Trees as sort
-use Rattle.go_exprs_rules.specs.declared.family.Family.TheVariants as family
-use Rattle.go_exprs_rules.specs.declared.family.OpenKind.{OpenKind}
-use Rattle.go_exprs_rules.specs.Calls.{keeps_value, becomes_text, constant_or_value, text_of, conversion_failing, conversion_sort, conversion_take, is_integer_type, call_failing, call_sort, call_takes}
 use Rattle.go_exprs_rules.specs.Indexes.{selector_failing, selector_sort, field_number, value_or_unknown, named_field}
 use Rattle.go_exprs_rules.specs.Scopes.{Scope, Hint}
-use Rattle.go_exprs_rules.specs.Settling.{Part, Take, stay, default, as_type, given}
-use Rattle.go_exprs_rules.specs.Sorts.{Stands, is_constant, is_open, is_unknown, is_nil, is_whole, is_family, family_of_type, form_of_value, open_kind, retyped, constant_of, takes_type}
-use Rattle.go_exprs_rules.specs.Tables.{Parts, own_faults, built, built_on, all_given, callee_form, is_held, is_variable_name}
-use Rattle.go_exprs_variables.specs.Stood.{Stood, as_before, in_place, early, taken}
-use Rattle.go_exprs_variables.specs.Variables.{Standins, put, wanted, all_wanted, or_wanted, begun, Fits}
-use Rattle.go_exprs_variables.proofs.Parts.{Operand}
-use Rattle.go_exprs_variables.proofs.Trees.{is_key}
-use Rattle.go_exprs_variables.proofs.Unary.{IsValue}
+use Rattle.go_exprs_rules.specs.Settling.{Part}
+use Rattle.go_exprs_rules.specs.Sorts.{Stands, is_constant, is_open, is_unknown, form_of_value, retyped, takes_type}
+use Rattle.go_exprs_rules.specs.Tables.{Parts, own_faults, built, built_on}
+use Rattle.go_exprs_variables.specs.Stood.{Stood, as_before, in_place, early}
+use Rattle.go_exprs_variables.specs.Variables.{Standins, wanted, or_wanted, begun, Fits}
 use Rattle.go_exprs_variables.proofs.Begun.{typed_operand}
-use Rattle.go_exprs_variables.proofs.Conversions.{conversion_row}
-use Rattle.go_exprs_variables.proofs.Indexes.{whole_kept}
-use Rattle.go_exprs_variables.proofs.Assembly.{Become, no_more, one, sort_with}
-use Rattle.go_exprs_variables.proofs.Operands.{Ready, Fitting, open_so, Defaulting, operand, default_operand, calls_kept, closed_wants, closed_part, given_under, given_default, stays, varies_given, wanting_is, quiet_is}
+use Rattle.go_exprs_variables.proofs.Assembly.{no_more, one, sort_with}
+use Rattle.go_exprs_variables.proofs.Operands.{Ready, open_so, calls_kept, closed_wants, closed_part, stays, wanting_is, quiet_is}
 use Rattle.go_exprs_variables.proofs.NodeSteps.{node_step, rule_of}
 use Rattle.go_exprs_variables.proofs.ShiftSteps.{Left, left_closed, left_open, left_operand}
 
 module _ (s : Scope) (itself : (t : TypeTree) → is_identical t t ≡ true) (h : Hint) (i j : ℕ) (w : Standins) (a : Bool) where
   abbrev alone : Part → Parts
   alone x = Some x ∷ []
-
-  abbrev two : Part → Part → Parts
-  two x y = Some x ∷ Some y ∷ []
 
   abbrev ready : Part → Type 0
   ready x = Ready s.rights w a x
@@ -47,90 +34,10 @@ module _ (s : Scope) (itself : (t : TypeTree) → is_identical t t ≡ true) (h 
   known_one : (b : Bool) → b ≡ false → not (b || false) ≡ true
   known_one b e = ap (λ z. not (z || false)) e
 
-  known_both : (b c : Bool) → b ≡ false → c ≡ false → not (b || (c || false)) ≡ true
-  known_both b c e f = ap (λ z. not (z || (c || false))) e ∙ ap (λ z. not (z || false)) f
-
   still_known : (u : Option TypeTree) (b c : Stands) → Stood s.rights u b c → is_unknown b ≡ false → is_unknown c ≡ false
   still_known u b c (as_before v z) e = e
   still_known u b c (in_place v t z) e = refl
   still_known u b c (early t z k m n) e = refl
-
-  -- ---- conversions
-
-  -- What the operand takes: a type, or its default type.
-  pub data Converted (k : Take) (x : Part) : Type 0 where
-    to_type : (t : TypeTree) → k ≡ as_type t → Fitting s.rights w a t x → Converted k x
-    by_default : k ≡ default → takes_type (sort_of x) ≡ is_open (sort_of x) → Defaulting s.rights w a x → Converted k x
-
-  converted_operand : (k : Take) (x : Part) → ready x → Converted k x → Operand s.rights (taken k None (sort_of x)) x (new x)
-  converted_operand k x r (to_type t e f) = subst (λ z. Operand s.rights (taken z None (sort_of x)) x (new x)) (sym e) (operand s.rights w a t x r f)
-  converted_operand k x r (by_default e n d) = subst (λ z. Operand s.rights (taken z None (sort_of x)) x (new x)) (sym e) (default_operand s.rights w a x r d)
-
-  converted_given : (k : Take) (x : Part) → ready x → Converted k x → given k (new x) ≡ put w a (given k x)
-  converted_given k x r (to_type t e f) = ap (λ z. given z (new x)) e ∙ given_under s.rights w a None t x r f ∙ ap (λ z. put w a (given z x)) (sym e)
-  converted_given k x r (by_default e n d) = ap (λ z. given z (new x)) e ∙ given_default s.rights w a None x r n d ∙ ap (λ z. put w a (given z x)) (sym e)
-
-  nil_kept : (u : Option TypeTree) (b c : Stands) → Stood s.rights u b c → is_nil c ≡ is_nil b
-  nil_kept u b c (as_before v z) = refl
-  nil_kept u b c (in_place v t z) = refl
-  nil_kept u b c (early t z k m n) = sym (no_nil z k m)
-    where
-      no_nil : (z : Stands) (k : OpenKind) → open_kind z ≡ Some k → is_nil z ≡ false
-      no_nil sort.Nil k e = cc
-      no_nil z k e = refl
-
-  take_kept : (t : TypeTree) (u : Option TypeTree) (b c : Stands) → Stood s.rights u b c → conversion_take s.rights t c ≡ conversion_take s.rights t b
-  take_kept t u b c st =
-      ap (λ z. if (is_integer_type s.rights t && z) || is_family family.Booleans (family_of_type (underlying_of s.rights t)) || is_nil c then as_type t else default) (whole_kept s.rights u b c st)
-      ∙ ap (λ z. if (is_integer_type s.rights t && is_whole s.rights b) || is_family family.Booleans (family_of_type (underlying_of s.rights t)) || z then as_type t else default) (nil_kept u b c st)
-
-  same_type : (t : TypeTree) (b c : Stands) (o : Option TypeTree) → Stood s.rights o b c → b ≡ sort.IsType t → c ≡ sort.IsType t
-  same_type t b c o (as_before v z) e = e
-  same_type t b c o (in_place v u z) e = cc
-  same_type t b c o (early u z k m n) e = cc
-
-  closed_conversion : (t : TypeTree) (b : Stands) → is_open (conversion_sort s.rights t b) ≡ false
-  closed_conversion t b = by_tests (keeps_value s.rights t (constant_of b)) (becomes_text s.rights t (constant_of b)) (constant_of b)
-    where
-      by_tests : (p q : Bool) (v : Option Const) → is_open (if p then constant_or_value t v else (if q then sort.Constant t (const.Text (text_of v)) else sort.Value t)) ≡ false
-      by_tests true q None = refl
-      by_tests true q (Some v) = refl
-      by_tests false true v = refl
-      by_tests false false v = refl
-
-  -- The whole step at a conversion: its callee is the type t.
-  pub conversion_step : (t : TypeTree) (f x : Part) → ready f → ready x → sort_of f ≡ sort.IsType t → Fits w a f → Converted (conversion_take s.rights t (sort_of x)) x → own_faults s kind.Call h i j (two f x) ≡ [] → IsValue (conversion_sort s.rights t (sort_of x))
-      → (own_faults s kind.Call h i j (two (new f) (new x)) ≡ []) × (built_on s kind.Call h i j (two (new f) (new x)) ≡ begun w a (built_on s kind.Call h i j (two f x)))
-  conversion_step t f x rf rx e fits conv old value =
-      let k = conversion_take s.rights t (sort_of x) in
-      let ops = converted_operand k x rx conv in
-      let now : sort_of (new f) ≡ sort.IsType t = same_type t (sort_of f) (sort_of (new f)) None (typed_operand s.rights w None a f rf.keys rf.held (ap is_open e) fits).stands e in
-      let judged = known_both (is_unknown (sort_of f)) (is_unknown (sort_of x)) rf.known rx.known in
-      let judged_now = known_both (is_unknown (sort_of (new f))) (is_unknown (sort_of (new x))) (ap is_unknown now) (still_known (taken k None (sort_of x)) (sort_of x) (sort_of (new x)) ops.stands rx.known) in
-      let rule : conversion_failing s.rights i j t x ≡ [] = sym (ap (λ z. call_failing s.rights i j z (x ∷ [])) e) ∙ rule_of s kind.Call h i j (two f x) judged old in
-      let r = conversion_row s.rights itself i j t x (new x) ops rule value in
-      let sort_old : call_sort s.rights (sort_of f) (x ∷ []) ≡ conversion_sort s.rights t (sort_of x) = ap (λ z. call_sort s.rights z (x ∷ [])) e in
-      let sort_new : call_sort s.rights (sort_of (new f)) (new x ∷ []) ≡ conversion_sort s.rights t (sort_of (new x)) = ap (λ z. call_sort s.rights z (new x ∷ [])) now in
-      let same_sort : call_sort s.rights (sort_of (new f)) (new x ∷ []) ≡ call_sort s.rights (sort_of f) (x ∷ []) = sort_new ∙ r.stands ∙ sym sort_old in
-      let takes_old : call_takes s.rights (sort_of f) (x ∷ []) ≡ k ∷ [] = ap (λ z. call_takes s.rights z (x ∷ [])) e in
-      let takes_new : call_takes s.rights (sort_of (new f)) (new x ∷ []) ≡ k ∷ [] = ap (λ z. call_takes s.rights z (new x ∷ [])) now ∙ ap (λ z. z ∷ []) (take_kept t (taken k None (sort_of x)) (sort_of x) (sort_of (new x)) ops.stands) in
-      let form_old : callee_form (sort_of f) ≡ form.Conversion = ap callee_form e in
-      let form_new : callee_form (sort_of (new f)) ≡ form.Conversion = ap callee_form now in
-      let parts : Become s.rights w a None (two f x) (two f (given k x)) (two (new f) (new x)) (two (new f) (given k (new x))) =
-      one f f (new f) (new f) (Some x ∷ []) (Some (given k x) ∷ []) (Some (new x) ∷ []) (Some (given k (new x)) ∷ []) (closed_part s.rights w a None f rf (ap takes_type e) (ap is_open e)) (calls_kept s.rights w a f rf) refl
-      (one x (given k x) (new x) (given k (new x)) [] [] [] [] (converted_given k x rx conv) (calls_kept s.rights w a x rx) (varies_given s.rights w a k (new x)) no_more) in
-      node_step s kind.Call h i j w a None (two f x) (two (new f) (new x)) judged judged_now refl old (ap is_constant sort_old ∙ value.constant)
-      (record { form = form_new ∙ sym form_old; key = ap is_key form_old; held = ap is_held form_old; name = λ z. ap (λ q. is_variable_name q z) form_old })
-      (record {
-        failing = ap (λ z. call_failing s.rights i j z (new x ∷ [])) now ∙ r.failing;
-        stands = subst (Stood s.rights None (call_sort s.rights (sort_of f) (x ∷ []))) (sym same_sort) (as_before None (call_sort s.rights (sort_of f) (x ∷ [])));
-        wants = None;
-        wanted = sym (ap (λ z. if is_open z then all_wanted w a (row (all_given (stay ∷ call_takes s.rights (sort_of f) (x ∷ [])) (two f x))) else None) sort_old
-            ∙ ap (λ b. if b then all_wanted w a (row (all_given (stay ∷ call_takes s.rights (sort_of f) (x ∷ [])) (two f x))) else None) (closed_conversion t (sort_of x)));
-        sort = same_sort;
-        parts = subst (λ q. Become s.rights w a None (two f x) (Some f ∷ all_given q (alone x)) (two (new f) (new x)) (Some (new f) ∷ all_given (call_takes s.rights (sort_of (new f)) (new x ∷ [])) (alone (new x)))) (sym takes_old)
-            (subst (λ q. Become s.rights w a None (two f x) (two f (given k x)) (two (new f) (new x)) (Some (new f) ∷ all_given q (alone (new x)))) (sym takes_new) parts);
-      })
 
   -- ---- parentheses: what stands in them waits with them
 

@@ -1,11 +1,10 @@
 -- Unary operators, parentheses and selectors: from the node that fits to its part, and the step.
 use Rattle.std.proofs.Common.{◌≡◌, ◌∙◌, ℕ, ◌-◌, Bool, true, false, List, [], ◌∷◌, Option, Some, None, refl, sym, ap, subst}
-use Rattle.std.specs.Prelude.{◌||◌, not, if◌then◌else◌, is_some}
+use Rattle.std.specs.Prelude.{if◌then◌else◌, is_some}
 use Rattle.go_base.specs.declared.fault.FaultCode.TheVariants as code
 use Rattle.go_grammar.specs.declared.kind.Kind.TheVariants as kind
 use Rattle.go_grammar.specs.declared.kind.Sign.{Sign}
 use Rattle.go_types.specs.Trees.{TypeTree}
-use Rattle.go_types.specs.Relations.{Rights}
 use Rattle.go_typed.specs.declared.form.Form.TheVariants as form
 use Rattle.go_typed.specs.declared.form.Referent.TheVariants as referent
 use Rattle.go_typed.specs.declared.sort.Untyped.TheVariants as untyped
@@ -16,20 +15,18 @@ use Rattle.go_exprs_rules.specs.Faults.{fault_at}
 use Rattle.go_exprs_rules.specs.Indexes.{value_or_unknown, named_field, selector_sort, selector_failing}
 use Rattle.go_exprs_rules.specs.Operators.{in_kind, signed_const, complement_mask, unary_sort}
 use Rattle.go_exprs_rules.specs.Scopes.{Scope, Hint}
-use Rattle.go_exprs_rules.specs.Settling.{Part, settled}
-use Rattle.go_exprs_rules.specs.Sorts.{Stands, is_constant, is_open, is_unknown, takes_type, open_kind, own_type, retyped, form_of_value, underlying_in, family_of_open, kind_of_const}
-use Rattle.go_exprs_rules.specs.Tables.{Parts, is_package, selector_parts, is_judged, label, made, built, built_by, built_on, is_sound, own_faults, failing, sort_by, form_by}
+use Rattle.go_exprs_rules.specs.Settling.{Part}
+use Rattle.go_exprs_rules.specs.Sorts.{Stands, is_constant, is_open, is_unknown, takes_type, open_kind, own_type, form_of_value, underlying_in, kind_of_const}
+use Rattle.go_exprs_rules.specs.Tables.{Parts, is_package, selector_parts, label, built, built_by, built_on, is_sound, own_faults, form_by}
 use Rattle.clone_window.specs.Masses as masses
 use Rattle.go_exprs_variables.specs.Operands.{IsValue}
-use Rattle.go_exprs_variables.specs.Stood.{Stood}
-use Rattle.go_exprs_variables.specs.Variables.{Standins, wanted, begun, put, Fits, WillFit}
+use Rattle.go_exprs_variables.specs.Variables.{Standins, wanted, begun, Fits, WillFit}
 use Rattle.go_exprs_variables.proofs.Identities.{tree_self}
 use Rattle.go_exprs_variables.proofs.Leaves.{leaf_stays}
 use Rattle.go_exprs_variables.proofs.Nodes.{no_constant, plain}
 use Rattle.go_exprs_variables.proofs.NodeSteps.{parts_fit, stands_made, rule_of}
 use Rattle.go_exprs_variables.proofs.OneSteps.{inner_sort, parenthesized_step, selector_step}
-use Rattle.go_exprs_variables.proofs.Operands.{Ready, Fitting, open_so, closed_so, calls_kept, begun_as, wanting_is, closed_wants}
-use Rattle.go_exprs_variables.proofs.Ready.{Facts}
+use Rattle.go_exprs_variables.proofs.Operands.{Ready, open_so, calls_kept, begun_as, wanting_is, closed_wants}
 use Rattle.go_exprs_variables.proofs.ShiftSteps.{Left, left_closed, left_open, left_operand}
 use Rattle.go_exprs_variables.proofs.Steps.{Begins, quiet, wanting, open_takes_with, unary_step}
 use Rattle.go_exprs_variables.proofs.Told.{Turned, the_same, to_value, turned}

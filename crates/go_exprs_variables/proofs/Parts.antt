@@ -1,13 +1,9 @@
 -- Operands, where a variable stands in place of a constant: what they refuse.
-use Rattle.std.proofs.Common.{◌≡◌, ◌∙◌, ℕ, Bool, true, false, List, [], ◌∷◌, ◌++◌, Option, refl, ap}
+use Rattle.std.proofs.Common.{◌≡◌, ◌∙◌, ℕ, Bool, true, false, List, [], ◌∷◌, ◌++◌, refl, ap}
 use Rattle.std.specs.Prelude.{if◌then◌else◌}
 use Rattle.go_base.specs.declared.fault.FaultCode.{FaultCode}
-use Rattle.go_types.specs.Trees.{TypeTree}
-use Rattle.go_types.specs.Relations.{Rights}
-use Rattle.go_typed.specs.Trees.{sort_of}
 use Rattle.go_exprs_rules.specs.declared.fault.TypeFault.{TypeFault}
 use Rattle.go_exprs_rules.specs.Faults.{fault_at, or_else}
-use Rattle.go_exprs_rules.specs.Settling.{Part, unrepresented}
 pub use Rattle.go_exprs_variables.specs.Operands.{Operand}
 
 -- ---- lists of faults

@@ -7,7 +7,6 @@ use Rattle.go_constants.specs.declared.values.Const.TheVariants as const
 use Rattle.go_constants.specs.declared.values.ConstOp.{ConstOp}
 use Rattle.go_constants.specs.declared.values.ConstFault.{ConstFault}
 use Rattle.go_grammar.specs.declared.kind.Category.{Category}
-use Rattle.go_grammar.specs.declared.kind.Comparison.{Comparison}
 use Rattle.go_grammar.specs.declared.kind.Kind.{Kind}
 use Rattle.go_grammar.specs.declared.kind.Kind.TheVariants as kind
 use Rattle.go_grammar.specs.declared.kind.Operator.{Operator}
@@ -30,25 +29,22 @@ use Rattle.go_types.specs.Relations.{Rights}
 use Rattle.go_types_relations.specs.Tests.{underlying_of}
 use Rattle.go_typed.specs.declared.form.Form.{Form}
 use Rattle.go_typed.specs.declared.form.Form.TheVariants as form
-use Rattle.go_typed.specs.declared.sort.Untyped.TheVariants as untyped
 use Rattle.go_typed.specs.Trees.{Sort, Label, Typed, typed, Typeds, sort_of, form_of, label_of, row}
 use Rattle.go_typed.specs.Trees as sort
 use Rattle.go_exprs_rules.specs.declared.fault.TypeFault.{TypeFault}
 use Rattle.go_exprs_rules.specs.declared.family.Family.{Family}
 use Rattle.go_exprs_rules.specs.declared.family.Family.TheVariants as family
-use Rattle.go_exprs_rules.specs.declared.family.OpenKind.{OpenKind}
 use Rattle.go_exprs_rules.specs.declared.family.OpenKind.TheVariants as untyped_kind
-use Rattle.go_exprs_rules.specs.Calls.{keeps_value, becomes_text, constant_or_value, text_of, conversion_sort, converted_sort, one_conversion, call_failing, call_sort, builtin_failing, builtin_sort, function_call_sort, called, results_of, length_failing, constant_length, length_value, first_count, array_count, extreme_failing, extreme_sort, extreme_in, extreme_value, extreme_behind, better, meeting}
+use Rattle.go_exprs_rules.specs.Calls.{keeps_value, becomes_text, constant_or_value, text_of, conversion_sort, call_failing, call_sort, builtin_failing, builtin_sort, function_call_sort, called, results_of, length_failing, constant_length, length_value, first_count, array_count, extreme_sort, extreme_in, extreme_behind, better, meeting}
 use Rattle.go_exprs_rules.specs.Faults.{or_else}
-use Rattle.go_exprs_rules.specs.Indexes.{text_length, value_or_unknown, index_sort, slice_sort, selector_sort, named_field}
-use Rattle.go_exprs_rules.specs.Literals.{literal_sort}
+use Rattle.go_exprs_rules.specs.Indexes.{text_length, value_or_unknown, selector_sort, named_field}
 use Rattle.go_exprs_rules.specs.Names.{name_form, name_sort, object_form, declared_form, form_or_type}
-use Rattle.go_exprs_rules.specs.Operators.{Common, in_type, in_kind, result_in, value_in, open_value, folded_both, constant_in, signed_value, unary_sort, unary_sort_in, own, binary_sort_in, shift_sort_in, common, is_shift, operation_sort, compared_sort, comparing, constant_op, complement_mask}
+use Rattle.go_exprs_rules.specs.Operators.{Common, in_type, in_kind, result_in, folded_both, constant_in, signed_value, unary_sort_in, own, binary_sort_in, shift_sort_in, common, is_shift, operation_sort, comparing, constant_op, complement_mask}
 use Rattle.go_exprs_rules.specs.Scopes.{Scope, Hint, declares, free, member}
 use Rattle.go_exprs_rules.specs.Settling.{Part}
 use Rattle.go_exprs_rules.specs.Sorts.{Stands, family_of_type, constant_of, is_constant, own_type, is_family, family_of_const, underlying_in, is_text, element_of, form_of_value, value_type, array_length, byte}
-use Rattle.go_exprs_rules.specs.Tables.{Parts, hint, part_scope, present, calls_in, label, made, built_by, built_on, built, is_sound, is_judged, is_placed, own_faults, no_faults, failing, placing, sort_by, form_by, takes, all_given, is_call, key_form, callee_form, leaf, is_type, cut, first_cut, call_parts, is_make_call, is_make, behind_first, literal_type, layout, on_one}
-use Rattle.go_exprs_rules.specs.TypeNodes.{type_sort, sequence_type, part_type, signature_type, function_of, all_types, entry_types, parts_in, result_types, array_of, length_in}
+use Rattle.go_exprs_rules.specs.Tables.{Parts, hint, part_scope, present, calls_in, made, built_by, built, is_sound, is_judged, own_faults, no_faults, failing, placing, sort_by, form_by, takes, all_given, is_call, key_form, callee_form, leaf, is_type, cut, first_cut, call_parts, is_make_call, behind_first, literal_type, layout, on_one}
+use Rattle.go_exprs_rules.specs.TypeNodes.{type_sort, sequence_type, part_type, function_of, all_types, entry_types, parts_in, result_types, array_of, length_in}
 use Rattle.go_exprs_rules.specs.Typing.{typing, typings}
 use Rattle.go_exprs_variables.specs.Shapes.{IsShaped, AreShaped}
 

@@ -1,5 +1,5 @@
 -- Parts of nodes that are expressions: what is known of them as operands, and why they follow.
-use Rattle.std.proofs.Common.{◌≡◌, ◌∙◌, ◌⊎◌, inl, inr, ℕ, ◌-◌, Bool, true, false, List, [], ◌∷◌, ◌++◌, Option, Some, None, refl, sym, ap, subst, IsTrue}
+use Rattle.std.proofs.Common.{◌≡◌, ◌∙◌, ◌⊎◌, inl, inr, ℕ, ◌-◌, Bool, true, false, [], ◌∷◌, Option, Some, None, refl, sym, ap, subst, IsTrue}
 use Rattle.std.specs.Prelude.{◌&&◌, ◌||◌, not, if◌then◌else◌, is_some}
 use Rattle.go_grammar.specs.declared.kind.Category.{Category}
 use Rattle.go_grammar.specs.declared.kind.Category.TheVariants as category
@@ -16,31 +16,30 @@ use Rattle.go_types.specs.Trees.{TypeTree}
 use Rattle.go_types.specs.Relations.{Rights}
 use Rattle.go_typed.specs.declared.form.Form.{Form}
 use Rattle.go_typed.specs.declared.form.Form.TheVariants as form
-use Rattle.go_typed.specs.Trees.{Sort, Label, Typed, typed, Typeds, sort_of, form_of, label_of, parts_of}
+use Rattle.go_typed.specs.Trees.{Sort, Label, Typed, typed, Typeds, sort_of, form_of, label_of, parts_of, first_of, last_of}
 use Rattle.go_typed.specs.Trees as sort
 use Rattle.go_exprs_rules.specs.Indexes.{value_or_unknown, selector_sort, named_field}
 use Rattle.go_exprs_rules.specs.Names.{name_form, name_sort}
 use Rattle.go_exprs_rules.specs.Scopes.{Scope, Hint}
-use Rattle.go_exprs_rules.specs.Settling.{Part, settled, all_settled, Take, stay, default, as_type, given, defaulted}
-use Rattle.go_exprs_rules.specs.Sorts.{Stands, is_open, is_unknown, is_nil, takes_type, open_kind, default_type, form_of_value}
-use Rattle.go_exprs_rules.specs.declared.family.OpenKind.{OpenKind}
-use Rattle.go_exprs_rules.specs.Tables.{Parts, hint, in_parentheses, layout, is_held, is_type, label, form_by, sort_by, built_by, is_sound, own_faults}
+use Rattle.go_exprs_rules.specs.Settling.{Part, settled, all_settled}
+use Rattle.go_exprs_rules.specs.Sorts.{Stands, is_open, is_unknown, is_nil, takes_type, form_of_value}
+use Rattle.go_exprs_rules.specs.Tables.{Parts, hint, in_parentheses, layout, is_type, label, form_by, sort_by, built_by, is_sound, own_faults}
 use Rattle.go_exprs_rules.specs.Typing.{typing, typings}
-use Rattle.go_exprs_rules.specs.TypeNodes.{type_sort, sequence_type, part_type, signature_type, array_of, length_in}
+use Rattle.go_exprs_rules.specs.TypeNodes.{type_sort, sequence_type, part_type, signature_type}
 use Rattle.clone_window.specs.Masses.{is_hole, is_inside, is_expression}
 use Rattle.clone_window.specs.Masses as masses
 use Rattle.go_exprs_variables.specs.Shapes.{IsShaped, AreShaped}
 use Rattle.go_exprs_variables.specs.Variables as variables
-use Rattle.go_exprs_variables.specs.Variables.{Standin, Standins, ends_at, may_be_constant, expresses, is_naming, NameFree, PartsFree, Stays, ProperNode, Proper, AllProper, FitsAt, Fits, WillFit}
+use Rattle.go_exprs_variables.specs.Variables.{Standin, Standins, ends_at, may_be_constant, expresses, is_naming, NameFree, PartsFree, Stays, ProperNode, Proper, AllProper, FitsAt, is_unfolded, Fits, WillFit}
 use Rattle.go_exprs_variables.proofs.Agreeing.{is_keyed_kind, form_unkeyed, typing_agrees}
-use Rattle.go_exprs_variables.proofs.Away.{clear_away}
+use Rattle.go_exprs_variables.proofs.Away.{Away, clear_away}
 use Rattle.go_exprs_variables.proofs.Expressing.{is_asking, expressed, unheld}
-use Rattle.go_exprs_variables.proofs.Induction.{HasShape, FitsThere, Follows, holds, PartsFollow}
+use Rattle.go_exprs_variables.proofs.Induction.{Follows}
 use Rattle.go_exprs_variables.proofs.Named.{is_operand, is_named, value_unnamed, expression_operand, named_rest, unary_kind, binary_kind, bracketed_kind, call_kind, composite_kind, literal_kind}
 use Rattle.go_exprs_variables.proofs.Operands.{Ready}
 use Rattle.go_exprs_variables.proofs.Quiet.{is_silent, typing_silent}
 use Rattle.go_exprs_variables.proofs.Standing.{Still}
-use Rattle.go_exprs_variables.proofs.Trees.{is_key, retyped_label, hole_kept}
+use Rattle.go_exprs_variables.proofs.Trees.{is_key, Agrees, retyped_label, hole_kept}
 
 differ : {X : Type 0} (b : Bool) → b ≡ false → b ≡ true → X
 differ true e f = cc
@@ -105,7 +104,7 @@ module _ (w : Standins) where
       nothing true c = refl
       nothing false c = refl
 
-  top_ends : (f : Form) (i j : ℕ) (l : Label TypeTree) (qs : Typeds TypeTree) → masses.is_constant l.sort ≡ false → Fits w false (typed f i j l qs) → ends_at (w i) j ≡ false
+  pub top_ends : (f : Form) (i j : ℕ) (l : Label TypeTree) (qs : Typeds TypeTree) → masses.is_constant l.sort ≡ false → Fits w false (typed f i j l qs) → ends_at (w i) j ≡ false
   top_ends f i j l qs plain fits = stands_by f i j l (w i) refl (no_hole f l plain) fits.0
 
   ends_stays : (k : Kind) (i j : ℕ) → ends_at (w i) j ≡ false → (may_be_constant k && ends_at (w i) j) ≡ false
@@ -233,18 +232,25 @@ module _ (w : Standins) where
   nil_plain sort.Nil e = refl
   nil_plain z e = cc
 
+  neither : (b c : Bool) → b ≡ false → c ≡ false → (b || c) ≡ false
+  neither b c e f = ap (λ z. z || c) e ∙ f
+
+  no_parts : (f : Form) (z : Stands) → is_unfolded f z sort.none ≡ false
+  no_parts form.Call z = refl
+  no_parts f z = refl
+
   nil_sort : (s : Scope) (k : Kind) (h : Hint) (i j : ℕ) (ys : Parts) (b : Bool) → is_nil (sort_of (built_by s k h i j ys b)) ≡ true → b ≡ true
   nil_sort s k h i j ys true e = refl
   nil_sort s k h i j ys false e = cc
 
   name_fits : (s : Scope) (h : Hint) (i j : ℕ) (b : Bool) → is_nil (sort_of (built_by s kind.Name h i j [] b)) ≡ true → ends_at (w i) j ≡ false → Fits w false (built_by s kind.Name h i j [] b)
-  name_fits s h i j true m ends = (bare_fits (name_form s h i) i j (label (name_form s h i) (name_sort s h i) []) (nil_plain (name_sort s h i) m) ends, nil_known (name_sort s h i) m, tt)
+  name_fits s h i j true m ends = (bare_fits (name_form s h i) i j (label (name_form s h i) (name_sort s h i) []) (nil_plain (name_sort s h i) m) ends, neither (is_unknown (name_sort s h i)) (is_unfolded (name_form s h i) (name_sort s h i) sort.none && false) (nil_known (name_sort s h i) m) (ap (λ b. b && false) (no_parts (name_form s h i) (name_sort s h i))), tt)
   name_fits s h i j false m ends = cc
 
   inside_fits : (s : Scope) (h : Hint) (i j : ℕ) (x : Part) (b : Bool) → is_nil (sort_of (built_by s kind.Parenthesized h i j (Some x ∷ []) b)) ≡ true → ends_at (w i) j ≡ false → Fits w false x → Fits w false (built_by s kind.Parenthesized h i j (Some x ∷ []) b)
   inside_fits s h i j x true m ends fits =
       let l = label form.Parenthesized (sort_of x) (Some x ∷ []) in
-      (bare_fits form.Parenthesized i j l (nil_plain (sort_of x) m) ends, nil_known (sort_of x) m, (subst (λ c. Fits w c x) (sym (ap (λ b. true && b) (nil_plain (sort_of x) m))) fits, tt))
+      (bare_fits form.Parenthesized i j l (nil_plain (sort_of x) m) ends, neither (is_unknown (sort_of x)) false (nil_known (sort_of x) m) refl, (subst (λ c. Fits w c x) (sym (ap (λ b. true && b) (nil_plain (sort_of x) m))) fits, tt))
   inside_fits s h i j x false m ends fits = cc
 
   name_ends : (k : Kind) (i j : ℕ) → may_be_constant k ≡ true → (may_be_constant k && ends_at (w i) j) ≡ false → ends_at (w i) j ≡ false
@@ -359,11 +365,27 @@ module _ (w : Standins) where
   pub record Facts (rights : Rights) (x : Part) : Type 0 where
     pub ready : is_unknown (sort_of x) ≡ false → is_type (sort_of x) ≡ false → Ready rights w false x
     pub nil : is_nil (sort_of x) ≡ true → (t : TypeTree) → Fits w false (settled t x) → Fits w false x
+    pub agrees : Agrees x
+    -- Where it stands for no value, and no variable takes its place, none stands in it.
+    pub still : is_named (sort_of x) ≡ true → ends_at (w (first_of x)) (last_of x) ≡ false → Away w false x
+
+  first_token : (s : Scope) (k : Kind) (h : Hint) (i j : ℕ) (ys : Parts) (b : Bool) → (first_of (built_by s k h i j ys b) ≡ i) × (last_of (built_by s k h i j ys b) ≡ j)
+  first_token s k h i j ys true = (refl, refl)
+  first_token s k h i j ys false = (refl, refl)
+
+  -- no variable takes the place of a tree where none ends with what was typed
+  pub ends_tree : (s : Scope) (h : Hint) (x : Tree) → ends_at (w (first_of (typing s h x))) (last_of (typing s h x)) ≡ false → Stays w x
+  ends_tree s h (node k i j ps) e =
+      let ys = layout k (typings s k h ps [] ps) in
+      let at = first_token s k h i j ys (is_sound k ys (own_faults s k h i j ys)) in
+      ends_stays k i j (ap (λ z. ends_at (w z) j) (sym at.0) ∙ ap (λ z. ends_at (w (first_of (typing s h (node k i j ps)))) z) (sym at.1) ∙ e)
 
   pub operand_facts : (s : Scope) (h : Hint) (c : Category) (x : Tree) → IsShaped c x → is_operand (kind_of x) ≡ true → Proper w x → Facts s.rights (typing s h x)
   operand_facts s h c x e o p = record {
     ready = λ known value. ready_part s h c x e (valued_expresses s h c x e o known value) known;
     nil = λ m t fits. nil_fits s h c x e o (settled_stays t s h x (nil_plain (sort_of (typing s h x)) m) fits) p m;
+    agrees = typing_agrees s h c x e;
+    still = λ m ends. (named_follows s h c x e o p (ends_tree s h x ends) m).1;
   }
 
   -- One in place of which none stands, and that stands for no value, does.

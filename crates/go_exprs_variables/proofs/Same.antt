@@ -1,5 +1,5 @@
 -- Trees in which no variable takes a place: they are typed as before in the other scope.
-use Rattle.std.proofs.Common.{◌≡◌, ◌∙◌, ℕ, ◌-◌, Bool, true, false, List, [], ◌∷◌, ◌++◌, Option, Some, None, refl, sym, ap}
+use Rattle.std.proofs.Common.{◌≡◌, ◌∙◌, ℕ, Bool, true, false, [], ◌∷◌, ◌++◌, Option, Some, None, refl, sym, ap}
 use Rattle.std.specs.Prelude.{◌&&◌, if◌then◌else◌}
 use Rattle.go_grammar.specs.declared.kind.Kind.{Kind}
 use Rattle.go_grammar.specs.declared.kind.Kind.TheVariants as kind
@@ -9,7 +9,6 @@ use Rattle.go_tree.specs.declared.object.Object.TheVariants as object
 use Rattle.go_types.specs.Trees.{TypeTree}
 use Rattle.go_typed.specs.Trees.{Sort}
 use Rattle.go_typed.specs.Trees as sort
-use Rattle.go_exprs_rules.specs.declared.fault.TypeFault.{TypeFault}
 use Rattle.go_exprs_rules.specs.Faults.{or_else}
 use Rattle.go_exprs_rules.specs.Names.{name_sort, name_form, object_sort, object_form, declared_form}
 use Rattle.go_exprs_rules.specs.Scopes.{in_full, Needed, Scope, Hint, declares, free}

@@ -9,15 +9,12 @@ use Rattle.go_types.specs.Trees.{TypeTree}
 use Rattle.go_types.specs.Relations.{Rights}
 use Rattle.go_typed.specs.Trees.{typed, sort_of}
 use Rattle.go_typed.specs.Trees as sort
-use Rattle.go_exprs_rules.specs.declared.fault.TypeFault.{TypeFault}
-use Rattle.go_exprs_rules.specs.Faults.{fault_at}
-use Rattle.go_exprs_rules.specs.Indexes.{bound_failing, optional_bound, bounds_failing, is_greater, disordered, text_length, whole_or_absent, slice_failing, slice_sort, value_or_unknown}
+use Rattle.go_exprs_rules.specs.Indexes.{optional_bound, bounds_failing, is_greater, disordered, text_length, whole_or_absent, slice_failing, slice_sort, value_or_unknown}
 use Rattle.go_exprs_rules.specs.Settling.{Part, at_part}
-use Rattle.go_exprs_rules.specs.Sorts.{Stands, constant_of, is_text, is_whole, form_of_value, slice_element, underlying_in, open_kind, default_type, value_type, int}
+use Rattle.go_exprs_rules.specs.Sorts.{Stands, constant_of, is_text, form_of_value, slice_element, underlying_in, open_kind, default_type, value_type, int}
 use Rattle.go_exprs_rules.specs.declared.family.OpenKind.{OpenKind}
 pub use Rattle.go_exprs_variables.specs.Operands.{Bounded, no_bound, a_bound}
 use Rattle.go_exprs_variables.specs.Stood.{Stood, as_before, in_place, early}
-use Rattle.go_exprs_variables.proofs.Families.{suited}
 use Rattle.go_exprs_variables.proofs.Indexes.{whole_kept, text_kept, bound_kept, length_kept}
 use Rattle.go_exprs_variables.proofs.Meeting.{Seen, unchanged, closed, seen, constants}
 use Rattle.go_exprs_variables.proofs.Parts.{Operand, both_none, none_of_both, holds, held}

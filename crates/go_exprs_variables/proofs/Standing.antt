@@ -1,19 +1,11 @@
 -- Expressions in which no variable stands: types, `nil`, predeclared functions, and constants in place of which none stands.
-use Rattle.std.proofs.Common.{◌≡◌, ◌∙◌, ℕ, Bool, true, false, List, [], ◌∷◌, ◌++◌, Option, Some, None, refl, sym, ap, subst, append_assoc, append-nil}
-use Rattle.std.specs.Prelude.{◌&&◌, ◌||◌, not, if◌then◌else◌, is_some, nat_eq}
-use Rattle.std.proofs.lemmas.Bool.{eq-eqb}
-use Rattle.go_grammar.specs.declared.kind.Category.{Category}
+use Rattle.std.proofs.Common.{◌≡◌, ◌∙◌, ℕ, Bool, true, false, List, [], ◌∷◌, ◌++◌, Option, Some, None, refl, sym, ap, append_assoc, append-nil}
+use Rattle.std.specs.Prelude.{◌&&◌, if◌then◌else◌}
 use Rattle.go_grammar.specs.declared.kind.Kind.{Kind}
 use Rattle.go_grammar.specs.declared.kind.Kind.TheVariants as kind
-use Rattle.go_grammar.specs.declared.kind.Place.{Place}
-use Rattle.go_grammar.specs.Categories.{place_of}
-use Rattle.go_grammar.specs.Grammar.{rule}
-use Rattle.go_grammar.specs.Rules.{Rule, End, Then, Maybe, Unless, Many, item}
 use Rattle.go_grammar.specs.Trees.{Tree, node, Trees, none, more, skip, kind_of}
 use Rattle.go_types.specs.Trees.{TypeTree}
-use Rattle.go_types.specs.Relations.{Rights}
 use Rattle.go_typed.specs.declared.form.Form.{Form}
-use Rattle.go_typed.specs.declared.form.Form.TheVariants as form
 use Rattle.go_typed.specs.Trees.{Sort, Label, Typed, typed, Typeds, sort_of, form_of, label_of, parts_of, row, list_of}
 use Rattle.go_typed.specs.Trees as sort
 use Rattle.go_exprs_rules.specs.Scopes.{Scope, Hint}
@@ -21,17 +13,15 @@ use Rattle.go_exprs_rules.specs.Settling.{Part, settled, all_settled, Take, stay
 use Rattle.go_exprs_rules.specs.Sorts.{Stands, open_kind, default_type, takes_type, retyped}
 use Rattle.go_exprs_rules.specs.declared.family.OpenKind.{OpenKind}
 use Rattle.go_exprs_rules.specs.Tables.{Parts, hint, part_scope, held, all_held, leaf, is_type, cut, first_cut, call_parts, is_make_call, bounds_of, has_no_low, bracketed_parts, selector_parts, is_package, behind_first, layout}
-use Rattle.go_exprs_rules.specs.Tables.{is_held, form_by, sort_by, takes, all_given, label, made, built_by, built_on, built, is_sound, own_faults}
+use Rattle.go_exprs_rules.specs.Tables.{is_held, form_by, sort_by, takes, all_given, made, built_by, is_sound, own_faults}
 use Rattle.go_exprs_rules.specs.Typing.{typing, typings}
 use Rattle.clone_window.specs.Masses.{is_hole, is_inside, is_expression, is_constant_expression}
 use Rattle.clone_window.specs.Masses as masses
-use Rattle.go_exprs_variables.specs.Shapes.{IsShaped, AreShaped}
-use Rattle.go_exprs_variables.specs.Variables as variables
-use Rattle.go_exprs_variables.specs.Variables.{Standin, Standins, ends_at, at_hole, may_be_constant, expresses, Free, AllFree, NameFree, PartsFree, FirstFree, Stays, FirstStays, ProperNode, Proper, AllProper, FitsAt, Fits, AllFit, WillFit}
-use Rattle.go_exprs_variables.proofs.Trees.{retyped_label, inside_kept}
-use Rattle.go_exprs_variables.proofs.Same.{Kept, AllKept, kept_free}
-use Rattle.go_exprs_variables.proofs.Away.{Away, Clear, AllClear, clear_away, all_away_inside}
-use Rattle.go_exprs_variables.proofs.Expressing.{not_constant, expressed, form_unheld}
+use Rattle.go_exprs_variables.specs.Variables.{Standins, may_be_constant, Free, AllFree}
+use Rattle.go_exprs_variables.proofs.Trees.{retyped_label}
+use Rattle.go_exprs_variables.proofs.Same.{Kept, kept_free}
+use Rattle.go_exprs_variables.proofs.Away.{Away, Clear, AllClear, clear_away}
+use Rattle.go_exprs_variables.proofs.Expressing.{not_constant}
 
 -- ---- rows of parts
 

@@ -1,11 +1,10 @@
 -- What parts are told where variables stand in the parts in front of them.
-use Rattle.std.proofs.Common.{◌≡◌, ◌∙◌, ◌⊎◌, inl, inr, ℕ, Bool, true, false, List, [], ◌∷◌, Option, Some, None, refl, sym, ap, subst}
-use Rattle.std.specs.Prelude.{◌&&◌, ◌||◌, not, if◌then◌else◌, is_some}
+use Rattle.std.proofs.Common.{◌≡◌, ◌∙◌, ℕ, Bool, true, false, [], ◌∷◌, Option, Some, None, refl, sym, ap, subst}
+use Rattle.std.specs.Prelude.{◌||◌, if◌then◌else◌, is_some}
 use Rattle.go_grammar.specs.declared.kind.Kind.{Kind}
 use Rattle.go_grammar.specs.declared.kind.Kind.TheVariants as kind
 use Rattle.go_grammar.specs.Trees.{Tree, Trees, kind_of}
 use Rattle.go_types.specs.Trees.{TypeTree, boolean}
-use Rattle.go_types.specs.Relations.{Rights}
 use Rattle.go_typed.specs.declared.form.Form.{Form}
 use Rattle.go_typed.specs.declared.form.Form.TheVariants as form
 use Rattle.go_typed.specs.Trees.{Sort, Label, Typed, typed, Typeds, sort_of, form_of}
@@ -13,8 +12,7 @@ use Rattle.go_typed.specs.Trees as sort
 use Rattle.go_exprs_rules.specs.Scopes.{Scope, Hint, value, type_place}
 use Rattle.go_exprs_rules.specs.Settling.{Part, settled}
 use Rattle.go_exprs_rules.specs.Sorts.{Stands, is_open, own_type, named_type, retyped}
-use Rattle.go_exprs_rules.specs.Tables.{Parts, hint, is_held, is_make, argument_told, call_told, told_type, element_told, composite_told}
-use Rattle.go_exprs_rules.specs.TypeNodes.{part_type}
+use Rattle.go_exprs_rules.specs.Tables.{Parts, hint, is_held, is_make, call_told, told_type, element_told, composite_told}
 use Rattle.clone_window.specs.Masses.{is_hole, is_inside}
 use Rattle.clone_window.specs.Masses as masses
 use Rattle.go_exprs_variables.specs.Variables.{Standin, Standins, StandsIn, at_hole, put_over, put, all_put, wanted, all_wanted, first_wanted, put_with, begun, all_begun, all_with_variables, with_variables}
@@ -23,8 +21,8 @@ use Rattle.go_exprs_variables.proofs.Agreeing.{EachAgrees}
 use Rattle.go_exprs_variables.proofs.Begun.{hole_constant, there}
 use Rattle.go_exprs_variables.proofs.Expressing.{is_asking}
 use Rattle.go_exprs_variables.proofs.Operands.{keys_kept, settled_sort}
-use Rattle.go_exprs_variables.proofs.Trees.{Agrees, AllAgree, plain_sort, put_key}
-use Rattle.go_exprs_variables.proofs.Induction.{walks, new_part, news, told}
+use Rattle.go_exprs_variables.proofs.Trees.{Agrees, put_key}
+use Rattle.go_exprs_variables.proofs.Induction.{walks, news, told}
 
 module _ (w : Standins) where
   -- What a tree stands for with variables in it: the same, or it asked for a type or was constant, and has a type.
@@ -61,7 +59,7 @@ module _ (w : Standins) where
       retyped_typed t b e = cc
   turned_typed t b c e (to_value m n) = to_value (ap (λ z. z || masses.is_constant b) e) n
 
-  wants_open : (a : Bool) (x : Part) (t : TypeTree) → wanted w a x ≡ Some t → is_open (sort_of x) ≡ true
+  pub wants_open : (a : Bool) (x : Part) (t : TypeTree) → wanted w a x ≡ Some t → is_open (sort_of x) ≡ true
   wants_open a (typed f i j l ps) t e = by_test (is_open l.sort) (first_wanted (at_hole w (is_hole a f l) i) (all_wanted w (is_inside a f l) ps)) e
     where
       by_test : (b : Bool) (o : Option TypeTree) → (if b then o else None) ≡ Some t → b ≡ true

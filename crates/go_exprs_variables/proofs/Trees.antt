@@ -128,7 +128,7 @@ module _ (w : Standins) (t : TypeTree) where
   abbrev keyed_over : ℕ → ℕ → ℕ → Label TypeTree → Typeds TypeTree → Part
   keyed_over n i j l qs = typed (form.Keyed n) i j (record { sort = first_sort l.sort qs; varies = varies_over l.varies qs; calls = l.calls }) qs
 
-  key_settled : (n i j : ℕ) (l : Label TypeTree) (x : Part) → settled t (keyed_over n i j l (sort.more x sort.none)) ≡ keyed_over n i j l (sort.more (settled t x) sort.none)
+  pub key_settled : (n i j : ℕ) (l : Label TypeTree) (x : Part) → settled t (keyed_over n i j l (sort.more x sort.none)) ≡ keyed_over n i j l (sort.more (settled t x) sort.none)
   key_settled n i j l (typed g k m r qs) = by_test (takes_type r.sort) refl
     where
       x : Part

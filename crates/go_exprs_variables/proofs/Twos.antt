@@ -1,30 +1,25 @@
 -- Operators with two operands: from the node that fits to its operands, and the step.
-use Rattle.std.proofs.Common.{◌≡◌, ◌∙◌, ◌⊎◌, inl, inr, ℕ, Bool, true, false, [], ◌∷◌, ◌++◌, Option, Some, None, refl, sym, ap, subst}
-use Rattle.std.specs.Prelude.{◌&&◌, ◌||◌, not, if◌then◌else◌, is_some}
+use Rattle.std.proofs.Common.{◌≡◌, ◌∙◌, ℕ, true, false, [], ◌∷◌, Option, Some, None, refl, sym, ap, subst}
+use Rattle.std.specs.Prelude.{◌&&◌, if◌then◌else◌, is_some}
 use Rattle.go_base.specs.declared.fault.FaultCode.TheVariants as code
-use Rattle.go_constants.specs.declared.values.Const.{Const}
 use Rattle.go_constants.specs.declared.values.Const.TheVariants as const
 use Rattle.go_grammar.specs.declared.kind.Arithmetic.{Arithmetic}
-use Rattle.go_grammar.specs.declared.kind.Comparison.{Comparison}
 use Rattle.go_grammar.specs.declared.kind.Kind.TheVariants as kind
 use Rattle.go_grammar.specs.declared.kind.Operator.{Operator}
 use Rattle.go_grammar.specs.declared.kind.Operator.TheVariants as operator
 use Rattle.go_types.specs.Trees.{TypeTree}
-use Rattle.go_types.specs.Relations.{Rights}
-use Rattle.go_types_relations.specs.Tests.{underlying_of, is_assignable}
 use Rattle.go_typed.specs.declared.form.Form.TheVariants as form
 use Rattle.go_typed.specs.Trees.{Sort, Label, typed, Typeds, sort_of, label_of, row}
 use Rattle.go_typed.specs.Trees as sort
-use Rattle.go_exprs_rules.specs.declared.fault.TypeFault.{TypeFault}
 use Rattle.go_exprs_rules.specs.declared.family.Family.TheVariants as family
 use Rattle.go_exprs_rules.specs.declared.family.OpenKind.{OpenKind}
 use Rattle.go_exprs_rules.specs.declared.family.OpenKind.TheVariants as untyped_kind
 use Rattle.go_exprs_rules.specs.Faults.{fault_at, or_else}
-use Rattle.go_exprs_rules.specs.Operators.{Common, in_type, in_kind, type_in, own, own_by, family_in, result_in, value_in, open_value, constant_op, folded_both, comparing, binary_value, out_of_range, is_count, shift_failing, shift_failing_in, shift_sort, shift_sort_in, shifted_take, is_shift, operation_failing, operation_sort, operation_takes, open_kinds, common, common_by, binary_failing, binary_failing_in, binary_sort, binary_take}
+use Rattle.go_exprs_rules.specs.Operators.{Common, in_type, in_kind, own, family_in, result_in, value_in, constant_op, binary_value, out_of_range, is_count, shift_failing, shift_failing_in, shift_sort, shift_sort_in, shifted_take, is_shift, operation_failing, operation_sort, operation_takes, open_kinds, common, common_by, binary_failing, binary_failing_in, binary_sort, binary_take}
 use Rattle.go_exprs_rules.specs.Scopes.{Scope, Hint}
-use Rattle.go_exprs_rules.specs.Settling.{Part, settled, all_settled, unrepresented, stay, default, as_type}
-use Rattle.go_exprs_rules.specs.Sorts.{Stands, kind_of_untyped, kind_of_const, is_constant, is_open, is_unknown, is_whole, is_family, is_negative, takes_type, open_kind, own_type, constant_of, family_of_open, suits, uint}
-use Rattle.go_exprs_rules.specs.Tables.{Parts, is_judged, is_type, label, made, built, own_faults, all_given}
+use Rattle.go_exprs_rules.specs.Settling.{Part, settled, unrepresented, stay, default, as_type}
+use Rattle.go_exprs_rules.specs.Sorts.{Stands, kind_of_untyped, kind_of_const, is_constant, is_open, is_unknown, is_family, takes_type, open_kind, own_type, constant_of, suits, uint}
+use Rattle.go_exprs_rules.specs.Tables.{Parts, is_judged, is_type, label, built, own_faults, all_given}
 use Rattle.clone_window.specs.Masses as masses
 use Rattle.go_exprs_variables.specs.Operands.{IsValue}
 use Rattle.go_exprs_variables.specs.Variables as variables
@@ -35,11 +30,10 @@ use Rattle.go_exprs_variables.proofs.BinarySteps.{IsPlain, plain_failing, plain_
 use Rattle.go_exprs_variables.proofs.Identities.{tree_self}
 use Rattle.go_exprs_variables.proofs.NodeSteps.{parts_fit, parts_fit_later, stands_made, rule_of}
 use Rattle.go_exprs_variables.proofs.Operands.{Ready, Fitting, closed_so, open_so}
-use Rattle.go_exprs_variables.proofs.Parts.{neither, holds}
-use Rattle.go_exprs_variables.proofs.Ready.{Facts}
+use Rattle.go_exprs_variables.proofs.Parts.{holds}
 use Rattle.go_exprs_variables.proofs.Shifts.{and_true}
 use Rattle.go_exprs_variables.proofs.ShiftSteps.{shift_step}
-use Rattle.go_exprs_variables.proofs.Waits.{plain_tests, known_first, known_sort, judged, Waits, part_waits, will_of}
+use Rattle.go_exprs_variables.proofs.Waits.{plain_tests, known_first, known_sort, judged, Waits, part_waits}
 use Rattle.go_exprs_variables.proofs.Ones.{left_of}
 
 module _ (w : Standins) (s : Scope) (h : Hint) (i j : ℕ) where

@@ -17,7 +17,7 @@ use Rattle.go_exprs_rules.specs.declared.family.OpenKind.TheVariants as untyped_
 use Rattle.go_exprs_rules.specs.declared.fault.TypeFault.{TypeFault}
 use Rattle.go_exprs_rules.specs.Faults.{fault_at}
 use Rattle.go_exprs_rules.specs.Operators.{Common, in_type, in_kind, signed_const, complement_mask, result_in, sign_family, unary_failing, unary_sort}
-use Rattle.go_exprs_rules.specs.Sorts.{Stands, is_family, is_constant, is_unknown, family_of_open, open_kind, suits, kind_of_untyped, kind_of_const}
+use Rattle.go_exprs_rules.specs.Sorts.{Stands, is_family, family_of_open, open_kind, suits, kind_of_untyped, kind_of_const}
 pub use Rattle.go_exprs_variables.specs.Operands.{IsValue}
 use Rattle.go_exprs_variables.specs.Stood.{Stood, as_before, in_place, early}
 use Rattle.go_exprs_variables.proofs.Families.{suited}

@@ -1,6 +1,6 @@
 -- From a node that fits to a part that waits for its type with the node.
-use Rattle.std.proofs.Common.{◌≡◌, ◌∙◌, ℕ, Bool, true, false, [], ◌∷◌, ◌++◌, Option, Some, None, refl, sym, ap, subst}
-use Rattle.std.specs.Prelude.{◌&&◌, ◌||◌, not, if◌then◌else◌, is_some}
+use Rattle.std.proofs.Common.{◌≡◌, ◌∙◌, ℕ, Bool, true, false, [], ◌∷◌, Option, Some, None, refl, sym, ap}
+use Rattle.std.specs.Prelude.{◌&&◌, ◌||◌, not, is_some}
 use Rattle.std.specs.List.{list_any}
 use Rattle.go_grammar.specs.declared.kind.Kind.{Kind}
 use Rattle.go_grammar.specs.declared.kind.Kind.TheVariants as kind
@@ -9,23 +9,19 @@ use Rattle.go_types.specs.Relations.{Rights}
 use Rattle.go_typed.specs.declared.form.Form.{Form}
 use Rattle.go_typed.specs.Trees.{Sort, Label, typed, Typeds, sort_of}
 use Rattle.go_typed.specs.Trees as sort
-use Rattle.go_exprs_rules.specs.declared.fault.TypeFault.{TypeFault}
 use Rattle.go_exprs_rules.specs.declared.family.OpenKind.{OpenKind}
 use Rattle.go_exprs_rules.specs.Scopes.{Scope, Hint}
 use Rattle.go_exprs_rules.specs.Settling.{Part, settled, unrepresented, all_unrepresented}
 use Rattle.go_exprs_rules.specs.Sorts.{Stands, is_constant, is_open, is_unknown, open_kind, suits, family_of_open}
 use Rattle.go_exprs_rules.specs.Tables.{Parts, is_judged, is_lost, is_placed, is_sound, own_faults, no_faults, built_by, built_on}
 use Rattle.clone_window.specs.Masses as masses
-use Rattle.go_exprs_variables.specs.Operands.{IsValue}
 use Rattle.go_exprs_variables.specs.Variables as variables
 use Rattle.go_exprs_variables.specs.Variables.{Standins, expresses, wanted, begun, Fits, WillFit}
 use Rattle.go_exprs_variables.proofs.Holes.{never_unknown}
 use Rattle.go_exprs_variables.proofs.Identities.{tree_self}
 use Rattle.go_exprs_variables.proofs.Meeting.{by_family}
-use Rattle.go_exprs_variables.proofs.NodeSteps.{parts_fit, parts_fit_later, stands_made}
-use Rattle.go_exprs_variables.proofs.Operands.{Ready, Fitting, closed_so, open_so}
+use Rattle.go_exprs_variables.proofs.NodeSteps.{parts_fit, parts_fit_later}
 use Rattle.go_exprs_variables.proofs.Parts.{both_none}
-use Rattle.go_exprs_variables.proofs.ShiftSteps.{Left, left_closed, left_open}
 
 -- ---- tests
 

@@ -5,3 +5,4 @@ pub mod Operands
 pub mod Rules
 pub mod Variables
 pub mod Trees
+pub mod WorkedExpressions

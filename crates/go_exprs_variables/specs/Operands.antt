@@ -1,5 +1,5 @@
 -- Operands with variables in them, in the rules that ask for a constant.
-use Rattle.std.specs.Prelude.{◌≡◌, Bool, false, List, [], ◌∷◌, Option, Some, None}
+use Rattle.std.specs.Prelude.{◌≡◌, false, List, [], ◌∷◌, Option, Some, None}
 use Rattle.go_types.specs.Trees.{TypeTree, TypeRow}
 use Rattle.go_types.specs.Trees as types
 use Rattle.go_types.specs.Relations.{Rights}

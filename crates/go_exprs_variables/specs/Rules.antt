@@ -1,5 +1,5 @@
 -- Rules that fail of no operands with variables in them that they didn't fail of with constants: one statement for each.
-use Rattle.std.specs.Prelude.{◌≡◌, ℕ, Bool, true, false, ◌&&◌, List, [], ◌∷◌, Option, Some, None}
+use Rattle.std.specs.Prelude.{◌≡◌, ℕ, Bool, false, ◌&&◌, List, [], ◌∷◌, Option, Some, None}
 use Rattle.std.specs.Option.{option_map}
 use Rattle.go_grammar.specs.declared.kind.Comparison.{Comparison}
 use Rattle.go_grammar.specs.declared.kind.Operator.{Operator}

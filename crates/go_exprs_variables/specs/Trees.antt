@@ -1,8 +1,8 @@
 -- Trees with variables in them: what is known of them apart from the kinds of their nodes.
-use Rattle.std.specs.Prelude.{◌≡◌, ℕ, Bool, true, false, ◌&&◌}
+use Rattle.std.specs.Prelude.{◌≡◌, ℕ, true, false, ◌&&◌}
 use Rattle.go_grammar.specs.declared.kind.Category.{Category}
 use Rattle.go_grammar.specs.declared.kind.Kind.{Kind}
-use Rattle.go_grammar.specs.Trees.{Tree, node, Trees, kind_of}
+use Rattle.go_grammar.specs.Trees.{Tree, node, Trees}
 use Rattle.go_typed.specs.Trees.{sort_of, label_of}
 use Rattle.go_exprs_rules.specs.Scopes.{Scope, Hint}
 use Rattle.go_exprs_rules.specs.Sorts.{is_constant}

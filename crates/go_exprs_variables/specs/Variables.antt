@@ -1,11 +1,12 @@
 -- Expressions in which variables stand in place of constants, and what is typed then.
-use Rattle.std.specs.Prelude.{◌≡◌, ℕ, Bool, true, false, ◌&&◌, ◌||◌, nat_eq, if◌then◌else◌, List, [], Option, Some, None}
+use Rattle.std.specs.Prelude.{◌≡◌, ℕ, Bool, true, false, ◌&&◌, ◌||◌, not, nat_eq, if◌then◌else◌, List, [], Option, Some, None, is_some}
 use Rattle.std.specs.List.{list_all}
 use Rattle.go_grammar.specs.declared.kind.Category.{Category}
 use Rattle.go_grammar.specs.declared.kind.Kind.{Kind}
 use Rattle.go_grammar.specs.declared.kind.Kind.TheVariants as kind
 use Rattle.go_grammar.specs.Trees.{Tree, node, Trees, none, more, skip, kind_of}
 use Rattle.go_tree.specs.declared.object.Object.TheVariants as object
+use Rattle.go_tree.specs.declared.object.Predeclared.TheVariants as predeclared
 use Rattle.go_types.specs.Trees.{TypeTree}
 use Rattle.go_types.specs.Relations.{Rights}
 use Rattle.go_typed.specs.declared.form.Form.{Form}
@@ -107,21 +108,10 @@ abbrev pub FirstStays : Standins → Trees → Type 0
 FirstStays w (more p ps) = Stays w p
 FirstStays w ps = Unit {0}
 
--- calls and composite literals
-abbrev pub is_calling : Kind → Bool
-is_calling kind.Call = true
-is_calling kind.Composite = true
-is_calling kind.LiteralValue = true
-is_calling k = false
-
--- A constant in parentheses is a constant with them, and selectors are on structs and the package. No variable stands in a call or a
--- composite literal that isn't constant itself.
+-- A constant in parentheses is a constant with them, and selectors are on structs and the package.
 abbrev pub PartsFree : Standins → Kind → Trees → Type 0
 PartsFree w kind.Parenthesized ps = FirstStays w ps
 PartsFree w kind.Selector ps = FirstStays w ps
-PartsFree w kind.Call ps = AllFree w ps
-PartsFree w kind.Composite ps = AllFree w ps
-PartsFree w kind.LiteralValue ps = AllFree w ps
 PartsFree w kind.SequenceType ps = AllFree w ps
 PartsFree w kind.FunctionType ps = AllFree w ps
 PartsFree w kind.StructType ps = AllFree w ps
@@ -135,7 +125,7 @@ ProperNode false w k i ps rest = NameFree w k i × PartsFree w k ps × rest
 
 abbrev mutual
   -- Variables stand in place of expressions alone: not in types, nor in place of keys, nor of what stands in parentheses, nor of what
-  -- a selector is on; and none stands in calls and composite literals.
+  -- a selector is on.
   pub Proper : Standins → Tree → Type 0
   Proper w (node k i j ps) = ProperNode (may_be_constant k && ends_at (w i) j) w k i ps (AllProper w ps)
 
@@ -232,10 +222,36 @@ pub record IsFit (v : Standin) (a : Bool) (f : Form) (j : ℕ) (l : Label TypeTr
 abbrev pub FitsAt : Standins → Bool → Form → ℕ → ℕ → Label TypeTree → Type 0
 FitsAt w a f i j l = (v : Standin) → w i ≡ Some v → (ends_at (Some v) j || is_hole a f l) ≡ true → IsFit v a f j l
 
+abbrev pub is_extreme : Stands → Bool
+is_extreme (sort.Builtin predeclared.Min) = true
+is_extreme (sort.Builtin predeclared.Max) = true
+is_extreme s = false
+
+abbrev pub are_constant : Typeds TypeTree → Bool
+are_constant sort.none = true
+are_constant (sort.more p ps) = is_constant (sort_of p) && are_constant ps
+are_constant (sort.skip ps) = are_constant ps
+
+-- a call of `min` or `max` of constants that isn't constant itself, since the result lies beyond untyped numbers
+abbrev pub is_unfolded : Form → Stands → Typeds TypeTree → Bool
+is_unfolded form.Call s (sort.more f ps) = is_extreme (sort_of f) && are_constant ps && not (is_constant s)
+is_unfolded f s ps = false
+
 abbrev mutual
-  -- In a typed tree whose nodes have their final types variables stand at holes alone, and nothing is unknown.
+  -- whether a variable stands at a hole of the tree, which may stand inside a constant expression
+  pub has_variable : Standins → Bool → Part → Bool
+  has_variable w a (typed f i j l ps) = is_some (at_hole w (is_hole a f l) i) || any_variable w (is_inside a f l) ps
+
+  pub any_variable : Standins → Bool → Typeds TypeTree → Bool
+  any_variable w a sort.none = false
+  any_variable w a (sort.more p ps) = has_variable w a p || any_variable w a ps
+  any_variable w a (sort.skip ps) = any_variable w a ps
+
+abbrev mutual
+  -- In a typed tree whose nodes have their final types variables stand at holes alone, and nothing is unknown. None stands among
+  -- constants of which the least or the greatest isn't constant.
   pub Fits : Standins → Bool → Part → Type 0
-  Fits w a (typed f i j l ps) = FitsAt w a f i j l × (is_unknown l.sort ≡ false) × AllFit w (is_inside a f l) ps
+  Fits w a (typed f i j l ps) = FitsAt w a f i j l × ((is_unknown l.sort || (is_unfolded f l.sort ps && any_variable w (is_inside a f l) ps)) ≡ false) × AllFit w (is_inside a f l) ps
 
   pub AllFit : Standins → Bool → Typeds TypeTree → Type 0
   AllFit w a sort.none = Unit {0}
@@ -279,6 +295,7 @@ expresses kind.Composite = true
 expresses kind.LiteralValue = true
 expresses k = false
 
-abbrev pub VariablesOutsideCalls : Type 0
-VariablesOutsideCalls = (w : Standins) (s t : Scope) (h : Hint) (c : Category) (x : Tree)
+-- With variables in place of its holes an expression without faults is typed the same, with that change alone, and no rule fails.
+abbrev pub ExpressionsTyped : Type 0
+ExpressionsTyped = (w : Standins) (s t : Scope) (h : Hint) (c : Category) (x : Tree)
     → IsShaped c x → expresses (kind_of x) ≡ true → is_naming h ≡ false → StandsIn w s t → Proper w x → no_rule_fails (faults s h x) ≡ true → WillFit s.rights w false (typing s h x) → IsTypedWithVariables w s t h x

@@ -4,7 +4,8 @@ ghost use Rattle.go_exprs_variables.specs.Rules.{UnaryKept, BinaryKept, ShiftKep
 ghost use Rattle.go_exprs_variables.specs.Rules.{ConversionKept, LengthKept, OpenLengthKept, MakeKept, AppendKept, CopyKept, PrintedKept, ExtremeKept};
 ghost use Rattle.go_exprs_variables.specs.Rules.{AssignmentKept, ElementsKept, OrderedKept, KeyedKept, PlaceKept};
 ghost use Rattle.go_exprs_variables.specs.Trees.{HolesTyped, FreeTyped, ConstantsTyped, ConstantsAreQuiet};
-ghost use Rattle.go_exprs_variables.specs.Variables.{VariablesOutsideCalls};
+ghost use Rattle.go_exprs_variables.specs.Variables.{ExpressionsTyped};
+ghost use Rattle.go_exprs_variables.specs.WorkedExpressions.{WorkedExpressions};
 
 /// An operation with one operand stands for what it stood for, or for a value of the type that it takes later.
 pub fn unary_operators()
@@ -122,7 +123,11 @@ pub fn constants_are_quiet()
 {}
 
 /// The law on expressions: with variables in place of holes an expression is typed the same, with that change alone, and no rule fails.
-/// No hole stands in a call or in a composite literal that isn't a hole itself.
-pub fn variables_outside_calls()
-    ensures { VariablesOutsideCalls }
+pub fn expressions_are_typed()
+    ensures { ExpressionsTyped }
+{}
+
+/// Worked expressions, lexed and parsed.
+pub fn worked_expressions()
+    ensures { WorkedExpressions }
 {}

@@ -18,7 +18,8 @@
 //!   that of a value, which converts where the constant did;
 //! - `len` and `cap`: the length of a constant text is the hole, and that of an array asks for its type and for calls, and a
 //!   constant calls nothing;
-//! - `min` and `max`: arguments meet one after the other, and the variable has the type in which all meet;
+//! - `min` and `max`: arguments meet one after the other, and the variable has the type in which all meet; no variable stands among
+//!   constants alone whose result isn't constant, since it lies beyond untyped numbers, as then the others are judged by its type;
 //! - values that are given to variables, arguments, elements, results: the variable has the type that the constant took;
 //! - places: a variable is a value wherever a constant is.
 //!

@@ -81,7 +81,7 @@ module _ (ts : List TokenKind) where
       let g = names_go xs (suc (suc i)) j rest s.1.1 in
       ((i, refl, (s.0, refl), (refl, (s.1.0, refl), refl, refl), g.0), g.1)
 
-  names_spelled : (xs : List (List ℕ)) (i j : ℕ) (rest : List Lexeme) → Words ts i (words (behind_name xs rest)) j
+  pub names_spelled : (xs : List (List ℕ)) (i j : ℕ) (rest : List Lexeme) → Words ts i (words (behind_name xs rest)) j
       → Spells ts (Many [] named) i (names_behind i xs) (names_end i xs) × Words ts (names_end i xs) (words rest) j
   names_spelled [] i j rest s = ((i, refl, refl), s)
   names_spelled (x ∷ xs) i j rest s =
@@ -122,7 +122,7 @@ module _ (ts : List TokenKind) where
     between : (i : ℕ) → IsAt ts i token.Semicolon → Between ts l i (suc i)
     gap : (i : ℕ) → Gap ts l i i
 
-  no_word : (i : ℕ) → Only ts token.Semicolon i i
+  pub no_word : (i : ℕ) → Only ts token.Semicolon i i
   no_word i = record { order = omega arith; each = λ k a b. absurd (omega arith) }
 
   separated : (l : Items) → AreStatements l → Separated l
@@ -175,11 +175,11 @@ arguments_spelled : (gs : List Argument) (rest : List Lexeme) → ArgumentsCanBe
 arguments_spelled [] rest h o a = a
 arguments_spelled (x ∷ gs) rest h o a = argument_spelled x (further_lexemes gs rest) h.0 (further_open gs rest o) (further_spelled gs rest h.1 o a)
 
-names_open : (xs : List (List ℕ)) (rest : List Lexeme) → AreOpen rest → AreOpen (behind_name xs rest)
+pub names_open : (xs : List (List ℕ)) (rest : List Lexeme) → AreOpen rest → AreOpen (behind_name xs rest)
 names_open [] rest o = o
 names_open (x ∷ xs) rest o = comma_open _
 
-names_are : (xs : List (List ℕ)) (rest : List Lexeme) → AreNames xs → AreOpen rest → AreWords rest → AreWords (behind_name xs rest)
+pub names_are : (xs : List (List ℕ)) (rest : List Lexeme) → AreNames xs → AreOpen rest → AreWords rest → AreWords (behind_name xs rest)
 names_are [] rest h o a = a
 names_are (x ∷ xs) rest h o a = (marks.comma, apart_before (codes ",") 32 [] blank_free, (h.0, (names_open xs rest o).by (chars x), names_are xs rest h.1 o a))
 
@@ -232,7 +232,7 @@ arguments_written [] rest = refl
 arguments_written (a ∷ gs) rest =
     argument_written a (further_lexemes gs rest) ∙ ap (λ l. argument_text a ++ l) (further_written gs rest) ∙ sym (append_assoc (argument_text a) (marked (codes ", ") (map argument_text gs)) (written rest))
 
-names_written : (xs : List (List ℕ)) (rest : List Lexeme) → written (behind_name xs rest) ≡ marked (codes ", ") xs ++ written rest
+pub names_written : (xs : List (List ℕ)) (rest : List Lexeme) → written (behind_name xs rest) ≡ marked (codes ", ") xs ++ written rest
 names_written [] rest = refl
 names_written (x ∷ xs) rest = ap (λ l. 44 ∷ 32 ∷ l) (ap (λ l. x ++ l) (names_written xs rest) ∙ sym (append_assoc x (marked (codes ", ") xs) (written rest)))
 
@@ -278,7 +278,7 @@ arguments_end_line : (gs : List Argument) (b : Bool) → ends_line b (arguments_
 arguments_end_line [] b = refl
 arguments_end_line (a ∷ gs) b = argument_ends a b (further_lexemes gs (closing ∷ [])) ∙ further_ends gs true
 
-names_end_line : (xs : List (List ℕ)) (b : Bool) (rest : List Lexeme) → ends_line b (behind_name xs (blank ∷ rest)) ≡ ends_line false rest
+pub names_end_line : (xs : List (List ℕ)) (b : Bool) (rest : List Lexeme) → ends_line b (behind_name xs (blank ∷ rest)) ≡ ends_line false rest
 names_end_line [] b rest = refl
 names_end_line (x ∷ xs) b rest = names_end_line xs true rest
 

@@ -108,7 +108,7 @@ module _ (name : ℕ → List ℕ) where
   parameters_spelled (n ∷ ns) (more t us) rest h w o a =
       (h.0, apart_before (chars n) 32 [] blank_free, type_spelled name t (further_parameters name ns us rest) w.0 (further_open ns us rest o) (further_spelled ns us rest h.1 w.1 o a))
 
-  header_spelled : (h : Header) → HeaderCanBeWritten name h → AreWords (header_lexemes name h [])
+  pub header_spelled : (h : Header) → HeaderCanBeWritten name h → AreWords (header_lexemes name h [])
   header_spelled h w =
       let results = result_lexemes name h.results [] in (
         marks.func,
@@ -147,7 +147,7 @@ module _ (name : ℕ → List ℕ) where
       ap (λ l. n ++ (32 ∷ l)) (type_written name t (further_parameters name ns us rest) ∙ ap (λ l. type_text name t ++ l) (further_written ns us rest))
       ∙ further_regroup n (type_text name t) (marked (codes ", ") (named ns (row_texts name us))) (written rest)
 
-  header_written : (h : Header) (rest : List Lexeme) → written (header_lexemes name h rest) ≡ header_text name h ++ written rest
+  pub header_written : (h : Header) (rest : List Lexeme) → written (header_lexemes name h rest) ≡ header_text name h ++ written rest
   header_written h rest = ap (λ l. codes "func " ++ l)
       (ap (λ l. h.function ++ (40 ∷ l))
       (parameters_written h.parameters h.types (closing ∷ result_lexemes name h.results rest) ∙ ap (λ l. listed (named h.parameters (row_texts name h.types)) ++ (41 ∷ l)) (results_written name h.results rest))
@@ -160,12 +160,12 @@ module _ (name : ℕ → List ℕ) where
   further_ends (n ∷ ns) none b rest = refl
   further_ends (n ∷ ns) (more t us) b rest = type_ends name t false (further_parameters name ns us (closing ∷ rest)) ∙ further_ends ns us true rest
 
-  parameters_end_line : (ns : List (List ℕ)) (us : TypeRow) (b : Bool) (rest : List Lexeme) → ends_line b (parameter_lexemes name ns us (closing ∷ rest)) ≡ ends_line true rest
+  pub parameters_end_line : (ns : List (List ℕ)) (us : TypeRow) (b : Bool) (rest : List Lexeme) → ends_line b (parameter_lexemes name ns us (closing ∷ rest)) ≡ ends_line true rest
   parameters_end_line [] us b rest = refl
   parameters_end_line (n ∷ ns) none b rest = refl
   parameters_end_line (n ∷ ns) (more t us) b rest = type_ends name t false (further_parameters name ns us (closing ∷ rest)) ∙ further_ends ns us true rest
 
-  header_derives : (h : Header) (next : List TokenKind) → EndsHere next
+  pub header_derives : (h : Header) (next : List TokenKind) → EndsHere next
       → Derives (words (header_lexemes name h []) ++ next) category.Declaration (header_tree 0 h) × (last (header_tree 0 h) ≡ length (words (header_lexemes name h [])))
   header_derives h next e =
       let ws = words (header_lexemes name h []) in

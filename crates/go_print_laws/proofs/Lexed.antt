@@ -22,7 +22,7 @@ use Rattle.go_tokens.specs.Lexing.{join, width, span, token, inserted, is_token_
 use Rattle.go_tokens.specs.Tokens.{kinds}
 use Rattle.go_tokens.specs.Encoding.{IsText, is_plain, are_allowed}
 use Rattle.go_tokens.specs.Replacing.{read, semicolon, items}
-use Rattle.go_tokens.specs.Editing.{IsAmong, IsWritten, all_apart, has_no_line, is_comment_line}
+use Rattle.go_tokens.specs.Editing.{IsAmong, IsWritten, Stands, all_apart, has_no_line, is_comment_line}
 use Rattle.go_rewriting.specs.Rewriting.{own, is_written}
 use Rattle.go_print_laws.specs.Lexemes.{Lexeme, word, blank, pieces, words, tokens_of, IsWord, AreWords, begins_with_word, ends_line}
 use Rattle.go_print_laws.specs.Standing.{TextStands}
@@ -235,7 +235,7 @@ encoded_are (word k bs p ∷ ls) a =
     encodes-append p (join (pieces ls)) ∙ ap (λ l. l ++ encode_utf8_all (join (pieces ls))) a.0.encoded ∙ ap (λ l. bs ++ l) (encoded_are ls a.2)
 encoded_are (blank ∷ ls) a = ap (λ l. 32 ∷ l) (encoded_are ls a)
 
-scalars-append : (xs ys : List ℕ) → all_scalars xs ≡ true → all_scalars ys ≡ true → all_scalars (xs ++ ys) ≡ true
+pub scalars-append : (xs ys : List ℕ) → all_scalars xs ≡ true → all_scalars ys ≡ true → all_scalars (xs ++ ys) ≡ true
 scalars-append [] ys h k = k
 scalars-append (x ∷ xs) ys h k = let b = both _ (all_scalars xs) h in and_both _ _ b.0 (scalars-append xs ys b.1 k)
 
@@ -244,7 +244,7 @@ all_scalars_are [] a = refl
 all_scalars_are (word k bs p ∷ ls) a = scalars-append p (join (pieces ls)) a.0.scalars (all_scalars_are ls a.2)
 all_scalars_are (blank ∷ ls) a = all_scalars_are ls a
 
-plain-append : (xs ys : List ℕ) → list_all is_plain xs ≡ true → list_all is_plain ys ≡ true → list_all is_plain (xs ++ ys) ≡ true
+pub plain-append : (xs ys : List ℕ) → list_all is_plain xs ≡ true → list_all is_plain ys ≡ true → list_all is_plain (xs ++ ys) ≡ true
 plain-append [] ys h k = k
 plain-append (x ∷ xs) ys h k = let b = both (is_plain x) _ h in and_both (is_plain x) _ b.0 (plain-append xs ys b.1 k)
 
@@ -312,3 +312,19 @@ words_stand file ls a first_is last_is =
       kinds_are = own_words file ls a;
       closes = last.closes;
     }
+
+-- A text that stands alone, with its bytes and its tokens, wherever it stands in a file.
+pub record Part (file : ℕ) (bytes : List ℕ) (ws : List TokenKind) : Type 0 where
+  pub text : List ℕ
+  pub scalars : all_scalars text ≡ true
+  pub plain : list_all is_plain text ≡ true
+  pub encoded : encode_utf8_all text ≡ bytes
+  pub stands : Stands file text
+  pub kinds_are : kinds (own stands.tokens) ≡ ws
+  pub closes : ends_statement_kind stands.spans.last.kind ≡ true
+
+pub words_part : (file : ℕ) (ls : List Lexeme) → AreWords ls → begins_with_word ls ≡ true → ends_line false ls ≡ true → Part file (written ls) (words ls)
+unfolding words_stand
+words_part file ls a first_is last_is =
+    let t = words_stand file ls a first_is last_is in
+    record { text = t.text; scalars = all_scalars_are ls a; plain = all_plain ls a; encoded = encoded_are ls a; stands = t.stands; kinds_are = t.kinds_are; closes = t.closes }

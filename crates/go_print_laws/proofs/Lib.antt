@@ -18,3 +18,7 @@ pub mod Constants
 pub mod Called
 pub mod Headed
 pub mod Named
+pub mod Bodied
+pub mod Skeletons
+pub mod Functioned
+pub mod Copies

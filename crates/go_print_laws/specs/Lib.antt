@@ -6,4 +6,5 @@ pub mod Literals
 pub mod Reading
 pub mod Calls
 pub mod Headers
+pub mod Functions
 pub mod Examples

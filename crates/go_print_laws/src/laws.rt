@@ -6,7 +6,13 @@ ghost use Rattle.go_print_laws.specs.Literals.{LiteralsStand};
 ghost use Rattle.go_print_laws.specs.Reading.{TypesReadBack, LiteralsReadBack};
 ghost use Rattle.go_print_laws.specs.Calls.{CallsStand};
 ghost use Rattle.go_print_laws.specs.Headers.{HeadersStand};
+ghost use Rattle.go_print_laws.specs.Functions.{CopiesStand, FunctionsStand};
 ghost use Rattle.go_print_laws.specs.Examples.{Examples};
+
+use go_rewriting::laws::{
+    copied_items_stand, excerpts_stand, ranges_end_well, rewritten_tokens, run_stands_elsewhere,
+    statements_stand_in_both, texts_end_well,
+};
 
 /// A name in a file is one that texts can be written with.
 pub fn names_are_names()
@@ -44,6 +50,26 @@ pub fn calls_stand()
 pub fn headers_stand()
     ensures { HeadersStand }
 {}
+
+/// A function of a header, of statements whose text stands by itself, and of a return of names, is a declaration with the tree that is
+/// written down for it, and may be appended to a file.
+pub fn functions_stand()
+    ensures { FunctionsStand }
+{
+    rewritten_tokens();
+    run_stands_elsewhere();
+}
+
+/// Statements that are all of a part of a text stand by themselves, with the comments among them; so they may be copied into a function.
+pub fn copies_stand()
+    ensures { CopiesStand }
+{
+    excerpts_stand();
+    copied_items_stand();
+    texts_end_well();
+    ranges_end_well();
+    statements_stand_in_both();
+}
 
 /// Worked texts.
 pub fn examples()

@@ -19,10 +19,12 @@ use Rattle.go_heads.specs.Heads.{File}
 use Rattle.go_heads.specs.Locals.{AreNamed}
 use Rattle.go_heads.specs.Objects.{units_of}
 use Rattle.go_heads.specs.Tokens.{function_files}
-use Rattle.go_scopes_bodies.specs.Faults.{own_asked, own_misplaced, own_second_defaults, own_second_members, own_hidden_lists, own_second_declarations, own_none_new, own_undeclared, own_outside_names, own_outside_members, own_not_called, own_initialisers, own_unused, shared, outside_asked, all_asked, outside_declared, outer_in, GoesByFunctions, own_faults, NothingFailsOutside, IsFaultlessByFunctions, FaultsAreThoseOfFunctions}
+use Rattle.go_scopes_bodies.specs.Faults.{own_asked, own_misplaced, own_second_defaults, own_second_members, own_hidden_lists, own_second_declarations, own_none_new, own_undeclared, own_outside_names, own_outside_members, own_not_called, own_initialisers, own_unused, own_cycles, shared, outside_asked, all_asked, outside_declared, outer_in, GoesByFunctions, own_faults, NothingFailsOutside, IsFaultlessByFunctions, FaultsAreThoseOfFunctions}
 use Rattle.go_scopes_bodies.specs.Meant.{Outer}
 use Rattle.go_scopes_bodies.specs.Outside.{outside_units}
+use Rattle.go_scopes_bodies.proofs.Cycles.{cycles_by_functions}
 use Rattle.go_scopes_bodies.proofs.Each.{by_functions}
+use Rattle.go_scopes_bodies.proofs.EnoughRounds.{BoundRounds}
 use Rattle.go_scopes_bodies.proofs.Initial.{initialisers_by_functions}
 use Rattle.go_scopes_bodies.proofs.Lists.{none_left, none_right, none_both}
 use Rattle.go_scopes_bodies.proofs.Lookups.{undeclared_by_functions, outside_names_by_functions, outside_members_by_functions, not_called_by_functions}
@@ -93,6 +95,7 @@ record HasNone (a : Alone) (outer : Outer) : Type 0 where
   members : own_second_members a ≡ []
   defaults : own_second_defaults a ≡ []
   lists : own_hidden_lists a ≡ []
+  cycles : own_cycles a outer ≡ []
 
 own_to : (a : Alone) (outer : Outer) → own_faults a outer ≡ [] → HasNone a outer
 own_to a outer e =
@@ -102,7 +105,9 @@ own_to a outer e =
     let b : List Failure = failing code.Branch (own_misplaced a) in
     let d : List Failure = failing code.Duplicate (own_second_members a ++ own_second_defaults a) in
     let h : List Failure = failing code.Outside (own_hidden_lists a) in
-    let e5 = none_left ((((r ++ l) ++ u) ++ b) ++ d) h e in
+    let c : List Failure = failing code.Cycle (own_cycles a outer) in
+    let e6 = none_left (((((r ++ l) ++ u) ++ b) ++ d) ++ h) c e in
+    let e5 = none_left ((((r ++ l) ++ u) ++ b) ++ d) h e6 in
     let e4 = none_left (((r ++ l) ++ u) ++ b) d e5 in
     let e3 = none_left ((r ++ l) ++ u) b e4 in
     let e2 = none_left (r ++ l) u e3 in
@@ -116,7 +121,8 @@ own_to a outer e =
       branches = of_code code.Branch (own_misplaced a) (none_right ((r ++ l) ++ u) b e4);
       members = none_left (own_second_members a) (own_second_defaults a) last;
       defaults = none_right (own_second_members a) (own_second_defaults a) last;
-      lists = of_code code.Outside (own_hidden_lists a) (none_right ((((r ++ l) ++ u) ++ b) ++ d) h e);
+      lists = of_code code.Outside (own_hidden_lists a) (none_right ((((r ++ l) ++ u) ++ b) ++ d) h e6);
+      cycles = of_code code.Cycle (own_cycles a outer) (none_right (((((r ++ l) ++ u) ++ b) ++ d) ++ h) c e);
     }
 
 own_from : (a : Alone) (outer : Outer) → HasNone a outer → own_faults a outer ≡ []
@@ -126,7 +132,9 @@ own_from a outer h =
     let u : List Failure = failing code.UnusedVariable (own_unused a outer) in
     let b : List Failure = failing code.Branch (own_misplaced a) in
     let d : List Failure = failing code.Duplicate (own_second_members a ++ own_second_defaults a) in
-    none_both ((((r ++ l) ++ u) ++ b) ++ d) (failing code.Outside (own_hidden_lists a))
+    let o : List Failure = failing code.Outside (own_hidden_lists a) in
+    none_both (((((r ++ l) ++ u) ++ b) ++ d) ++ o) (failing code.Cycle (own_cycles a outer))
+    (none_both ((((r ++ l) ++ u) ++ b) ++ d) o
     (none_both (((r ++ l) ++ u) ++ b) d
     (none_both ((r ++ l) ++ u) b
     (none_both (r ++ l) u
@@ -134,7 +142,8 @@ own_from a outer h =
     (to_code code.UnusedVariable (own_unused a outer) h.used))
     (to_code code.Branch (own_misplaced a) h.branches))
     (to_code code.Duplicate (own_second_members a ++ own_second_defaults a) (none_both (own_second_members a) (own_second_defaults a) h.members h.defaults)))
-    (to_code code.Outside (own_hidden_lists a) h.lists)
+    (to_code code.Outside (own_hidden_lists a) h.lists))
+    (to_code code.Cycle (own_cycles a outer) h.cycles)
 
 -- what no fault of a package is
 record NoneFails (us : List names.Unit) (ds : List Found) (asks : List Asked) : Type 0 where
@@ -256,9 +265,10 @@ record AreJudged (fs : List File) : Type 0 where
   members : GoesByFunctions fs (λ n f. own_second_members (function_alone f)) (of_files (second_members []) 0 (outside_units fs)) (of_files (second_members []) 0 (units_of fs))
   defaults : GoesByFunctions fs (λ n f. own_second_defaults (function_alone f)) (of_files second_defaults 0 (outside_units fs)) (of_files second_defaults 0 (units_of fs))
   lists : GoesByFunctions fs (λ n f. own_hidden_lists (function_alone f)) (hidden_lists (outside_units fs)) (hidden_lists (units_of fs))
+  cycles : GoesByFunctions fs (λ n f. own_cycles (function_alone f) (outer_in fs n)) (cycles (all_asked fs) (length (declarations (units_of fs)) + length (declarations (units_of fs))) (shared (declarations (units_of fs)))) (cycles (all_asked fs) (length (declarations (units_of fs)) + length (declarations (units_of fs))) (declarations (units_of fs)))
 
-are_judged : (fs : List File) → AreRead fs → AreNamed fs → AreJudged fs
-are_judged fs h g = record {
+are_judged : BoundRounds → (fs : List File) → AreRead fs → AreNamed fs → AreJudged fs
+are_judged law fs h g = record {
   once = by_functions fs (λ n f. own_second_declarations (function_alone f)) (second_declarations [] (shared (declarations (units_of fs)))) (second_declarations [] (declarations (units_of fs))) (declared_once_by_functions fs h);
   new = by_functions fs (λ n f. own_none_new (function_alone f)) (none_new (declarations (units_of fs)) (found (outside_units fs))) (none_new (declarations (units_of fs)) (found (units_of fs))) (none_new_by_functions fs h g);
   undeclared = by_functions fs (λ n f. own_undeclared (function_alone f) (outer_in fs n)) (undeclared (outside_asked fs)) (undeclared (all_asked fs)) (undeclared_by_functions fs h g);
@@ -271,6 +281,10 @@ are_judged fs h g = record {
   members = by_functions fs (λ n f. own_second_members (function_alone f)) (of_files (second_members []) 0 (outside_units fs)) (of_files (second_members []) 0 (units_of fs)) (members_by_functions fs h g);
   defaults = by_functions fs (λ n f. own_second_defaults (function_alone f)) (of_files second_defaults 0 (outside_units fs)) (of_files second_defaults 0 (units_of fs)) (second_defaults_by_functions fs h g);
   lists = by_functions fs (λ n f. own_hidden_lists (function_alone f)) (hidden_lists (outside_units fs)) (hidden_lists (units_of fs)) (lists_by_functions fs h g);
+  cycles =
+      let ds = declarations (units_of fs) in
+      let rounds = length ds + length ds in
+      by_functions fs (λ n f. own_cycles (function_alone f) (outer_in fs n)) (cycles (all_asked fs) rounds (shared ds)) (cycles (all_asked fs) rounds ds) (cycles_by_functions law fs h g);
 }
 
 module _ (fs : List File) (judged : AreJudged fs) (nothing : NothingFailsOutside fs) where
@@ -288,6 +302,7 @@ module _ (fs : List File) (judged : AreJudged fs) (nothing : NothingFailsOutside
       let members = judged.members.apart x.members in
       let defaults = judged.defaults.apart x.defaults in
       let lists = judged.lists.apart x.lists in
+      let circles = judged.cycles.apart x.cycles in
       record {
         outside = record {
           clauses = x.clauses;
@@ -296,10 +311,10 @@ module _ (fs : List File) (judged : AreJudged fs) (nothing : NothingFailsOutside
           imported_once = x.imported;
           lookups = looked_from (outside_asked fs) (record { undeclared = unknown.0; outside = outside.0; members = others.0; called = called.0; initial = initial.0 });
           members_once = members.0;
+          needs = circles.0;
         };
         imports = x.imports;
         statements = x.statements;
-        needs = x.cycles;
         functions =
             λ k n f e i.
             own_from (function_alone f) (outer_in fs n)
@@ -312,6 +327,7 @@ module _ (fs : List File) (judged : AreJudged fs) (nothing : NothingFailsOutside
               members = members.1 k n f e i;
               defaults = defaults.1 k n f e i;
               lists = lists.1 k n f e i;
+              cycles = circles.1 k n f e i;
             });
       }
 
@@ -340,11 +356,11 @@ module _ (fs : List File) (judged : AreJudged fs) (nothing : NothingFailsOutside
         defaults = judged.defaults.together nothing.defaults (λ k n f e i. (own k n f e i).defaults);
         statements = y.statements;
         lists = judged.lists.together nothing.lists (λ k n f e i. (own k n f e i).lists);
-        cycles = y.needs;
+        cycles = judged.cycles.together y.outside.needs (λ k n f e i. (own k n f e i).cycles);
       }
 
-pub faults_by_functions : (fs : List File) → AreRead fs → AreNamed fs → FaultsAreThoseOfFunctions fs
-faults_by_functions fs h g = record {
-  apart = λ e. apart fs (are_judged fs h g) (nothing_outside fs h) (package_to fs e);
-  together = λ y. package_from fs (together fs (are_judged fs h g) (nothing_outside fs h) y);
+pub faults_by_functions : BoundRounds → (fs : List File) → AreRead fs → AreNamed fs → FaultsAreThoseOfFunctions fs
+faults_by_functions law fs h g = record {
+  apart = λ e. apart fs (are_judged law fs h g) (nothing_outside fs h) (package_to fs e);
+  together = λ y. package_from fs (together fs (are_judged law fs h g) (nothing_outside fs h) y);
 }

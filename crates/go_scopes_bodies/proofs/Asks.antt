@@ -1,6 +1,6 @@
 -- The names that a list of events looks up, and what they mean.
-use Rattle.std.proofs.Common.{◌≡◌, ℕ, Bool, true, false, List, [], ◌∷◌, ◌++◌, Option, Some, None, refl, ap}
-use Rattle.std.specs.Prelude.{if◌then◌else◌, ◌&&◌}
+use Rattle.std.proofs.Common.{◌≡◌, ℕ, ◌<◌, ◌≤◌, ◌⊎◌, inl, Bool, true, false, List, [], ◌∷◌, ◌++◌, Option, Some, None, refl, ap}
+use Rattle.std.specs.Prelude.{if◌then◌else◌, ◌&&◌, nat_eq}
 use Rattle.go_tokens.specs.Spellings.{same_text}
 use Rattle.go_tokens.specs.Tokens.{TokenList}
 use Rattle.go_tree.specs.declared.event.Event.{Event}
@@ -11,7 +11,8 @@ use Rattle.go_tree.specs.Lookups.{asked, asked_in}
 use Rattle.go_tree.specs.Meanings.{Meaning, covering, is_innermost, innermost_of, meaning_at}
 use Rattle.go_tree.specs.Units.{word, is_blank}
 use Rattle.go_scopes_events.specs.Scopes.{is_local, locals_of, first_by, inner, over, inmost}
-use Rattle.go_heads.proofs.Public.{Every}
+use Rattle.go_scopes_events.specs.Sited.{EachUsed}
+use Rattle.go_heads.proofs.Public.{Every, NamesIn}
 
 pub asked_both : (ms : List Meaning) (n : ℕ) (l : TokenList) (es fs : List Event) → asked_in ms n l (es ++ fs) ≡ asked_in ms n l es ++ asked_in ms n l fs
 asked_both ms n l [] fs = refl
@@ -22,6 +23,35 @@ asked_both ms n l (event.Use u ∷ es) fs = by (is_blank (word l u.name)) (asked
     by true e = e
     by false e = ap (λ xs. asked ms n l u ∷ xs) e
 asked_both ms n l (e ∷ es) fs = asked_both ms n l es fs
+
+-- ---- names outside of a part of a file
+
+-- outside of the tokens from a up to z of the file n
+abbrev pub IsOutOf : ℕ → ℕ → ℕ → ℕ → ℕ → Type 0
+IsOutOf n a z j y = (nat_eq n j ≡ false) ⊎ ((y < a) ⊎ (z ≤ y))
+
+module _ (n a z : ℕ) where
+  pub other_out : (j : ℕ) (es : List Event) → nat_eq n j ≡ false → EachUsed (λ u. IsOutOf n a z j u.name) es
+  other_out j [] e = tt
+  other_out j (event.Use u ∷ es) e = (inl e, other_out j es e)
+  other_out j (event.Declaration d ∷ es) e = other_out j es e
+  other_out j (event.Import i ∷ es) e = other_out j es e
+  other_out j (event.Member m o i ∷ es) e = other_out j es e
+  other_out j (event.Bodiless i k ∷ es) e = other_out j es e
+  other_out j (event.Statement i k ∷ es) e = other_out j es e
+  other_out j (event.Misplaced i k ∷ es) e = other_out j es e
+  other_out j (event.SecondDefault i ∷ es) e = other_out j es e
+
+  pub names_out : (lo hi : ℕ) (es : List Event) → ((y : ℕ) → lo ≤ y → y < hi → IsOutOf n a z n y) → NamesIn lo hi es → EachUsed (λ u. IsOutOf n a z n u.name) es
+  names_out lo hi [] q g = tt
+  names_out lo hi (event.Use u ∷ es) q g = (q u.name g.0 g.1, names_out lo hi es q g.2)
+  names_out lo hi (event.Declaration d ∷ es) q g = names_out lo hi es q g.2
+  names_out lo hi (event.Import i ∷ es) q g = names_out lo hi es q g
+  names_out lo hi (event.Member m o i ∷ es) q g = names_out lo hi es q g
+  names_out lo hi (event.Bodiless i k ∷ es) q g = names_out lo hi es q g
+  names_out lo hi (event.Statement i k ∷ es) q g = names_out lo hi es q g
+  names_out lo hi (event.Misplaced i k ∷ es) q g = names_out lo hi es q g
+  names_out lo hi (event.SecondDefault i ∷ es) q g = names_out lo hi es q g
 
 -- ---- what holds of each meaning, holds of the one that a name has
 
@@ -56,7 +86,7 @@ module _ (Q : Meaning → Type 0) where
       by true false e g = g
       by false c e g = g
 
-  over_each : (n t : ℕ) (w : List ℕ) (o : Option Meaning) (m : Meaning) → Holds Q o → Q m → Holds Q (over n t w o m)
+  pub over_each : (n t : ℕ) (w : List ℕ) (o : Option Meaning) (m : Meaning) → Holds Q o → Q m → Holds Q (over n t w o m)
   over_each n t w o m h g = by (same_text m.name w && covers m.extent n t) o h
     where
       choose : (b : Bool) (a : Meaning) → Q a → Holds Q (if b then Some a else Some m)

@@ -26,3 +26,9 @@ mod Derived
 mod Stays
 mod Counted
 mod Imported
+mod HeldNeeds
+mod EnoughRounds
+mod FunctionParts
+mod Sources
+mod OwnNeeds
+mod Cycles

@@ -1,9 +1,8 @@
--- What a tree tells of names lies in the tree: statements, groups, the lists of constants and the ends of selectors.
+-- What a tree tells of names lies in the tree: statements, groups, the specifications that names stand in and the ends of selectors.
 use Rattle.std.proofs.Common.{◌≡◌, ℕ, zero, suc, ◌<◌, ◌≤◌, Bool, true, false, List, [], ◌∷◌, ◌++◌, Option, Some, None, arith}
 use Rattle.std.specs.Prelude.{if◌then◌else◌, nat_eq, nat_lt, ◌||◌}
 use Rattle.go_grammar.specs.declared.kind.Kind.{Kind}
 use Rattle.go_grammar.specs.declared.kind.Kind.TheVariants as kind
-use Rattle.go_grammar.specs.declared.kind.Sort.{Sort}
 use Rattle.go_grammar.specs.declared.kind.Sort.TheVariants as sort
 use Rattle.go_grammar.specs.Trees.{Tree, node, Trees, none, more, skip, kind_of, first, last, parts}
 use Rattle.go_grammar.specs.Grammar.{is_name, ends_named, count}
@@ -16,11 +15,9 @@ use Rattle.go_tree.specs.declared.context.Role.TheVariants as role
 use Rattle.go_tree.specs.declared.context.Scope.{Scope}
 use Rattle.go_tree.specs.declared.context.Site.{Site}
 use Rattle.go_tree.specs.declared.context.Site.TheVariants as site
-use Rattle.go_tree.specs.declared.context.Entity.TheVariants as entity
 use Rattle.go_tree.specs.declared.event.Event.{Event}
 use Rattle.go_tree.specs.declared.event.Event.TheVariants as event
-use Rattle.go_tree.specs.Constants.{list_by, list_of, list_at}
-use Rattle.go_tree.specs.Contexts.{is_there, opens, block_in, role_in, group_in, site_in, specification_in, source_in, source_of, source_at, own_source, has_values, value_site, element_site, length_site, column_site, is_called, entity_of, specified, defined, ranged, called_in, if_name, if_first, field_role, key_role, parameter_role, entry_role, enter}
+use Rattle.go_tree.specs.Contexts.{is_there, opens, block_in, role_in, group_in, site_in, specification_in, source_of, source_at, has_values, value_site, element_site, length_site, column_site, is_called, specified, defined, ranged, called_in, if_name, if_first, field_role, key_role, parameter_role, entry_role, enter}
 use Rattle.go_tree.specs.Events.{name_events, own_events, statement_events, function_events, declaration_events, misplaced, is_default, default_events, second_defaults, is_more, pass, begin, events, events_of}
 use Rattle.go_tree.specs.Redeclared.{is_by_define}
 use Rattle.go_tree.specs.Views.{part_at}
@@ -35,6 +32,13 @@ block_later : (b : Block) (i k : ℕ) → i ≤ k → BlockBefore b i → BlockB
 block_later block.Package i k le h = tt
 block_later (block.Local x) i k le h = omega (arith, le, h)
 
+-- the specification, or the function, in which a name stands that is looked up
+abbrev pub site_token : Site → Option ℕ
+site_token site.Elsewhere = None
+site_token (site.Type s) = Some s
+site_token (site.Value s column alone) = Some s
+site_token (site.Right s reach) = Some s
+
 name_behind : (k : Kind) (i : ℕ) → i ≤ behind_name k i
 name_behind kind.FunctionDeclaration i = omega arith
 name_behind (kind.Specification sort.Type) i = omega arith
@@ -43,14 +47,14 @@ name_behind kind.Name i = omega arith
 name_behind k i = omega arith
 
 module _ (lo hi : ℕ) where
-  -- the list of constants lies in the tree
+  -- the specification lies in the tree
   abbrev pub ListLies : Option ℕ → Type 0
   ListLies None = Unit {0}
   ListLies (Some s) = (lo ≤ s) × (s < hi)
 
   -- what a role speaks of lies in the tree; the name stands in the block b, from the token i on
   abbrev pub RoleLies : Block → ℕ → Role → Type 0
-  RoleLies b i (role.New d) = (lo ≤ d.statement) × (d.statement ≤ i) × BlockBefore b d.statement × ListLies (list_by d.entity d.source)
+  RoleLies b i (role.New d) = (lo ≤ d.statement) × (d.statement ≤ i) × BlockBefore b d.statement × ListLies d.source
   RoleLies b i (role.Selected to called) = (lo < to) × (to ≤ hi)
   RoleLies b i (role.Field g) = (lo ≤ g) × (g ≤ i)
   RoleLies b i (role.Key g) = (lo ≤ g) × (g ≤ i)
@@ -62,8 +66,8 @@ module _ (lo hi : ℕ) where
   GroupLies i (Some g) = (lo ≤ g) × (g ≤ i)
 
   abbrev pub EventLies : Event → Type 0
-  EventLies (event.Use u) = RoleLies block.Package u.name u.role × ListLies (list_at u.site)
-  EventLies (event.Declaration d) = (lo ≤ d.statement) × (d.statement ≤ d.name) × (is_by_define d.manner ≡ true → BlockBefore d.block d.statement) × ListLies (list_of d)
+  EventLies (event.Use u) = RoleLies block.Package u.name u.role × ListLies (site_token u.site)
+  EventLies (event.Declaration d) = (lo ≤ d.statement) × (d.statement ≤ d.name) × (is_by_define d.manner ≡ true → BlockBefore d.block d.statement) × ListLies d.source
   EventLies (event.Member m g x) = (lo ≤ g) × (g ≤ x) × (x < hi)
   EventLies e = Unit {0}
 
@@ -101,7 +105,7 @@ module _ (lo hi : ℕ) where
   abbrev AsUsed : ℕ → Role → Type 0
   AsUsed i r = RoleLies block.Package i r
 
-  name_lies : (c : Context) (i : ℕ) (r : Role) → RoleLies c.block i r → AsUsed i c.role → ListLies (list_at c.site) → i < hi → AllLie (name_events c i r)
+  name_lies : (c : Context) (i : ℕ) (r : Role) → RoleLies c.block i r → AsUsed i c.role → ListLies (site_token c.site) → i < hi → AllLie (name_events c i r)
   name_lies c i (role.New d) h u s lt = ((h.0, h.1, λ e. h.2, h.3), tt)
   name_lies c i (role.Field g) h u s lt = ((h.0, h.1, lt), tt)
   name_lies c i (role.Key g) h u s lt = ((h.0, h.1, lt), tt)
@@ -136,17 +140,17 @@ module _ (lo hi : ℕ) where
   second_lies b (more p ps) =
       lie_append (default_events (is_default (kind_of p)) b (first p)) (second_defaults (b || is_default (kind_of p)) ps) (default_lies (is_default (kind_of p)) b (first p)) (second_lies (b || is_default (kind_of p)) ps)
 
-  function_lies : (i j : ℕ) (b : Bool) → lo ≤ i → AllLie (function_events i j b)
-  function_lies i j true from = ((from, omega arith, λ e. cc, tt), tt)
-  function_lies i j false from = ((from, omega arith, λ e. cc, tt), (tt, tt))
+  function_lies : (i j : ℕ) (b : Bool) → lo ≤ i → i < hi → AllLie (function_events i j b)
+  function_lies i j true from lt = ((from, omega arith, λ e. cc, (from, lt)), tt)
+  function_lies i j false from lt = ((from, omega arith, λ e. cc, (from, lt)), (tt, tt))
 
-  declaration_lies : (i j : ℕ) (ps : Trees) → lo ≤ i → AllLie (declaration_events i j ps)
-  declaration_lies i j ps from = elim (nat_lt i j) as (λ b. AllLie (if b then function_events i j (is_there (part_at ps 1)) else [])) [ true ↦ function_lies i j (is_there (part_at ps 1)) from | false ↦ tt ]
+  declaration_lies : (i j : ℕ) (ps : Trees) → lo ≤ i → i < hi → AllLie (declaration_events i j ps)
+  declaration_lies i j ps from lt = elim (nat_lt i j) as (λ b. AllLie (if b then function_events i j (is_there (part_at ps 1)) else [])) [ true ↦ function_lies i j (is_there (part_at ps 1)) from lt | false ↦ tt ]
 
-  own_lies : (c : Context) (k : Kind) (i j : ℕ) (ps : Trees) → lo ≤ i → i < j → j ≤ hi → RoleLies c.block i c.role → ListLies (list_at c.site) → AllLie (own_events c k i j ps)
+  own_lies : (c : Context) (k : Kind) (i j : ℕ) (ps : Trees) → lo ≤ i → i < j → j ≤ hi → RoleLies c.block i c.role → ListLies (site_token c.site) → AllLie (own_events c k i j ps)
   own_lies c kind.ImportPath i j ps from lt to r s = (tt, tt)
-  own_lies c kind.FunctionDeclaration i j ps from lt to r s = declaration_lies i j ps from
-  own_lies c (kind.Specification sort.Type) i j ps from lt to r s = ((from, omega arith, λ e. cc, tt), tt)
+  own_lies c kind.FunctionDeclaration i j ps from lt to r s = declaration_lies i j ps from (omega (arith, lt, to))
+  own_lies c (kind.Specification sort.Type) i j ps from lt to r s = ((from, omega arith, λ e. cc, (from, omega (arith, lt, to))), tt)
   own_lies c kind.DeclaredName i j ps from lt to r s = name_lies c i c.role r (as_used c.block i c.role r) s (omega (arith, lt, to))
   own_lies c kind.Name i j ps from lt to r s = name_lies c i c.role r (as_used c.block i c.role r) s (omega (arith, lt, to))
   own_lies c kind.Switch i j ps from lt to r s = second_lies false ps
@@ -188,7 +192,7 @@ module _ (lo hi : ℕ) where
   part_role : (c : Context) (k : Kind) (i j : ℕ) (named : Bool) (n : ℕ) (p : Tree) (x : ℕ) → lo ≤ i → i ≤ x → i < j → j ≤ hi → BlockBefore c.block i → RoleLies c.block i c.role → GroupLies i c.group → ListLies c.source
       → RoleLies (block_in c k i) x (role_in c k i j named n p)
   part_role c (kind.Specification sort.Constant) i j named n p x from le lt to b r g s = first_lies c.block x n (role.New (specified c sort.Constant i j)) (from, le, b, s)
-  part_role c (kind.Specification sort.Variable) i j named n p x from le lt to b r g s = first_lies c.block x n (role.New (specified c sort.Variable i j)) (from, le, b, tt)
+  part_role c (kind.Specification sort.Variable) i j named n p x from le lt to b r g s = first_lies c.block x n (role.New (specified c sort.Variable i j)) (from, le, b, s)
   part_role c kind.Define i j named n p x from le lt to b r g s = first_lies c.block x n (role.New (defined c i j)) (from, le, b, tt)
   part_role c kind.DefiningRange i j named n p x from le lt to b r g s = first_lies c.block x n (role.New (ranged c i j)) (from, le, b, tt)
   part_role c kind.NameList i j named n p x from le lt to b r g s = role_later c.block i x c.role le r
@@ -213,29 +217,29 @@ module _ (lo hi : ℕ) where
   part_group c kind.Parameters i x from le g = (from, le)
   part_group c k i x from le g = group_later i x c.group le g
 
-  -- the lists that a context speaks of
+  -- the specifications that a context speaks of
   abbrev pub ListsLie : Context → Type 0
-  ListsLie c = ListLies (list_at c.site) × ListLies c.specification × ListLies c.source
+  ListsLie c = ListLies (site_token c.site) × ListLies c.specification × ListLies c.source
 
-  value_lies : (o : Option ℕ) (alone : Bool) → ListLies o → ListLies (list_at (value_site o alone))
+  value_lies : (o : Option ℕ) (alone : Bool) → ListLies o → ListLies (site_token (value_site o alone))
   value_lies None alone h = tt
   value_lies (Some s) alone h = h
 
-  element_lies : (b : Bool) (s : Site) → ListLies (list_at s) → ListLies (list_at (element_site b s))
+  element_lies : (b : Bool) (s : Site) → ListLies (site_token s) → ListLies (site_token (element_site b s))
   element_lies true s h = h
-  element_lies false (site.Right d reach.Direct) h = tt
+  element_lies false (site.Right d reach.Direct) h = h
   element_lies false s h = h
 
-  length_lies : (s : Site) → ListLies (list_at s) → ListLies (list_at (length_site s))
-  length_lies (site.Right d r) h = tt
+  length_lies : (s : Site) → ListLies (site_token s) → ListLies (site_token (length_site s))
+  length_lies (site.Right d r) h = h
   length_lies s h = h
 
-  column_lies : (n : ℕ) (s : Site) → ListLies (list_at s) → ListLies (list_at (column_site n s))
+  column_lies : (n : ℕ) (s : Site) → ListLies (site_token s) → ListLies (site_token (column_site n s))
   column_lies n (site.Value d m alone) h = h
   column_lies n s h = h
 
-  part_site : (c : Context) (k : Kind) (i : ℕ) (ps : Trees) (n : ℕ) (p : Tree) → lo ≤ i → i < hi → ListsLie c → ListLies (list_at (site_in c k i ps n p))
-  part_site c (kind.Specification sort.Type) i ps n p from lt h = tt
+  part_site : (c : Context) (k : Kind) (i : ℕ) (ps : Trees) (n : ℕ) (p : Tree) → lo ≤ i → i < hi → ListsLie c → ListLies (site_token (site_in c k i ps n p))
+  part_site c (kind.Specification sort.Type) i ps n p from lt h = (from, lt)
   part_site c (kind.Specification sort.Constant) i ps n p from lt h = (from, lt)
   part_site c (kind.Specification sort.Variable) i ps n p from lt h = (from, lt)
   part_site c kind.Values i ps n p from lt h = value_lies c.specification (nat_eq (count (parts p)) 1) h.1

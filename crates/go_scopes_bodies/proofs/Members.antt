@@ -1,11 +1,10 @@
 -- That no field, key or parameter stands twice in its group: function by function.
-use Rattle.std.proofs.Common.{◌≡◌, ◌∙◌, ℕ, ◌+◌, ◌-◌, ◌<◌, ◌≤◌, Bool, false, List, [], ◌∷◌, ◌++◌, map, Some, refl, sym, ap, subst, append_assoc, arith}
-use Rattle.std.specs.Prelude.{◌&&◌, ◌||◌, not, nat_eq, slice_get}
+use Rattle.std.proofs.Common.{◌≡◌, ◌∙◌, ℕ, ◌+◌, ◌-◌, ◌<◌, ◌≤◌, Bool, false, List, [], ◌∷◌, ◌++◌, map, refl, sym, ap, subst, append_assoc, arith}
+use Rattle.std.specs.Prelude.{◌&&◌, ◌||◌, not, nat_eq}
 use Rattle.std.proofs.lemmas.Bool.Decides.{nat_tests}
 use Rattle.go_tokens.specs.Spellings.{same_text}
-use Rattle.go_tokens.specs.Tokens.{TokenList, kinds}
-use Rattle.go_grammar.specs.declared.kind.Category.TheVariants as category
-use Rattle.go_grammar.specs.Trees.{Tree, first, last, parts}
+use Rattle.go_tokens.specs.Tokens.{TokenList}
+use Rattle.go_grammar.specs.Trees.{first, last}
 use Rattle.go_tree.specs.declared.event.Event.{Event}
 use Rattle.go_tree.specs.declared.event.Event.TheVariants as event
 use Rattle.go_tree.specs.declared.event.Member.{Member}
@@ -13,21 +12,18 @@ use Rattle.go_tree.specs.declared.event.Member.TheVariants as member
 use Rattle.go_tree.specs.Contexts.{file_context}
 use Rattle.go_tree.specs.Duplicates.{same_member, has_member, is_duplicate, member_place, second_members}
 use Rattle.go_tree.specs.Failures.{place_if, of_files}
-use Rattle.go_tree.specs.Lists.{functions}
 use Rattle.go_tree.specs.Units.{Place, word, is_blank, bytes_at}
 use Rattle.go_scopes_events.specs.Moved.{moved_event}
-use Rattle.go_scopes_events.proofs.Public.{IsLaidOut, laid_grows, derives_laid}
 use Rattle.go_heads.specs.Bodies.{function_events}
-use Rattle.go_heads.specs.Functions.{Function, AreRead, Alone, alone, function_alone, functions_in}
-use Rattle.go_heads.specs.Heads.{File, IsRead, in_bodies}
+use Rattle.go_heads.specs.Functions.{Function, AreRead, Alone, alone, function_alone}
+use Rattle.go_heads.specs.Heads.{File}
 use Rattle.go_heads.specs.Locals.{AreNamed}
 use Rattle.go_heads.specs.Names.{own_text, no_place}
 use Rattle.go_heads.specs.Objects.{units_of}
-use Rattle.go_heads.specs.Told.{file_events}
 use Rattle.go_heads.proofs.Public.{eq_moved, texts_at}
 use Rattle.go_heads.proofs.Public as heads
 use Rattle.go_scopes_bodies.specs.Faults.{own_has_member, own_is_duplicate, second_members_by, own_second_members}
-use Rattle.go_scopes_bodies.specs.Outside.{outside_events, outside_units}
+use Rattle.go_scopes_bodies.specs.Outside.{outside_units}
 use Rattle.go_scopes_bodies.proofs.Apart.{LooksBack, BackRule, IsOwnBack, back_by_functions}
 use Rattle.go_scopes_bodies.proofs.Each.{Iff, EachOwn}
 use Rattle.go_scopes_bodies.proofs.Lists.{place_both, place_to, or_assoc, second_false}

@@ -4,7 +4,7 @@ use Rattle.std.specs.Prelude.{if◌then◌else◌, ◌&&◌, not, nat_eq}
 use Rattle.go_tokens.specs.Tokens.{TokenList, kinds}
 use Rattle.go_grammar.specs.Trees.{Tree, last, parts}
 use Rattle.go_tree.specs.Branches.{misplaced, statements}
-use Rattle.go_tree.specs.Constants.{list_of, is_list, is_hidden, is_repetition, hidden_lists_by, hidden_in}
+use Rattle.go_tree.specs.Constants.{list_of, is_list, is_hidden, hidden_lists_by, hidden_in}
 use Rattle.go_tree.specs.Contexts.{is_package}
 use Rattle.go_tree.specs.Declarations.{Found, found, found_in, is_new, new_among}
 use Rattle.go_tree.specs.declared.context.Block.{Block}
@@ -73,7 +73,7 @@ statements_none n l (event.SecondDefault i ∷ es) h = absurd h.0
 -- ---- names of the package
 
 -- a name of the package, which stands before no `:=`
-abbrev IsPlainName : Declaration → Type 0
+abbrev pub IsPlainName : Declaration → Type 0
 IsPlainName d = IsOuter d.block × (d.manner ≡ manner.Declared)
 
 not_counted : (e : Entity) (b : Block) (x : Bool) → IsOuter b → (is_counted e b && x) ≡ false
@@ -177,7 +177,7 @@ module _ (f : File) (r : IsRead f) where
 
 -- ---- files
 
-each_file : (rule : EventRule) → ((n : ℕ) (f : File) → IsRead f → rule n f.tokens (outside_events f) ≡ []) → (n : ℕ) (fs : List File) → AreRead fs → of_files rule n (outside_units fs) ≡ []
+pub each_file : (rule : EventRule) → ((n : ℕ) (f : File) → IsRead f → rule n f.tokens (outside_events f) ≡ []) → (n : ℕ) (fs : List File) → AreRead fs → of_files rule n (outside_units fs) ≡ []
 each_file rule one n [] h = refl
 each_file rule one n (f ∷ fs) h = none_both (rule n f.tokens (outside_events f)) (of_files rule (suc n) (outside_units fs)) (one n f h.0) (each_file rule one (suc n) fs h.1)
 

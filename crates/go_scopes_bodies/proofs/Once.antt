@@ -120,10 +120,10 @@ module _ (all : List File) where
   abbrev new_in : ℕ → TokenList → List Event → List Found
   new_in n l es = new_among among (found_in n l es)
 
-  abbrev locals_in : ℕ → TokenList → List Event → List Found
+  abbrev pub locals_in : ℕ → TokenList → List Event → List Found
   locals_in n l es = kept is_local (new_in n l es)
 
-  locals_both : (n : ℕ) (l : TokenList) (es fs : List Event) → locals_in n l (es ++ fs) ≡ locals_in n l es ++ locals_in n l fs
+  pub locals_both : (n : ℕ) (l : TokenList) (es fs : List Event) → locals_in n l (es ++ fs) ≡ locals_in n l es ++ locals_in n l fs
   locals_both n l es fs =
       ap (λ ds. kept is_local (new_among among ds)) (found_append n l es fs)
       ∙ ap (kept is_local) (new_append among (found_in n l es) (found_in n l fs))
@@ -142,7 +142,7 @@ module _ (all : List File) where
       by (block.Local i) h = absurd h
   shared_found n l (e ∷ es) h = shared_found n l es h
 
-  around_none : (n : ℕ) (l : TokenList) (es : List Event) → EachDeclared Shared es → locals_in n l es ≡ []
+  pub around_none : (n : ℕ) (l : TokenList) (es : List Event) → EachDeclared Shared es → locals_in n l es ≡ []
   around_none n l es h = none_kept (new_in n l es) (every_new (λ d. is_local d ≡ false) among (found_in n l es) (shared_found n l es h))
 
   blocks_found : (n : ℕ) (l : TokenList) (lo hi : ℕ) (es : List Event) → EachDeclared (λ d. In lo hi d.block) es → Every (λ d. (d.file ≡ n) × In lo hi d.it.block) (found_in n l es)

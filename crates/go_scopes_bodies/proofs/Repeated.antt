@@ -36,7 +36,7 @@ use Rattle.go_scopes_bodies.specs.Outside.{outside_units}
 use Rattle.go_scopes_bodies.proofs.Apart.{LooksBack, BackRule, IsOwnBack, back_by_functions}
 use Rattle.go_scopes_bodies.proofs.Each.{Iff, EachOwn}
 use Rattle.go_scopes_bodies.proofs.Lists.{place_both, place_to, first_false}
-use Rattle.go_scopes_bodies.proofs.Lying.{ListLies, AllLie}
+use Rattle.go_scopes_bodies.proofs.Lying.{site_token, ListLies, AllLie}
 use Rattle.go_scopes_bodies.proofs.Rules.{told_in}
 
 -- ---- where lists begin
@@ -89,10 +89,19 @@ list_from : (z lo hi : ℕ) (o : Option ℕ) → z ≤ lo → ListLies lo hi o �
 list_from z lo hi None le h = tt
 list_from z lo hi (Some s) le h = omega (arith, le, h.0)
 
+-- a list of constants lies where their specification does
+own_list : (lo hi : ℕ) (e : Entity) (o : Option ℕ) → ListLies lo hi o → ListLies lo hi (list_by e o)
+own_list lo hi entity.Constant o h = h
+own_list lo hi e o h = tt
+
+list_there : (lo hi : ℕ) (x : Site) → ListLies lo hi (site_token x) → ListLies lo hi (list_at x)
+list_there lo hi (site.Right s r) h = tt
+list_there lo hi x h = h
+
 lie_before : (lo hi : ℕ) (es : List Event) → AllLie lo hi es → ListsBefore hi es
 lie_before lo hi [] h = tt
-lie_before lo hi (event.Use u ∷ es) h = (around_before lo hi u.constant (list_at u.site) h.0.1, lie_before lo hi es h.1)
-lie_before lo hi (event.Declaration d ∷ es) h = (list_before lo hi (list_of d) h.0.3, lie_before lo hi es h.1)
+lie_before lo hi (event.Use u ∷ es) h = (around_before lo hi u.constant (list_at u.site) (list_there lo hi u.site h.0.1), lie_before lo hi es h.1)
+lie_before lo hi (event.Declaration d ∷ es) h = (list_before lo hi (list_of d) (own_list lo hi d.entity d.source h.0.3), lie_before lo hi es h.1)
 lie_before lo hi (event.Member m g x ∷ es) h = lie_before lo hi es h.1
 lie_before lo hi (event.Import i ∷ es) h = lie_before lo hi es h.1
 lie_before lo hi (event.Bodiless i j ∷ es) h = lie_before lo hi es h.1
@@ -102,7 +111,7 @@ lie_before lo hi (event.SecondDefault i ∷ es) h = lie_before lo hi es h.1
 
 lie_from : (z lo hi : ℕ) (es : List Event) → z ≤ lo → AllLie lo hi es → ListsFrom z es
 lie_from z lo hi [] le h = tt
-lie_from z lo hi (event.Declaration d ∷ es) le h = (list_from z lo hi (list_of d) le h.0.3, lie_from z lo hi es le h.1)
+lie_from z lo hi (event.Declaration d ∷ es) le h = (list_from z lo hi (list_of d) le (own_list lo hi d.entity d.source h.0.3), lie_from z lo hi es le h.1)
 lie_from z lo hi (event.Use u ∷ es) le h = lie_from z lo hi es le h.1
 lie_from z lo hi (event.Member m g x ∷ es) le h = lie_from z lo hi es le h.1
 lie_from z lo hi (event.Import i ∷ es) le h = lie_from z lo hi es le h.1

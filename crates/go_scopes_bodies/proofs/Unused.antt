@@ -52,7 +52,7 @@ use Rattle.go_heads.proofs.Public as heads
 use Rattle.go_scopes_bodies.specs.Faults.{outer_meaning, own_ask, asked_among, own_asked, own_unused, all_asked, outside_declared, outer_in}
 use Rattle.go_scopes_bodies.specs.Meant.{Outer, outer_of, own_local, own_meanings}
 use Rattle.go_scopes_bodies.specs.Outside.{outside_units}
-use Rattle.go_scopes_bodies.proofs.Asks.{asked_both, Holds, first_each, inmost_each, meaning_each}
+use Rattle.go_scopes_bodies.proofs.Asks.{asked_both, IsOutOf, other_out, names_out, Holds, first_each, inmost_each, meaning_each}
 use Rattle.go_scopes_bodies.proofs.Each.{Iff, EachOwn}
 use Rattle.go_scopes_bodies.proofs.Lists.{place_both, place_to, or_both, or_assoc, or_nothing, first_false, second_false, third_false}
 use Rattle.go_scopes_bodies.proofs.Once.{own_files}
@@ -163,7 +163,7 @@ order_back a i j (event.SecondDefault k ∷ es) h = order_back a i j es h
 
 -- ---- scopes end in their function
 
-abbrev EndsBy : ℕ → Declaration → Type 0
+abbrev pub EndsBy : ℕ → Declaration → Type 0
 EndsBy z d = is_package d.block ≡ false → d.scope.to ≤ z
 
 package_only : (i j z : ℕ) (b y : Bool) → EachDeclared (EndsBy z) (if b then declaring_events i j y else [])
@@ -182,7 +182,7 @@ node_ends e i j ps laid layered =
     ends d (inl le) = le
     ends d (inr x) = omega (arith, x.0)
 
-tree_ends : (ts : List TokenKind) (e : ℕ) (t : Tree) → is_function (kind_of t) ≡ true → Derives ts category.Declaration t → EachDeclared (EndsBy (last t)) (events (file_context e) t)
+pub tree_ends : (ts : List TokenKind) (e : ℕ) (t : Tree) → is_function (kind_of t) ≡ true → Derives ts category.Declaration t → EachDeclared (EndsBy (last t)) (events (file_context e) t)
 tree_ends ts e (node kind.FunctionDeclaration i j ps) f h =
     node_ends e i j ps (derives_laid ts (node kind.FunctionDeclaration i j ps) category.Declaration h) (derives_layered ts (node kind.FunctionDeclaration i j ps) category.Declaration h)
 tree_ends ts e (node k i j ps) f h = absurd (true_false false f refl)
@@ -210,7 +210,7 @@ within_found w a hi (event.Statement i j ∷ es) h g = within_found w a hi es h 
 within_found w a hi (event.Misplaced i j ∷ es) h g = within_found w a hi es h g
 within_found w a hi (event.SecondDefault i ∷ es) h g = within_found w a hi es h g
 
-uses_within : (a hi : ℕ) (es : List Event) → NamesIn a hi (map (moved_event a) es) → EachUsed (λ u. u.name < hi - a) es
+pub uses_within : (a hi : ℕ) (es : List Event) → NamesIn a hi (map (moved_event a) es) → EachUsed (λ u. u.name < hi - a) es
 uses_within a hi [] h = tt
 uses_within a hi (event.Use u ∷ es) h = (omega (arith, h.1), uses_within a hi es h.2)
 uses_within a hi (event.Declaration d ∷ es) h = uses_within a hi es h.2
@@ -221,22 +221,22 @@ uses_within a hi (event.Statement i j ∷ es) h = uses_within a hi es h
 uses_within a hi (event.Misplaced i j ∷ es) h = uses_within a hi es h
 uses_within a hi (event.SecondDefault i ∷ es) h = uses_within a hi es h
 
-unlike : (x y : ℕ) → y < x → nat_eq x y ≡ false
+pub unlike : (x y : ℕ) → y < x → nat_eq x y ≡ false
 unlike x y lt = grind (arith, nat_tests)
 
-unlike_too : (x y : ℕ) → x < y → nat_eq x y ≡ false
+pub unlike_too : (x y : ℕ) → x < y → nat_eq x y ≡ false
 unlike_too x y lt = grind (arith, nat_tests)
 
-not_from : (x y : ℕ) → y < x → nat_le x y ≡ false
+pub not_from : (x y : ℕ) → y < x → nat_le x y ≡ false
 not_from x y lt = grind (arith, nat_tests)
 
-not_before : (x y : ℕ) → y ≤ x → nat_lt x y ≡ false
+pub not_before : (x y : ℕ) → y ≤ x → nat_lt x y ≡ false
 not_before x y le = grind (arith, nat_tests)
 
 same_name : (n a i j : ℕ) → (nat_eq n n && nat_eq (a + i) (a + j)) ≡ true → i ≡ j
 same_name n a i j e = grind (arith, nat_tests)
 
-not_true : (b : Bool) → (b ≡ true → ⊥) → b ≡ false
+pub not_true : (b : Bool) → (b ≡ true → ⊥) → b ≡ false
 not_true true h = absurd (h refl)
 not_true false h = refl
 
@@ -254,7 +254,7 @@ counted_local entity.Variable block.Package h = cc
 counted_local entity.Variable (block.Local i) h = refl
 counted_local e b h = cc
 
-holds_map : (P R : Meaning → Type 0) (o : Option Meaning) → ((m : Meaning) → P m → R m) → Holds P o → Holds R o
+pub holds_map : (P R : Meaning → Type 0) (o : Option Meaning) → ((m : Meaning) → P m → R m) → Holds P o → Holds R o
 holds_map P R None f h = tt
 holds_map P R (Some m) f h = f m h
 
@@ -374,7 +374,7 @@ module _ (fs : List File) (h : AreRead fs) (n : ℕ) (f : Function) (lies : Lies
     -- ---- elsewhere
 
     abbrev IsOut : ℕ → ℕ → Type 0
-    IsOut j y = (nat_eq n j ≡ false) ⊎ ((y < a) ⊎ (last t ≤ y))
+    IsOut = IsOutOf n a (last t)
 
     uncovered : (j y : ℕ) → IsOut j y → covers there_extent j y ≡ false
     uncovered j y (inl e) = first_false (nat_eq n j) (nat_le (a + d.it.scope.from) y) (nat_lt y (a + d.it.scope.to)) e
@@ -403,28 +403,6 @@ module _ (fs : List File) (h : AreRead fs) (n : ℕ) (f : Function) (lies : Lies
     asks_out j ts (event.Statement i z ∷ es) g = asks_out j ts es g
     asks_out j ts (event.Misplaced i z ∷ es) g = asks_out j ts es g
     asks_out j ts (event.SecondDefault i ∷ es) g = asks_out j ts es g
-
-    other_out : (j : ℕ) (es : List Event) → nat_eq n j ≡ false → EachUsed (λ u. IsOut j u.name) es
-    other_out j [] e = tt
-    other_out j (event.Use u ∷ es) e = (inl e, other_out j es e)
-    other_out j (event.Declaration z ∷ es) e = other_out j es e
-    other_out j (event.Import i ∷ es) e = other_out j es e
-    other_out j (event.Member m o i ∷ es) e = other_out j es e
-    other_out j (event.Bodiless i z ∷ es) e = other_out j es e
-    other_out j (event.Statement i z ∷ es) e = other_out j es e
-    other_out j (event.Misplaced i z ∷ es) e = other_out j es e
-    other_out j (event.SecondDefault i ∷ es) e = other_out j es e
-
-    names_out : (lo hi : ℕ) (es : List Event) → ((y : ℕ) → lo ≤ y → y < hi → IsOut n y) → NamesIn lo hi es → EachUsed (λ u. IsOut n u.name) es
-    names_out lo hi [] q g = tt
-    names_out lo hi (event.Use u ∷ es) q g = (q u.name g.0 g.1, names_out lo hi es q g.2)
-    names_out lo hi (event.Declaration z ∷ es) q g = names_out lo hi es q g.2
-    names_out lo hi (event.Import i ∷ es) q g = names_out lo hi es q g
-    names_out lo hi (event.Member m o i ∷ es) q g = names_out lo hi es q g
-    names_out lo hi (event.Bodiless i z ∷ es) q g = names_out lo hi es q g
-    names_out lo hi (event.Statement i z ∷ es) q g = names_out lo hi es q g
-    names_out lo hi (event.Misplaced i z ∷ es) q g = names_out lo hi es q g
-    names_out lo hi (event.SecondDefault i ∷ es) q g = names_out lo hi es q g
 
     -- ---- in the function
 
@@ -504,10 +482,10 @@ module _ (fs : List File) (h : AreRead fs) (n : ℕ) (f : Function) (lies : Lies
         ap (λ es. is_used up (asked_in ms n l es)) lies.stands.whole
         ∙ ap (is_used up) (asked_both ms n l before (told ++ behind))
         ∙ used_both up (asked_in ms n l before) (asked_in ms n l (told ++ behind))
-        ∙ ap (λ b. b || is_used up (asked_in ms n l (told ++ behind))) (asks_out n l before (names_out 0 a before (λ y lo hi. inr (inl hi)) lies.stands.names_before))
+        ∙ ap (λ b. b || is_used up (asked_in ms n l (told ++ behind))) (asks_out n l before (names_out n a (last t) 0 a before (λ y lo hi. inr (inl hi)) lies.stands.names_before))
         ∙ ap (is_used up) (asked_both ms n l told behind)
         ∙ used_both up (asked_in ms n l told) (asked_in ms n l behind)
-        ∙ ap (λ b. is_used up (asked_in ms n l told) || b) (asks_out n l behind (names_out (last t) (last f.file.tree) behind (λ y lo hi. inr (inr lo)) lies.stands.names_behind))
+        ∙ ap (λ b. is_used up (asked_in ms n l told) || b) (asks_out n l behind (names_out n a (last t) (last t) (last f.file.tree) behind (λ y lo hi. inr (inr lo)) lies.stands.names_behind))
         ∙ or_nothing (is_used up (asked_in ms n l told))
         ∙ ap (λ es. is_used up (asked_in ms n l es)) told_same
         ∙ asks_in (function_events by_itself) (uses_within a (last t) (function_events by_itself) names_in)
@@ -517,7 +495,7 @@ module _ (fs : List File) (h : AreRead fs) (n : ℕ) (f : Function) (lies : Lies
     later_files j (g ∷ gs) lt =
         used_both up (asked_in ms j g.tokens (file_events g)) (asked_from ms (suc j) (units_of gs))
         ∙ or_both (is_used up (asked_in ms j g.tokens (file_events g))) (is_used up (asked_from ms (suc j) (units_of gs)))
-        (asks_out j g.tokens (file_events g) (other_out j (file_events g) (unlike_too n j lt))) (later_files (suc j) gs (omega (arith, lt)))
+        (asks_out j g.tokens (file_events g) (other_out n a (last t) j (file_events g) (unlike_too n j lt))) (later_files (suc j) gs (omega (arith, lt)))
 
     all_files : (j i : ℕ) (gs : List File) → n ≡ j + i → slice_get gs i ≡ Some f.file → is_used up (asked_from ms j (units_of gs)) ≡ is_used up (asked_in ms n l (file_events f.file))
     all_files j i [] e there = absurd (some_none f.file (sym there))
@@ -530,7 +508,7 @@ module _ (fs : List File) (h : AreRead fs) (n : ℕ) (f : Function) (lies : Lies
         ∙ ap (λ i. is_used up (asked_in ms i l (file_events f.file))) same
     all_files j (suc i) (g ∷ gs) e there =
         used_both up (asked_in ms j g.tokens (file_events g)) (asked_from ms (suc j) (units_of gs))
-        ∙ ap (λ b. b || is_used up (asked_from ms (suc j) (units_of gs))) (asks_out j g.tokens (file_events g) (other_out j (file_events g) (unlike n j (omega (arith, e)))))
+        ∙ ap (λ b. b || is_used up (asked_from ms (suc j) (units_of gs))) (asks_out j g.tokens (file_events g) (other_out n a (last t) j (file_events g) (unlike n j (omega (arith, e)))))
         ∙ all_files (suc j) i gs (omega (arith, e)) there
 
     used_same : is_used up (all_asked fs) ≡ is_used d (own_asked by_itself outer)

@@ -138,6 +138,11 @@ own_initialisers a outer = initialisers (own_asked a outer)
 abbrev pub own_unused : Alone → Outer → List Place
 own_unused a outer = unused_variables (own_asked a outer) (own_declarations a)
 
+-- The declarations that need themselves. Of a function by itself each name calls for one that it declares, or for none, so that as many
+-- rounds do as there are of these, in two ways.
+abbrev pub own_cycles : Alone → Outer → List Place
+own_cycles a outer = cycles (own_asked a outer) (length (own_declarations a) + length (own_declarations a)) (own_declarations a)
+
 -- ---- what is left of a package
 
 -- the declarations in the block of the package
@@ -178,7 +183,7 @@ pub record GoesByFunctions (fs : List File) (own : ℕ → Function → List Pla
 abbrev pub own_faults : Alone → Outer → List Failure
 own_faults a outer =
     failing code.Redeclared (own_second_declarations a ++ own_none_new a) ++ lookup_faults (own_asked a outer) ++ failing code.UnusedVariable (own_unused a outer)
-    ++ failing code.Branch (own_misplaced a) ++ failing code.Duplicate (own_second_members a ++ own_second_defaults a) ++ failing code.Outside (own_hidden_lists a)
+    ++ failing code.Branch (own_misplaced a) ++ failing code.Duplicate (own_second_members a ++ own_second_defaults a) ++ failing code.Outside (own_hidden_lists a) ++ failing code.Cycle (own_cycles a outer)
 
 -- Outside of functions there are no statements, no switches, no `:=`, no local variables and no local constants.
 pub record NothingFailsOutside (fs : List File) : Type 0 where
@@ -189,8 +194,8 @@ pub record NothingFailsOutside (fs : List File) : Type 0 where
   pub variables : (asks : List Asked) → unused_variables asks (outside_declared fs) ≡ []
   pub lists : hidden_lists (outside_units fs) ≡ []
 
--- No rule of names fails outside of functions, but for those on imports that are not used, on many statements, and on declarations that
--- need themselves.
+-- No rule of names fails outside of functions, but for those on imports that are not used and on many statements. That no declaration of
+-- the package needs itself reads the signatures of functions too.
 pub record IsFaultlessOutside (fs : List File) : Type 0 where
   pub clauses : clause_faults (units_of fs) ≡ []
   pub declared_once : second_declarations [] (shared (declarations (units_of fs))) ≡ []
@@ -198,14 +203,14 @@ pub record IsFaultlessOutside (fs : List File) : Type 0 where
   pub imported_once : of_files (second_imports false) 0 (units_of fs) ≡ []
   pub lookups : lookup_faults (outside_asked fs) ≡ []
   pub members_once : of_files (second_members []) 0 (outside_units fs) ≡ []
+  pub needs : cycles (all_asked fs) (length (declarations (units_of fs)) + length (declarations (units_of fs))) (shared (declarations (units_of fs))) ≡ []
 
--- What it is that no rule of names fails, function by function. Three rules stay those of the package: that each import is used, that
--- there are not too many statements, and that no declaration needs itself.
+-- What it is that no rule of names fails, function by function. Two rules stay those of the package: that each import is used, and that
+-- there are not too many statements.
 pub record IsFaultlessByFunctions (fs : List File) : Type 0 where
   pub outside : IsFaultlessOutside fs
   pub imports : unused_imports (all_asked fs) (units_of fs) ≡ []
   pub statements : limit (units_of fs) ≡ []
-  pub needs : cycles (all_asked fs) (length (declarations (units_of fs)) + length (declarations (units_of fs))) (declarations (units_of fs)) ≡ []
   pub functions : (k n : ℕ) (f : Function) → slice_get (all_functions fs) k ≡ Some f → slice_get (function_files 0 fs) k ≡ Some n → own_faults (function_alone f) (outer_in fs n) ≡ []
 
 -- No fault of names is reported of a package where that holds, and the other way round.

@@ -1,6 +1,6 @@
 //! Laws, for the crates above. The functions do nothing: their contracts are the laws.
 
-ghost use Rattle.std.specs.Prelude.{◌≡◌, ℕ, Bool, true, ◌&&◌, not, [], ◌++◌, List, Some, map, slice_get};
+ghost use Rattle.std.specs.Prelude.{◌≡◌, ℕ, ◌+◌, Bool, true, ◌&&◌, not, [], ◌++◌, List, Some, length, map, slice_get};
 ghost use Rattle.go_tokens.specs.declared.token.TokenKind.{TokenKind};
 ghost use Rattle.go_grammar.specs.declared.kind.Category.{Category};
 ghost use Rattle.go_grammar.specs.declared.kind.Kind.{Kind};
@@ -15,6 +15,7 @@ ghost use Rattle.go_tree.specs.Duplicates.{second_defaults, second_members};
 ghost use Rattle.go_tree.specs.Events.{events, is_more};
 ghost use Rattle.go_tree.specs.Failures.{of_files};
 ghost use Rattle.go_tree.specs.Lookups.{undeclared, outside_names, outside_members, not_called, initialisers, unused_variables};
+ghost use Rattle.go_tree.specs.Needs.{cycles};
 ghost use Rattle.go_tree.specs.Redeclared.{second_declarations, none_new};
 ghost use Rattle.go_heads.specs.Functions.{Function, AreRead, all_functions, function_alone};
 ghost use Rattle.go_heads.specs.Heads.{File, heads};
@@ -26,7 +27,9 @@ ghost use Rattle.go_scopes_bodies.specs.Meant.{MeansAt};
 ghost use Rattle.go_scopes_bodies.specs.Outside.{outside_units};
 ghost use Rattle.go_scopes_bodies.specs.Faults.{CountsStatements, FaultsAreThoseOfFunctions, GoesByFunctions, NothingFailsOutside, UsesImportByFunctions};
 ghost use Rattle.go_scopes_bodies.specs.Faults.{all_asked, outside_asked, outer_in, outside_declared, shared, own_misplaced, own_second_defaults, own_second_members, own_hidden_lists, own_second_declarations};
-ghost use Rattle.go_scopes_bodies.specs.Faults.{own_none_new, own_undeclared, own_outside_names, own_outside_members, own_not_called, own_initialisers, own_unused};
+ghost use Rattle.go_scopes_bodies.specs.Faults.{own_none_new, own_undeclared, own_outside_names, own_outside_members, own_not_called, own_initialisers, own_unused, own_cycles};
+
+use go_scopes_cycles::laws::declarations_bound_rounds;
 
 /// Each token of a function means what it means by itself, and by what names mean outside of functions in its file: the local of the
 /// same number of this function, an object of the package, a predeclared name, fmt, or nothing (Go specification: Declarations and
@@ -119,11 +122,22 @@ pub fn nothing_fails_outside_of_functions()
     ensures { (fs : List File) → AreRead fs → NothingFailsOutside fs }
 {}
 
+/// No declaration needs itself where none in the block of the package does, and none of a function by itself, in as many rounds as the
+/// function declares names, twice (Go specification: Declarations and scope, Type declarations).
+pub fn cycles_are_judged_by_functions()
+    ensures { (fs : List File) → AreRead fs → AreNamed fs
+        → let ds = declarations (units_of fs) in GoesByFunctions fs (λ n f. own_cycles (function_alone f) (outer_in fs n)) (cycles (all_asked fs) (length ds + length ds) (shared ds)) (cycles (all_asked fs) (length ds + length ds) ds) }
+{
+    declarations_bound_rounds();
+}
+
 /// No fault of names is reported of a package where no rule of names fails outside of functions and none in a function by itself, each
-/// import is used, there are not too many statements, and no declaration needs itself; and the other way round.
+/// import is used, and there are not too many statements; and the other way round.
 pub fn faults_are_those_of_functions()
     ensures { (fs : List File) → AreRead fs → AreNamed fs → FaultsAreThoseOfFunctions fs }
-{}
+{
+    declarations_bound_rounds();
+}
 
 /// The statements of a package are those of its functions, and none is too many where there are at most 65,536.
 pub fn statements_are_counted_by_functions()

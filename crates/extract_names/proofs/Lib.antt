@@ -1,0 +1,16 @@
+mod Tells
+mod Edges
+mod Founds
+mod Rows
+mod Replaced
+mod Kept
+mod Said
+mod Calm
+mod Asked
+mod Declares
+mod Repeated
+mod AllRules
+mod ExampleSite
+mod Copied
+mod CopiedRules
+mod CopySite

@@ -1,0 +1,7 @@
+use Rattle.go_tree.specs.Contexts.{file_context}
+use Rattle.extract_names.specs.Gaps.{moved_by}
+use Rattle.extract_names.proofs.Calm.{members_once}
+use Rattle.extract_names.proofs.laws.members_stand_once.Goals as goal
+
+pub returns : goal.returns
+returns c a new outer gaps site e = members_once a new outer gaps site (c.replaced_runs_tell.ensures (moved_by gaps) (file_context 0) a.tree site.patch site.replaces) e

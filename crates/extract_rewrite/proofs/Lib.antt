@@ -1,0 +1,7 @@
+pub mod Placing
+pub mod Descending
+pub mod Bytes
+pub mod Seen
+pub mod Taken
+pub mod Examples
+pub mod Calling

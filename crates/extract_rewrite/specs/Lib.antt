@@ -1,0 +1,9 @@
+pub mod Order
+pub mod Apart
+pub mod Renewed
+pub mod Edits
+pub mod Counts
+pub mod Extraction
+pub mod Shown
+pub mod Sites
+pub mod Examples

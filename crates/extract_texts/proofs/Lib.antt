@@ -1,0 +1,12 @@
+pub mod Examples
+pub mod Identifiers
+pub mod Loops
+pub mod Mapped
+pub mod Names
+pub mod Parts
+pub mod Places
+pub mod Public
+pub mod Rows
+pub mod Seen
+pub mod Templates
+pub mod Unused

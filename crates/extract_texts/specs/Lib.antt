@@ -1,0 +1,4 @@
+pub mod Fresh
+pub mod Texts
+pub mod Shown
+pub mod Examples

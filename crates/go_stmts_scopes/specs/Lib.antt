@@ -1,0 +1,6 @@
+pub mod Runs
+pub mod Scoped
+pub mod Statements
+pub mod Shapes
+pub mod Locals
+pub mod Examples

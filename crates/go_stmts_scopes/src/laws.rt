@@ -1,0 +1,77 @@
+//! Laws of typed trees that are lexically scoped, for the crates above. The functions do nothing: their contracts are the laws.
+
+ghost use Rattle.std.specs.Prelude.{◌≡◌, ℕ, Bool, true, List};
+ghost use Rattle.go_grammar.specs.declared.kind.Category.{Category};
+ghost use Rattle.go_grammar.specs.Categories.{is_simple};
+ghost use Rattle.go_grammar.specs.Trees.{Tree, kind_of};
+ghost use Rattle.go_types.specs.Relations.{Rights};
+ghost use Rattle.go_types.specs.Trees.{TypeTree};
+ghost use Rattle.go_typed.specs.Trees.{Typed, Typeds};
+ghost use Rattle.go_exprs_rules.specs.Scopes.{Scope, Hint};
+ghost use Rattle.go_exprs_rules.specs.Typing.{typing};
+ghost use Rattle.go_stmts_defs.specs.Frames.{Frame};
+ghost use Rattle.go_stmts_defs.specs.Reading.{reading};
+ghost use Rattle.go_stmts_final_types.specs.Shapes.{IsShaped};
+ghost use Rattle.go_meaning_simulation.specs.Links.{Ways};
+ghost use Rattle.go_stmts_scopes.specs.Examples.{Examples};
+ghost use Rattle.go_stmts_scopes.specs.Locals.{IsLexical, IsLexicalList};
+ghost use Rattle.go_stmts_scopes.specs.Runs.{IsExpression, HasBrackets};
+ghost use Rattle.go_stmts_scopes.specs.Scoped.{IsScoped, is_use, tested};
+ghost use Rattle.go_stmts_scopes.specs.Shapes.{IsFirst};
+ghost use Rattle.go_stmts_scopes.specs.Statements.{AreScoped, IsSimple, IsSimpleTree, is_written_simple, tree_in};
+
+/// What is typed as an expression has the shape of one: no statement and no name that is declared is run in it, whatever the scope, and
+/// whether a rule fails or none (Go specification: Expressions).
+pub fn typed_expressions_are_expressions()
+    ensures { (s : Scope) (h : Hint) (t : Tree) → is_use h ≡ true → HasBrackets t → IsExpression (typing s h t) }
+{}
+
+/// A tree that is derived from the grammar, and typed as an expression, has the shape of one (Go specification: Expressions).
+pub fn derived_expressions_are_expressions()
+    ensures { (c : Category) (s : Scope) (h : Hint) (t : Tree) → IsShaped c t → is_use h ≡ true → IsExpression (typing s h t) }
+{}
+
+/// An expression is lexically scoped where each local that is read in it is in scope, and the one that is written may be written (Go
+/// specification: Declarations and scope).
+pub fn expressions_are_scoped()
+    ensures { (named written declared : ℕ → Bool) (returns : Bool) (rights : Rights) (local : ℕ → ℕ) (gone : ℕ → Bool) (s : List ℕ) (x : Typed TypeTree)
+        → IsExpression x → IsScoped (tested named written declared returns) rights local gone s x }
+{}
+
+/// A statement that holds no others is lexically scoped where each local that is read in it is in scope, those that are written may be
+/// written, and a branch leads to where no other locals are known (Go specification: Statements).
+pub fn simple_statements_are_scoped()
+    ensures { (named written declared : ℕ → Bool) (returns : Bool) (rights : Rights) (local : ℕ → ℕ) (gone : ℕ → Bool) (W : Ways (List ℕ)) (s : List ℕ)
+        → AreScoped (tested named written declared returns) rights local gone W s }
+{}
+
+/// Expression statements, `x++`, assignments and `return` are read as statements whose parts are expressions, whatever is known where they
+/// begin, and whether a rule fails or none (Go specification: Expression statements, IncDec statements, Assignment statements, Return
+/// statements).
+pub fn typed_statements_are_simple()
+    ensures { (s : Frame) (h : Hint) (t : Tree) → IsSimpleTree t → IsSimple (tree_in (reading s h t)) }
+{}
+
+/// Expression statements, `x++`, assignments and `return` that are derived from the grammar are read as statements whose parts are
+/// expressions (Go specification: Expression statements, IncDec statements, Assignment statements, Return statements).
+pub fn derived_statements_are_simple()
+    ensures { (c : Category) (s : Frame) (h : Hint) (t : Tree) → IsShaped c t → is_written_simple (kind_of t) ≡ true → IsSimple (tree_in (reading s h t)) }
+{}
+
+/// A simple statement that is derived from the grammar, as it may stand in front of a condition, is read as one that may stand there: a
+/// definition declares names and reads expressions (Go specification: Short variable declarations, If statements).
+pub fn derived_definitions_have_shape()
+    ensures { (c : Category) (s : Frame) (h : Hint) (t : Tree) → IsShaped c t → is_simple (kind_of t) ≡ true → IsFirst (tree_in (reading s h t)) }
+{}
+
+/// A statement of the shape that evaluation asks for is lexically scoped where what is named in it is in scope, and so are a function and a
+/// list of statements (Go specification: Blocks, Declarations and scope).
+pub fn shaped_statements_are_scoped()
+    ensures { (named written declared : ℕ → Bool) (returns : Bool) (rights : Rights) (local : ℕ → ℕ) (gone : ℕ → Bool) (W : Ways (List ℕ)) (s : List ℕ)
+        → ((x : Typed TypeTree) → IsLexical (tested named written declared returns) rights local gone W s x) × ((ps : Typeds TypeTree) → IsLexicalList (tested named written declared returns) rights local gone W s ps) }
+{}
+
+/// A window and a function that are lexically scoped, and a statement that isn't, worked out by hand.
+pub fn examples()
+    ensures { Examples }
+{}
