@@ -1,2 +1,2 @@
 -- What the proofs of other crates use of this crate's proofs. Declares nothing.
-pub use Rattle.edit_apply.proofs.Applied.{by_number}
+pub use Rattle.edit_apply.proofs.Applied.{by_number, edited_number}

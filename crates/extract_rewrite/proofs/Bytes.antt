@@ -15,8 +15,7 @@ use Rattle.go_base.specs.Package.{ComesBefore, Ascends}
 use Rattle.edit_apply.specs.declared.edits.Edit.{Edit}
 use Rattle.edit_apply.specs.Edited.{file_of, spliced, edited}
 use Rattle.edit_apply.specs.Applied.{IsInRange, edited_of, edited_by, applied}
-use Rattle.edit_apply.proofs.Public.{by_number}
-use Rattle.edit_apply.proofs.Applied.{edited_number}
+use Rattle.edit_apply.proofs.Public.{by_number, edited_number}
 use Rattle.extract_rewrite.specs.Order.{by_place}
 use Rattle.extract_rewrite.specs.Renewed.{renewed, edits_in, OtherBytesStay}
 use Rattle.extract_rewrite.proofs.Descending.{EndsBefore, Follow, placed_follow, placed_in_range}

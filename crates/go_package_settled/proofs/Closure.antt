@@ -5,8 +5,7 @@ use Rattle.go_tree.specs.Lookups.{Asked}
 use Rattle.go_tree.specs.Needs.{Needed, is_same, same_way, is_known, with_all, needs, needs_of, all_needed}
 use Rattle.go_scopes_cycles.specs.Closure.{rounds}
 use Rattle.go_scopes_cycles.specs.Needs.{source_of, way_of, needed_in, needed_by}
-use Rattle.go_scopes_cycles.proofs.AllNeeded.{or_last, itself, known_all, AllKnown, each_known, there_all, all_same}
-use Rattle.go_scopes_cycles.proofs.Public.{needs_none, needs_some}
+use Rattle.go_scopes_cycles.proofs.Public.{or_last, itself, known_all, AllKnown, each_known, there_all, all_same, needs_none, needs_some}
 use Rattle.go_package_settled.specs.Closure.{needed_wholly}
 
 or_first : (b c : Bool) → b ≡ true → (b || c) ≡ true

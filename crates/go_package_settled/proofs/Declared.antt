@@ -7,7 +7,7 @@ use Rattle.go_tree.specs.Needs.{Needed, is_same, is_among, is_known, with_all, n
 use Rattle.go_exprs_rules.specs.Scopes.{in_full, at_once}
 use Rattle.go_scopes_cycles.specs.Closure.{rounds}
 use Rattle.go_scopes_cycles.specs.Columns.{IsSource}
-use Rattle.go_scopes_cycles.proofs.AllNeeded.{AllKnown}
+use Rattle.go_scopes_cycles.proofs.Public.{AllKnown}
 use Rattle.go_package_defs.specs.Knowledge.{Outline, is_type, needs_of}
 use Rattle.go_package_defs.specs.Sources.{Package, number_at, needed_numbers, needed_by}
 use Rattle.go_package_defs.specs.Sources as sources

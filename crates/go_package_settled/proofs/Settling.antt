@@ -24,9 +24,7 @@ use Rattle.go_package_laws.specs.Names.{ObjectSame, ObjectWithin, ObjectAgrees, 
 use Rattle.go_package_laws.specs.Ranks.{Ranks, reached, NeedBefore, NeedsBefore, type_object, AreAtMost}
 use Rattle.go_package_laws.specs.Reach.{MaybeWithin, AgreeOn, StandsWithin}
 use Rattle.go_package_laws.specs.Stages.{TypesBefore, StageBefore, NamesStaged, told_stages, own_stages, IsStagedAs}
-use Rattle.go_package_laws.proofs.Judged.{judged_so, right_same, limit_faults}
-use Rattle.go_package_laws.proofs.Needs.{object_same, right_there, right_entry, as_many_rights, maybe_more}
-use Rattle.go_package_laws.proofs.Public.{each_more, needs_more}
+use Rattle.go_package_laws.proofs.Public.{judged_so, right_same, limit_faults, object_same, right_there, right_entry, as_many_rights, maybe_more, each_more, needs_more}
 use Rattle.go_package_settled.specs.Agreeing.{ExpressionsAgree, TypesAgree}
 use Rattle.go_package_settled.specs.Heights.{Needing}
 use Rattle.go_package_settled.specs.Ordered.{Passes, NeedsNames, NeedsTypes, type_needs, NeedsNamed, NeedsAreOrdered, reach_of, stages, IsSettled}

@@ -10,8 +10,7 @@ use Rattle.go_tree.specs.Needs.{Needed, is_same, is_among, is_known, way_by, way
 use Rattle.go_scopes_cycles.specs.Closure.{rounds}
 use Rattle.go_scopes_cycles.specs.Columns.{IsSource, AreAlike}
 use Rattle.go_scopes_cycles.specs.Needs.{source_of, way_of, needed_in, needed_by}
-use Rattle.go_scopes_cycles.proofs.AllNeeded.{or_last, AllKnown}
-use Rattle.go_scopes_cycles.proofs.Public.{needs_none, needs_some}
+use Rattle.go_scopes_cycles.proofs.Public.{or_last, AllKnown, needs_none, needs_some}
 use Rattle.go_package_defs.specs.Sources.{Package, number_at, number_before, needed_numbers}
 use Rattle.go_package_defs.specs.Verdicts.{is_in}
 use Rattle.go_package_settled.specs.Closure.{needed_wholly}

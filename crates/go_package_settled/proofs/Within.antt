@@ -18,9 +18,7 @@ use Rattle.go_package_defs.specs.Verdicts.{type_hint, value_hint, part_in, fault
 use Rattle.go_package_laws.specs.Names.{ObjectSame, ObjectWithin, ObjectAgrees, limited_ways}
 use Rattle.go_package_laws.specs.Ranks.{type_object}
 use Rattle.go_package_laws.specs.Reach.{MaybeWithin, AgreeOn, StandsWithin, MaybePart, HintWithin, Standing}
-use Rattle.go_package_laws.proofs.Needs.{right_there, right_entry, maybe_more}
-use Rattle.go_package_laws.proofs.Public.{each_more, needs_more, stands_more}
-use Rattle.go_package_laws.proofs.Rounds.{at_next, next_length}
+use Rattle.go_package_laws.proofs.Public.{right_there, right_entry, maybe_more, each_more, needs_more, stands_more, at_next, next_length}
 use Rattle.go_package_settled.specs.Agreeing.{ExpressionsAgree, TypesAgree}
 use Rattle.go_package_settled.specs.Heights.{Needing, is_within}
 use Rattle.go_package_settled.specs.Ordered.{Passes, NeedsWhole, NeedsSo, NeedsNames, NeedsTypes, type_needs, NeedsNamed, NeedsAreOrdered}

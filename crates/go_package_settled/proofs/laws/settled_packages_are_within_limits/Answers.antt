@@ -2,7 +2,7 @@ use Rattle.go_package_defs.specs.Answer.{specifications}
 use Rattle.go_package_defs.specs.Knowledge.{outlines}
 use Rattle.go_package_defs.specs.Sources.{package_of, rounds}
 use Rattle.go_package_defs.specs.Verdicts.{known}
-use Rattle.go_package_laws.proofs.Stages.{are_found}
+use Rattle.go_package_laws.proofs.Public.{are_found}
 use Rattle.go_package_settled.proofs.laws.settled_packages_are_within_limits.Goals as goal
 
 pub returns : goal.returns
