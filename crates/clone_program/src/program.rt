@@ -6,7 +6,7 @@ ghost use Rattle.go_base.specs.Gives.{Meets};
 ghost use Rattle.go_base.specs.Package.{IsPackage};
 ghost use Rattle.go_scopes.specs.Views.{failure_of};
 ghost use Rattle.go_package_defs.specs.Checked.{IsReported, texts_of};
-ghost use Rattle.go_package.specs.Reading.{check_refusal};
+ghost use Rattle.go_package_defs.specs.Refusals.{check_refusal};
 ghost use Rattle.port_io.specs.Held.{Held};
 ghost use Rattle.clone_server.specs.Words as words;
 ghost use Rattle.clone_server.specs.Run.{CountsAll, EndsBy, RunsWords, status_in};

@@ -20,7 +20,8 @@ use Rattle.go_scopes.specs.Views.{failure_of}
 use Rattle.go_package_defs.specs.Checked.{IsRead, AreRead, HaveNone, IsFirst, encoding, tokens, trees}
 use Rattle.go_package.proofs.Each.{one_more}
 use Rattle.go_package_defs.specs.declared.error.CheckError.{CheckError}
-use Rattle.go_package.specs.Reading.{check_refusal, IsLexed, IsLexedOr, Upto, AreLexed, IsParsed, AreParsed, IsUnparsed, IsUnlexed, IsFileFault, FileFaultsAreReported}
+use Rattle.go_package_defs.specs.Refusals.{check_refusal}
+use Rattle.go_package.specs.Reading.{IsLexed, IsLexedOr, Upto, AreLexed, IsParsed, AreParsed, IsUnparsed, IsUnlexed, IsFileFault, FileFaultsAreReported}
 
 same_some : {A : Type 0} (x y : A) → Some x ≡ Some y → x ≡ y
 same_some x y e = grind (arith, e)

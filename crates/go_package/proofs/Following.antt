@@ -16,7 +16,7 @@ use Rattle.go_scopes.specs.Resolve as resolving
 use Rattle.go_scopes.specs.Views.{failure_of}
 use Rattle.go_package_defs.specs.declared.error.CheckError.{CheckError}
 use Rattle.go_package_defs.specs.declared.error.CheckError.TheVariants as errors
-use Rattle.go_package.specs.Reading.{check_refusal}
+use Rattle.go_package_defs.specs.Refusals.{check_refusal}
 use Rattle.go_package_defs.specs.Answer.{Environment, package_answer, unless}
 use Rattle.go_package_defs.specs.Checked.{Typing, names_of, texts_by, texts_of, AreRead, IsReported, IsCheckedPackage, names_answer, bodies_answer, sources_answer, content_of, files_answer}
 use Rattle.go_package.specs.Functions.{check_failure}

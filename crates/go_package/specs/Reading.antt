@@ -1,5 +1,5 @@
 -- What the calls answer that read the files of a package.
-use Rattle.std.specs.Prelude.{◌≡◌, ℕ, ◌<◌, ◌⊎◌, Bool, true, false, List, length, Option, Some, None, Result, Ok, Err, slice_get}
+use Rattle.std.specs.Prelude.{◌≡◌, ℕ, ◌<◌, ◌⊎◌, Bool, true, false, List, length, Some, Result, Ok, Err, slice_get}
 use Rattle.go_base.specs.declared.bytes.FileText.{FileText}
 use Rattle.go_base.specs.declared.fault.Fault.{Fault}
 use Rattle.go_base.specs.declared.fault.FaultCode.{FaultCode}
@@ -14,13 +14,6 @@ use Rattle.go_tree.specs.Failures.{Failure}
 use Rattle.go_tree.specs.File.{FileTree}
 use Rattle.go_tree.specs.Views.{view}
 use Rattle.go_package_defs.specs.Checked.{IsEncoded, IsTokens, IsTrees, IsReported}
-use Rattle.go_package_defs.specs.declared.error.CheckError.{CheckError}
-use Rattle.go_package_defs.specs.declared.error.CheckError.TheVariants as errors
-
--- the fault that an error names
-abbrev pub check_refusal : CheckError → Option Fault
-check_refusal (errors.Fault fault) = Some fault
-check_refusal errors.Memory = None
 
 -- whether it is the fault of an encoding
 abbrev pub is_encoding : FaultCode → Bool

@@ -7,7 +7,8 @@ ghost use Rattle.go_base.specs.declared.bytes.FileText.{FileText as Text};
 ghost use Rattle.go_tokens.specs.Encoding.{IsEncodingFault};
 ghost use Rattle.go_scopes.specs.Views.{failure_of};
 ghost use Rattle.go_package_defs.specs.Checked.{AreRead};
-ghost use Rattle.go_package.specs.Reading.{check_refusal, is_encoding, IsLexedOr, AreLexed, AreParsed, IsFileFault, IsUnlexed, IsUnparsed};
+ghost use Rattle.go_package_defs.specs.Refusals.{check_refusal};
+ghost use Rattle.go_package.specs.Reading.{is_encoding, IsLexedOr, AreLexed, AreParsed, IsFileFault, IsUnlexed, IsUnparsed};
 
 use go_base::{Fault, FaultCode, FileText};
 use go_package_defs::CheckError;

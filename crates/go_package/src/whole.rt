@@ -4,7 +4,7 @@ ghost use Rattle.go_base.specs.Gives.{Meets};
 ghost use Rattle.go_base.specs.Package.{IsPackage};
 ghost use Rattle.go_scopes.specs.Views.{failure_of};
 ghost use Rattle.go_package_defs.specs.Checked.{IsReported, texts_of};
-ghost use Rattle.go_package.specs.Reading.{check_refusal};
+ghost use Rattle.go_package_defs.specs.Refusals.{check_refusal};
 
 use crate::laws::file_faults_are_reported;
 use crate::phases::check_names;

@@ -5,6 +5,7 @@ pub mod Verdicts
 pub mod Answer
 pub mod Bodies
 pub mod Checked
+pub mod Refusals
 pub mod Sentences
 pub mod DeclarationExamples
 pub mod CheckExamples

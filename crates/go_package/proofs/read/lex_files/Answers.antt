@@ -2,7 +2,8 @@ use Rattle.std.proofs.Common.{rules, ◌≡◌, Some, length, slice_get, refl, s
 use Rattle.std.proofs.lemmas.Option.{slice_get_read}
 use Rattle.go_tokens.specs.Encoding.{IsEncodingFault}
 use Rattle.go_base.specs.Gives.{Unless}
-use Rattle.go_package.specs.Reading.{check_refusal, IsLexedOr}
+use Rattle.go_package_defs.specs.Refusals.{check_refusal}
+use Rattle.go_package.specs.Reading.{IsLexedOr}
 use Rattle.go_package.proofs.Files.{NoneBefore, LexedSoFar, ended_later, none_more, lexed_more, later_more, stopped}
 use Rattle.go_package.proofs.read.lex_files.Goals.{in-Ok+in_ok-push-in-Ok, in-Err}
 use Rattle.go_package.proofs.read.lex_files.Goals as goal

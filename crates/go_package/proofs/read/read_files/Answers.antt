@@ -1,6 +1,7 @@
 use Rattle.std.proofs.Common.{subst}
 use Rattle.go_base.specs.Gives.{Meets}
-use Rattle.go_package.specs.Reading.{check_refusal, AreParsed, IsUnparsed}
+use Rattle.go_package_defs.specs.Refusals.{check_refusal}
+use Rattle.go_package.specs.Reading.{AreParsed, IsUnparsed}
 use Rattle.go_package.proofs.Files.{small_files, read_or_reported}
 use Rattle.go_package.proofs.read.read_files.Goals as goal
 
