@@ -1,4 +1,5 @@
 pub mod Edited
+pub mod Begun
 pub mod Answers
 pub mod Places
 pub mod Applied

@@ -1,8 +1,10 @@
-ghost use Rattle.std.specs.Prelude.{◌≡◌, OnOk, IfOk};
-ghost use Rattle.go_base.specs.Package.{Ascends, IsPackage};
-ghost use Rattle.edit_apply.specs.Applied.{IsInRange, AreApplicable, applied, edited_by};
+ghost use Rattle.std.specs.Prelude.{◌≡◌, ◌≤◌, IfOk, length};
+ghost use Rattle.go_base.specs.Package.{IsPackage};
+ghost use Rattle.edit_apply.specs.Applied.{AreApplicable, applied};
+ghost use Rattle.edit_apply.specs.Begun.{AreRead, finished, finished_bytes};
+ghost use Rattle.edit_apply.specs.Edited.{file_of};
 
-use crate::places::spliced;
+use crate::begun::{Begun, none_begun};
 use go_base::{Bytes, FileText, Memory};
 use std::alloc::Global;
 use std::marker::Model;
@@ -48,47 +50,33 @@ impl Edits {
     }
 }
 
-/// A copy of one file.
-fn copy_of(alloc: Global, file: &FileText) -> Result<FileText, Memory>
-    ensures { IfOk result (λ copy. copy ≡ file.now) }
+/// A file as it was begun, written to its end.
+fn finished_file(alloc: Global, file: &FileText, begun: &Begun) -> Result<FileText, Memory>
+    requires { begun.now.read ≤ length file.now.bytes }
+    ensures { IfOk result (λ after. after ≡ file_of file.now.name (finished_bytes file.now.bytes begun.now)) }
 {
     Ok(FileText {
         name: file.name.clone()?,
-        bytes: Bytes::from_slice(alloc, file.bytes.as_slice())?,
+        bytes: begun.finished(alloc, file.bytes.as_slice())?,
     })
 }
 
-/// A copy of all files.
-fn copied(alloc: Global, files: &[FileText]) -> Result<Vec<FileText>, Memory>
-    ensures { IfOk result (λ copy. copy.items ≡ files.now) }
+/// The files as they were begun, each written to its end.
+fn all_finished(alloc: Global, files: &[FileText], begun: &[Begun]) -> Result<Vec<FileText>, Memory>
+    requires same { length begun.now ≡ length files.now }
+    requires read { AreRead files.now begun.now }
+    ensures { IfOk result (λ after. after.items ≡ finished files.now begun.now) }
 {
-    let mut copy = Vec::new(alloc);
-    for file in files {
-        copy.push(copy_of(alloc, file)?)?;
+    let mut after = Vec::new(alloc);
+    for (place, file) in files.iter().enumerate() {
+        let own = &begun[place];
+        after.push(finished_file(alloc, file, own)?)?;
     }
-    Ok(copy)
+    Ok(after)
 }
 
-/// Does one edit.
-fn edit_one(alloc: Global, files: &mut Vec<FileText>, edit: &Edit) -> Result<(), Memory>
-    requires ascends { Ascends files.old.items }
-    requires range { IsInRange files.old.items edit.now }
-    ensures { OnOk result (files.new.items ≡ edited_by files.old.items edit.now) }
-{
-    let file = &mut files[edit.file as usize];
-    let (start, end) = (edit.start as usize, edit.end as usize);
-    let bytes = spliced(
-        alloc,
-        file.bytes.as_slice(),
-        start,
-        end,
-        edit.text.as_slice(),
-    )?;
-    file.bytes = bytes;
-    Ok(())
-}
-
-/// The files after all edits.
+/// The files after all edits. The edits of a file are read from the last one on, which is the one
+/// nearest to the file's start. So each file is written once, from its start to its end.
 pub(crate) fn apply_all(
     alloc: Global,
     files: &[FileText],
@@ -99,9 +87,12 @@ pub(crate) fn apply_all(
     ensures value { IfOk result (λ after. after.items ≡ applied files.now edits.now) }
     ensures package { IfOk result (λ after. IsPackage after.items) }
 {
-    let mut after = copied(alloc, files)?;
-    for edit in edits {
-        edit_one(alloc, &mut after, edit)?;
+    let mut begun = none_begun(alloc, files)?;
+    for number in (0..edits.len()).rev() {
+        let edit = &edits[number];
+        let place = edit.file as usize;
+        let bytes = files[place].bytes.as_slice();
+        begun[place].write(bytes, edit)?;
     }
-    Ok(after)
+    all_finished(alloc, files, &begun)
 }

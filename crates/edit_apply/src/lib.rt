@@ -6,6 +6,7 @@
 //! memory included, everything is as it was. A list of edits is one edited text after the other.
 #![tactic(auto)]
 
+mod begun;
 mod edits;
 mod places;
 mod texts;

@@ -2,7 +2,7 @@ ghost use Rattle.std.specs.Prelude.{◌≡◌, ◌<◌, ◌≤◌, ◌-◌, Ok, 
 ghost use Rattle.std.specs.Option.{option_map};
 ghost use Rattle.go_base.specs.Gives.{Gives};
 ghost use Rattle.go_base.specs.Package.{IsPackage};
-ghost use Rattle.edit_apply.specs.Edited.{bytes_under, spliced};
+ghost use Rattle.edit_apply.specs.Edited.{bytes_under};
 ghost use Rattle.edit_apply.specs.Applied.{AreApplicable, applied};
 ghost use Rattle.edit_apply.specs.Answers.{edit_refusal, edit_answer, add_answer, remove_answer};
 

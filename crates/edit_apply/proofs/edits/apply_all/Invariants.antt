@@ -1,12 +1,13 @@
-use Rattle.std.proofs.Common.{◌≡◌, drop}
-use Rattle.go_base.specs.Package.{Ascends}
-use Rattle.edit_apply.specs.Applied.{AreApplicable, applied}
+use Rattle.std.proofs.Common.{◌≡◌, drop, length}
+use Rattle.edit_apply.specs.Begun.{AreRead}
+use Rattle.edit_apply.proofs.Writing.{AreBefore, AreWritten}
 use Rattle.edit_apply.proofs.edits.apply_all.Given as goal
 
--- the edits that are left, done to the files so far, give what all edits give
-abbrev pub invariant-loop-edit : goal.invariant-loop-edit
-invariant-loop-edit l = record {
-  ascends : Ascends l.after.items;
-  left : AreApplicable l.after.items (drop l.edit-index l.edits);
-  same : applied l.after.items (drop l.edit-index l.edits) ≡ applied l.files l.edits;
+-- the edits from the number on are done, and those before it lie behind what is read
+abbrev pub invariant-loop-number : goal.invariant-loop-number
+invariant-loop-number l = record {
+  same : length l.begun.items ≡ length l.files;
+  read : AreRead l.files l.begun.items;
+  before : AreBefore l.begun.items l.edits l.number;
+  written : AreWritten l.files l.begun.items (drop l.number l.edits);
 }
