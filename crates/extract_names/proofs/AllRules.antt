@@ -5,8 +5,7 @@ use Rattle.go_base.specs.declared.fault.FaultCode.TheVariants as code
 use Rattle.go_tree.specs.Failures.{Failure, failing}
 use Rattle.go_tree.specs.Units.{Place}
 use Rattle.go_heads.specs.Functions.{Alone}
-use Rattle.go_scopes_bodies.specs.Faults.{own_second_declarations, own_none_new, own_undeclared, own_outside_names, own_outside_members, own_not_called, own_initialisers, own_unused, own_misplaced, own_second_members, own_second_defaults, own_hidden_lists}
-use Rattle.extract_names.specs.SiteFaults.{faults_but_cycles}
+use Rattle.go_scopes_bodies.specs.Faults.{own_second_declarations, own_none_new, own_undeclared, own_outside_names, own_outside_members, own_not_called, own_initialisers, own_unused, own_misplaced, own_second_members, own_second_defaults, own_hidden_lists, own_cycles, own_faults}
 use Rattle.go_scopes_bodies.specs.Meant.{Outer}
 
 left : {A : Type 0} (xs ys : List A) → xs ++ ys ≡ [] → xs ≡ []
@@ -38,6 +37,7 @@ pub record NoneFails (a : Alone) (outer : Outer) : Type 0 where
   pub groups : own_second_members a ≡ []
   pub defaults : own_second_defaults a ≡ []
   pub lists : own_hidden_lists a ≡ []
+  pub needs : own_cycles a outer ≡ []
 
 module _ (a : Alone) (outer : Outer) where
   abbrev declaring : List Failure
@@ -73,9 +73,13 @@ module _ (a : Alone) (outer : Outer) where
   abbrev lists : List Failure
   lists = failing code.Outside (own_hidden_lists a)
 
-  pub each_rule : faults_but_cycles a outer ≡ [] → NoneFails a outer
+  abbrev circles : List Failure
+  circles = failing code.Cycle (own_cycles a outer)
+
+  pub each_rule : own_faults a outer ≡ [] → NoneFails a outer
   each_rule e =
-      let e5 = left (declaring ++ asking ++ unused ++ branches ++ doubled) lists e in
+      let e6 = left (declaring ++ asking ++ unused ++ branches ++ doubled ++ lists) circles e in
+      let e5 = left (declaring ++ asking ++ unused ++ branches ++ doubled) lists e6 in
       let e4 = left (declaring ++ asking ++ unused ++ branches) doubled e5 in
       let e3 = left (declaring ++ asking ++ unused) branches e4 in
       let e2 = left (declaring ++ asking) unused e3 in
@@ -97,12 +101,14 @@ module _ (a : Alone) (outer : Outer) where
         placed = fails code.Branch (own_misplaced a) (right (declaring ++ asking ++ unused) branches e4);
         groups = left (own_second_members a) (own_second_defaults a) twice;
         defaults = right (own_second_members a) (own_second_defaults a) twice;
-        lists = fails code.Outside (own_hidden_lists a) (right (declaring ++ asking ++ unused ++ branches ++ doubled) lists e);
+        lists = fails code.Outside (own_hidden_lists a) (right (declaring ++ asking ++ unused ++ branches ++ doubled) lists e6);
+        needs = fails code.Cycle (own_cycles a outer) (right (declaring ++ asking ++ unused ++ branches ++ doubled ++ lists) circles e);
       }
 
-  pub no_faults : NoneFails a outer → faults_but_cycles a outer ≡ []
+  pub no_faults : NoneFails a outer → own_faults a outer ≡ []
   no_faults h =
-      both (declaring ++ asking ++ unused ++ branches ++ doubled) lists
+      both (declaring ++ asking ++ unused ++ branches ++ doubled ++ lists) circles
+      (both (declaring ++ asking ++ unused ++ branches ++ doubled) lists
       (both (declaring ++ asking ++ unused ++ branches) doubled
       (both (declaring ++ asking ++ unused) branches
       (both (declaring ++ asking) unused
@@ -117,4 +123,5 @@ module _ (a : Alone) (outer : Outer) where
       (ap (failing code.UnusedVariable) h.used))
       (ap (failing code.Branch) h.placed))
       (ap (failing code.Duplicate) (both (own_second_members a) (own_second_defaults a) h.groups h.defaults)))
-      (ap (failing code.Outside) h.lists)
+      (ap (failing code.Outside) h.lists))
+      (ap (failing code.Cycle) h.needs)

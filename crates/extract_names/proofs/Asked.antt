@@ -139,6 +139,48 @@ module _ (a : Alone) (outer : Outer) (Q : Asked → Type 0) where
   asked_of (event.Misplaced x y ∷ es) f = asked_of es (λ u k b. f u (inr k) b)
   asked_of (event.SecondDefault x ∷ es) f = asked_of es (λ u k b. f u (inr k) b)
 
+-- each name that is asked is one that is looked up, and isn't blank
+pub asked_told : (a : Alone) (outer : Outer) (es : List Event) (u : Use) → Among (event.Use u) es → is_blank (own_text a u.name) ≡ false → Among (own_ask a outer u) (asked_among a outer es)
+asked_told a outer [] u k b = absurd k
+asked_told a outer (event.Use x ∷ es) u k b = by (is_blank (own_text a x.name)) refl k (λ m. asked_told a outer es u m b)
+  where
+    by : (c : Bool) → is_blank (own_text a x.name) ≡ c → Among (event.Use u) (event.Use x ∷ es) → (Among (event.Use u) es → Among (own_ask a outer u) (asked_among a outer es)) → Among (own_ask a outer u) (if c then asked_among a outer es else own_ask a outer x ∷ asked_among a outer es)
+    by true c (inl e) go = let q : u ≡ x = cc in let d : is_blank (own_text a u.name) ≡ true = ap (λ (z : Use). is_blank (own_text a z.name)) q ∙ c in cc
+    by true c (inr m) go = go m
+    by false c (inl e) go = inl (let q : u ≡ x = cc in ap (own_ask a outer) q)
+    by false c (inr m) go = inr (go m)
+asked_told a outer (event.Declaration d ∷ es) u (inl e) b = cc
+asked_told a outer (event.Declaration d ∷ es) u (inr k) b = asked_told a outer es u k b
+asked_told a outer (event.Import x ∷ es) u (inl e) b = cc
+asked_told a outer (event.Import x ∷ es) u (inr k) b = asked_told a outer es u k b
+asked_told a outer (event.Member m g x ∷ es) u (inl e) b = cc
+asked_told a outer (event.Member m g x ∷ es) u (inr k) b = asked_told a outer es u k b
+asked_told a outer (event.Bodiless x y ∷ es) u (inl e) b = cc
+asked_told a outer (event.Bodiless x y ∷ es) u (inr k) b = asked_told a outer es u k b
+asked_told a outer (event.Statement x y ∷ es) u (inl e) b = cc
+asked_told a outer (event.Statement x y ∷ es) u (inr k) b = asked_told a outer es u k b
+asked_told a outer (event.Misplaced x y ∷ es) u (inl e) b = cc
+asked_told a outer (event.Misplaced x y ∷ es) u (inr k) b = asked_told a outer es u k b
+asked_told a outer (event.SecondDefault x ∷ es) u (inl e) b = cc
+asked_told a outer (event.SecondDefault x ∷ es) u (inr k) b = asked_told a outer es u k b
+
+pub asked_use : (a : Alone) (outer : Outer) (es : List Event) (x : Asked) → Among x (asked_among a outer es) → (u : Use) × Among (event.Use u) es × (is_blank (own_text a u.name) ≡ false) × (x ≡ own_ask a outer u)
+asked_use a outer [] x k = absurd k
+asked_use a outer (event.Use u ∷ es) x k = by (is_blank (own_text a u.name)) refl k (asked_use a outer es x)
+  where
+    by : (c : Bool) → is_blank (own_text a u.name) ≡ c → Among x (if c then asked_among a outer es else own_ask a outer u ∷ asked_among a outer es)
+        → (Among x (asked_among a outer es) → (z : Use) × Among (event.Use z) es × (is_blank (own_text a z.name) ≡ false) × (x ≡ own_ask a outer z)) → (z : Use) × Among (event.Use z) (event.Use u ∷ es) × (is_blank (own_text a z.name) ≡ false) × (x ≡ own_ask a outer z)
+    by true c k go = let z = go k in (z.0, inr z.1, z.2, z.3)
+    by false c (inl e) go = (u, inl refl, c, e)
+    by false c (inr k) go = let z = go k in (z.0, inr z.1, z.2, z.3)
+asked_use a outer (event.Declaration d ∷ es) x k = let z = asked_use a outer es x k in (z.0, inr z.1, z.2, z.3)
+asked_use a outer (event.Import i ∷ es) x k = let z = asked_use a outer es x k in (z.0, inr z.1, z.2, z.3)
+asked_use a outer (event.Member m g i ∷ es) x k = let z = asked_use a outer es x k in (z.0, inr z.1, z.2, z.3)
+asked_use a outer (event.Bodiless i j ∷ es) x k = let z = asked_use a outer es x k in (z.0, inr z.1, z.2, z.3)
+asked_use a outer (event.Statement i j ∷ es) x k = let z = asked_use a outer es x k in (z.0, inr z.1, z.2, z.3)
+asked_use a outer (event.Misplaced i j ∷ es) x k = let z = asked_use a outer es x k in (z.0, inr z.1, z.2, z.3)
+asked_use a outer (event.SecondDefault i ∷ es) x k = let z = asked_use a outer es x k in (z.0, inr z.1, z.2, z.3)
+
 -- ---- rules, test by test
 
 abbrev pub Off : (Asked → Bool) → List Asked → Type 0
@@ -157,30 +199,30 @@ module _ (T : Asked → Bool) (P : Asked → Place) (rule : List Asked → List 
   off_rule [] h = none
   off_rule (x ∷ xs) h = one x xs ∙ ap (λ b. place_if b (P x) (rule xs)) h.0 ∙ off_rule xs h.1
 
-abbrev is_undeclared : Asked → Bool
+abbrev pub is_undeclared : Asked → Bool
 is_undeclared x = lacks_meaning x.it.constant x.name (object_asked x)
 
-abbrev is_outside : Asked → Bool
+abbrev pub is_outside : Asked → Bool
 is_outside x = is_unknown x.name (object_asked x)
 
-abbrev is_member : Asked → Bool
+abbrev pub is_member : Asked → Bool
 is_member x = is_import (object_asked x) && is_other_member x.it.role x.selected
 
-abbrev is_uncalled : Asked → Bool
+abbrev pub is_uncalled : Asked → Bool
 is_uncalled x = is_import (object_asked x) && is_no_call x.it.role x.selected
 
-abbrev is_early : Asked → Bool
+abbrev pub is_early : Asked → Bool
 is_early x = x.it.initial && is_initial x.meaning
 
 -- ---- objects
 
 -- the object of a name by what it means
-abbrev object_meant : List ℕ → Option Meant → Option Object
+abbrev pub object_meant : List ℕ → Option Meant → Option Object
 object_meant w None = predeclared_object w
 object_meant w (Some (own o)) = Some o
 object_meant w (Some (outside o)) = Some o
 
-asked_object : (a : Alone) (outer : Outer) (u : Use) → is_blank (own_text a u.name) ≡ false → object_asked (own_ask a outer u) ≡ object_meant (own_text a u.name) (own_meant a outer u.name (own_text a u.name))
+pub asked_object : (a : Alone) (outer : Outer) (u : Use) → is_blank (own_text a u.name) ≡ false → object_asked (own_ask a outer u) ≡ object_meant (own_text a u.name) (own_meant a outer u.name (own_text a u.name))
 asked_object a outer u b = by (own_local a u.name w) (outer w) ∙ sym (ap (λ c. object_meant w (if c then None else or_outside (own_local a u.name w) (outer w))) b)
   where
     w : List ℕ
@@ -192,11 +234,11 @@ asked_object a outer u b = by (own_local a u.name w) (outer w) ∙ sym (ap (λ c
     by (Some m) o = refl
 
 module _ (σ : ℕ → ℕ) where
-  abbrev under : Option Meant → Option Meant
+  abbrev pub under : Option Meant → Option Meant
   under None = None
   under (Some o) = Some (renumbered σ o)
 
-  same_lack : (c : Bool) (w : List ℕ) (o : Option Meant) → lacks_meaning c w (object_meant w (under o)) ≡ lacks_meaning c w (object_meant w o)
+  pub same_lack : (c : Bool) (w : List ℕ) (o : Option Meant) → lacks_meaning c w (object_meant w (under o)) ≡ lacks_meaning c w (object_meant w o)
   same_lack c w None = refl
   same_lack c w (Some (own (object.Local f n))) = refl
   same_lack c w (Some (own (object.Package n))) = refl
@@ -204,7 +246,7 @@ module _ (σ : ℕ → ℕ) where
   same_lack c w (Some (own (object.Predeclared p))) = refl
   same_lack c w (Some (outside o)) = refl
 
-  same_unknown : (w : List ℕ) (o : Option Meant) → is_unknown w (object_meant w (under o)) ≡ is_unknown w (object_meant w o)
+  pub same_unknown : (w : List ℕ) (o : Option Meant) → is_unknown w (object_meant w (under o)) ≡ is_unknown w (object_meant w o)
   same_unknown w None = refl
   same_unknown w (Some (own (object.Local f n))) = refl
   same_unknown w (Some (own (object.Package n))) = refl
@@ -212,7 +254,7 @@ module _ (σ : ℕ → ℕ) where
   same_unknown w (Some (own (object.Predeclared p))) = refl
   same_unknown w (Some (outside o)) = refl
 
-  same_import : (w : List ℕ) (o : Option Meant) → is_import (object_meant w (under o)) ≡ is_import (object_meant w o)
+  pub same_import : (w : List ℕ) (o : Option Meant) → is_import (object_meant w (under o)) ≡ is_import (object_meant w o)
   same_import w None = refl
   same_import w (Some (own (object.Local f n))) = refl
   same_import w (Some (own (object.Package n))) = refl
@@ -221,7 +263,7 @@ module _ (σ : ℕ → ℕ) where
   same_import w (Some (outside o)) = refl
 
   -- a name that means a plain object fails no rule
-  plain_declared : (c : Bool) (w : List ℕ) (o : Meant) → IsPlain o → lacks_meaning c w (object_meant w (under (Some o))) ≡ false
+  pub plain_declared : (c : Bool) (w : List ℕ) (o : Meant) → IsPlain o → lacks_meaning c w (object_meant w (under (Some o))) ≡ false
   plain_declared c w (own (object.Local f n)) h = refl
   plain_declared c w (own (object.Package n)) h = refl
   plain_declared c w (own object.Import) h = absurd h
@@ -232,14 +274,14 @@ module _ (σ : ℕ → ℕ) where
   plain_declared c w (outside (object.Predeclared predeclared.Iota)) h = absurd h
   plain_declared c w (outside (object.Predeclared p)) h = refl
 
-  plain_known : (w : List ℕ) (o : Meant) → is_unknown w (object_meant w (under (Some o))) ≡ false
+  pub plain_known : (w : List ℕ) (o : Meant) → is_unknown w (object_meant w (under (Some o))) ≡ false
   plain_known w (own (object.Local f n)) = refl
   plain_known w (own (object.Package n)) = refl
   plain_known w (own object.Import) = refl
   plain_known w (own (object.Predeclared p)) = refl
   plain_known w (outside o) = refl
 
-  plain_import : (w : List ℕ) (o : Meant) → IsPlain o → is_import (object_meant w (under (Some o))) ≡ false
+  pub plain_import : (w : List ℕ) (o : Meant) → IsPlain o → is_import (object_meant w (under (Some o))) ≡ false
   plain_import w (own (object.Local f n)) h = refl
   plain_import w (own (object.Package n)) h = refl
   plain_import w (own object.Import) h = absurd h
@@ -248,6 +290,32 @@ module _ (σ : ℕ → ℕ) where
   plain_import w (outside (object.Package n)) h = refl
   plain_import w (outside object.Import) h = absurd h
   plain_import w (outside (object.Predeclared p)) h = refl
+
+-- a role stays what it is
+pub other_same : (v : ℕ → ℕ) (r : Role) (w : List ℕ) → is_other_member (carried_role v r) w ≡ is_other_member r w
+other_same v (role.Selected last called) w = refl
+other_same v role.Operand w = refl
+other_same v role.Assigned w = refl
+other_same v role.Called w = refl
+other_same v (role.New d) w = refl
+other_same v (role.Field g) w = refl
+other_same v (role.Key g) w = refl
+other_same v (role.Parameter g s) w = refl
+
+pub call_same : (v : ℕ → ℕ) (r : Role) (w : List ℕ) → is_no_call (carried_role v r) w ≡ is_no_call r w
+call_same v (role.Selected last true) w = refl
+call_same v (role.Selected last false) w = refl
+call_same v role.Operand w = refl
+call_same v role.Assigned w = refl
+call_same v role.Called w = refl
+call_same v (role.New d) w = refl
+call_same v (role.Field g) w = refl
+call_same v (role.Key g) w = refl
+call_same v (role.Parameter g s) w = refl
+
+pub off_import : (b c : Bool) → b ≡ false → (b && c) ≡ false
+off_import true c e = cc
+off_import false c e = refl
 
 module _ (a new : Alone) (outer : Outer) (gaps : List Gap) (site : IsSite a outer gaps new) (told : TellsPieces (moved_by gaps) (file_context 0) a.tree site.patch (become (moved_by gaps) a.tree site.patch)) (free : own_second_declarations a ≡ []) where
   abbrev v : ℕ → ℕ
@@ -372,33 +440,8 @@ module _ (a new : Alone) (outer : Outer) (gaps : List Gap) (site : IsSite a oute
   selected_same (role.Key g) h = refl
   selected_same (role.Parameter g s) h = refl
 
-  other_same : (r : Role) (w : List ℕ) → is_other_member (carried_role v r) w ≡ is_other_member r w
-  other_same (role.Selected last called) w = refl
-  other_same role.Operand w = refl
-  other_same role.Assigned w = refl
-  other_same role.Called w = refl
-  other_same (role.New d) w = refl
-  other_same (role.Field g) w = refl
-  other_same (role.Key g) w = refl
-  other_same (role.Parameter g s) w = refl
-
-  call_same : (r : Role) (w : List ℕ) → is_no_call (carried_role v r) w ≡ is_no_call r w
-  call_same (role.Selected last true) w = refl
-  call_same (role.Selected last false) w = refl
-  call_same role.Operand w = refl
-  call_same role.Assigned w = refl
-  call_same role.Called w = refl
-  call_same (role.New d) w = refl
-  call_same (role.Field g) w = refl
-  call_same (role.Key g) w = refl
-  call_same (role.Parameter g s) w = refl
-
   import_same : (u : Use) → Among (event.Use u) old_events → Stays gaps u.name → is_blank (own_text a u.name) ≡ false → is_import (object_asked (own_ask new outer (carried_use v u))) ≡ is_import (object_asked (own_ask a outer u))
   import_same u k s b = ap is_import (kept_object u k s b) ∙ same_import σ (own_text a u.name) (own_meant a outer u.name (own_text a u.name)) ∙ ap is_import (sym (asked_object a outer u b))
-
-  off_import : (b c : Bool) → b ≡ false → (b && c) ≡ false
-  off_import true c e = cc
-  off_import false c e = refl
 
   pub members_outside_stay : own_outside_members a outer ≡ [] → own_outside_members new outer ≡ []
   members_outside_stay e =
@@ -406,7 +449,7 @@ module _ (a new : Alone) (outer : Outer) (gaps : List Gap) (site : IsSite a oute
       (off_new is_member
       (λ u k s r i b h.
       ap (λ c. c && is_other_member (carried_role v u.role) (own_selected new (carried_role v u.role))) (import_same u k s b)
-      ∙ ap (λ c. is_import (object_asked (own_ask a outer u)) && c) (other_same u.role (own_selected new (carried_role v u.role)) ∙ ap (is_other_member u.role) (selected_same u.role r)) ∙ h)
+      ∙ ap (λ c. is_import (object_asked (own_ask a outer u)) && c) (other_same v u.role (own_selected new (carried_role v u.role)) ∙ ap (is_other_member u.role) (selected_same u.role r)) ∙ h)
       (λ u o p i b m. off_import (is_import (object_asked (own_ask new outer u))) (is_other_member u.role (own_selected new u.role)) (ap is_import (new_object u o b m) ∙ plain_import σ (own_text new u.name) o p))
       (rule_off is_member (λ x. x.whole) outside_members refl (λ x xs. refl) (own_asked a outer) e))
 
@@ -416,7 +459,7 @@ module _ (a new : Alone) (outer : Outer) (gaps : List Gap) (site : IsSite a oute
       (off_new is_uncalled
       (λ u k s r i b h.
       ap (λ c. c && is_no_call (carried_role v u.role) (own_selected new (carried_role v u.role))) (import_same u k s b)
-      ∙ ap (λ c. is_import (object_asked (own_ask a outer u)) && c) (call_same u.role (own_selected new (carried_role v u.role)) ∙ ap (is_no_call u.role) (selected_same u.role r)) ∙ h)
+      ∙ ap (λ c. is_import (object_asked (own_ask a outer u)) && c) (call_same v u.role (own_selected new (carried_role v u.role)) ∙ ap (is_no_call u.role) (selected_same u.role r)) ∙ h)
       (λ u o p i b m. off_import (is_import (object_asked (own_ask new outer u))) (is_no_call u.role (own_selected new u.role)) (ap is_import (new_object u o b m) ∙ plain_import σ (own_text new u.name) o p))
       (rule_off is_uncalled (λ x. x.whole) not_called refl (λ x xs. refl) (own_asked a outer) e))
 

@@ -73,7 +73,7 @@ defaults_gone (event.Misplaced i j ∷ es) rest e = defaults_gone es rest e
 
 -- ---- members
 
-or_both : (b c : Bool) → b ≡ false → c ≡ false → (b || c) ≡ false
+pub or_both : (b c : Bool) → b ≡ false → c ≡ false → (b || c) ≡ false
 or_both true c e f = cc
 or_both false c e f = f
 
@@ -81,23 +81,23 @@ or_assoc : (b c d : Bool) → (b || (c || d)) ≡ ((b || c) || d)
 or_assoc true c d = refl
 or_assoc false c d = refl
 
-or_split : (b c : Bool) → (b || c) ≡ true → (b ≡ true) ⊎ (c ≡ true)
+pub or_split : (b c : Bool) → (b || c) ≡ true → (b ≡ true) ⊎ (c ≡ true)
 or_split true c e = inl refl
 or_split false c e = inr e
 
-or_first : (b c : Bool) → b ≡ true → (b || c) ≡ true
+pub or_first : (b c : Bool) → b ≡ true → (b || c) ≡ true
 or_first true c e = refl
 or_first false c e = cc
 
-or_second : (b c : Bool) → c ≡ true → (b || c) ≡ true
+pub or_second : (b c : Bool) → c ≡ true → (b || c) ≡ true
 or_second true c e = refl
 or_second false c e = e
 
-not_on : (b : Bool) → (b ≡ true → ⊥) → b ≡ false
+pub not_on : (b : Bool) → (b ≡ true → ⊥) → b ≡ false
 not_on true h = absurd (h refl)
 not_on false h = refl
 
-has_append : (t : ℕ → List ℕ) (m : Member) (g : ℕ) (w : List ℕ) (es fs : List Event) → own_has_member t m g w (es ++ fs) ≡ (own_has_member t m g w es || own_has_member t m g w fs)
+pub has_append : (t : ℕ → List ℕ) (m : Member) (g : ℕ) (w : List ℕ) (es fs : List Event) → own_has_member t m g w (es ++ fs) ≡ (own_has_member t m g w es || own_has_member t m g w fs)
 has_append t m g w [] fs = refl
 has_append t m g w (event.Member o h x ∷ es) fs = ap (λ b. (same_member m o && nat_eq g h && same_text w (t x)) || b) (has_append t m g w es fs) ∙ or_assoc (same_member m o && nat_eq g h && same_text w (t x)) (own_has_member t m g w es) (own_has_member t m g w fs)
 has_append t m g w (event.Import i ∷ es) fs = has_append t m g w es fs
@@ -109,7 +109,7 @@ has_append t m g w (event.Misplaced i j ∷ es) fs = has_append t m g w es fs
 has_append t m g w (event.SecondDefault i ∷ es) fs = has_append t m g w es fs
 
 -- a name is a duplicate there where it is one here
-duplicate_less : (t u : ℕ → List ℕ) (m : Member) (g h : ℕ) (w : List ℕ) (es fs : List Event) → (own_has_member t m g w es ≡ true → own_has_member u m h w fs ≡ true) → own_is_duplicate u m h w fs ≡ false → own_is_duplicate t m g w es ≡ false
+pub duplicate_less : (t u : ℕ → List ℕ) (m : Member) (g h : ℕ) (w : List ℕ) (es fs : List Event) → (own_has_member t m g w es ≡ true → own_has_member u m h w fs ≡ true) → own_is_duplicate u m h w fs ≡ false → own_is_duplicate t m g w es ≡ false
 duplicate_less t u member.Field g h w es fs f e = by (is_blank w) e
   where
     by : (b : Bool) → (b || own_has_member u member.Field h w fs) ≡ false → (b || own_has_member t member.Field g w es) ≡ false
@@ -131,21 +131,42 @@ duplicate_less t u member.Parameter g h w es fs f e = by (is_blank w) e
         off : own_has_member u member.Parameter h w fs ≡ true → own_has_member u member.Parameter h w fs ≡ false → ⊥
         off p q = cc
 
-no_place_if : (b : Bool) (s : Place) (ss : List Place) → place_if b s ss ≡ [] → (b ≡ false) × (ss ≡ [])
+pub no_place_if : (b : Bool) (s : Place) (ss : List Place) → place_if b s ss ≡ [] → (b ≡ false) × (ss ≡ [])
 no_place_if true s ss e = cc
 no_place_if false s ss e = (refl, e)
 
-a_place_if : (b : Bool) (s : Place) (ss : List Place) → b ≡ false → ss ≡ [] → place_if b s ss ≡ []
+pub a_place_if : (b : Bool) (s : Place) (ss : List Place) → b ≡ false → ss ≡ [] → place_if b s ss ≡ []
 a_place_if true s ss e f = cc
 a_place_if false s ss e f = f
 
-both_on : (b c : Bool) → (b && c) ≡ true → (b ≡ true) × (c ≡ true)
+pub both_on : (b c : Bool) → (b && c) ≡ true → (b ≡ true) × (c ≡ true)
 both_on true c e = (refl, e)
 both_on false c e = cc
 
-and_on : (b c : Bool) → b ≡ true → c ≡ true → (b && c) ≡ true
+pub and_on : (b c : Bool) → b ≡ true → c ≡ true → (b && c) ≡ true
 and_on true c e f = f
 and_on false c e f = cc
+
+pub one_member : (w : ℕ → List ℕ) (m o : Member) (g h x : ℕ) (s : List ℕ) → own_has_member w m g s (event.Member o h x ∷ []) ≡ ((same_member m o && nat_eq g h) && same_text s (w x))
+one_member w m o g h x s = by (same_member m o && nat_eq g h && same_text s (w x))
+  where
+    by : (b : Bool) → (b || false) ≡ b
+    by true = refl
+    by false = refl
+
+-- a run that goes
+pub members_gone : (t : ℕ → List ℕ) (es b rest : List Event) → second_members_by t b (es ++ rest) ≡ [] → second_members_by t (b ++ es) rest ≡ []
+members_gone t [] b rest e = ap (λ z. second_members_by t z rest) (append-nil b) ∙ e
+members_gone t (event.Member m g x ∷ es) b rest e =
+    let p = no_place_if (own_is_duplicate t m g (t x) b) no_place (second_members_by t (b ++ event.Member m g x ∷ []) (es ++ rest)) e in
+    ap (λ z. second_members_by t z rest) (sym (append_assoc b (event.Member m g x ∷ []) es)) ∙ members_gone t es (b ++ event.Member m g x ∷ []) rest p.1
+members_gone t (event.Import i ∷ es) b rest e = ap (λ z. second_members_by t z rest) (sym (append_assoc b (event.Import i ∷ []) es)) ∙ members_gone t es (b ++ event.Import i ∷ []) rest e
+members_gone t (event.Declaration d ∷ es) b rest e = ap (λ z. second_members_by t z rest) (sym (append_assoc b (event.Declaration d ∷ []) es)) ∙ members_gone t es (b ++ event.Declaration d ∷ []) rest e
+members_gone t (event.Use x ∷ es) b rest e = ap (λ z. second_members_by t z rest) (sym (append_assoc b (event.Use x ∷ []) es)) ∙ members_gone t es (b ++ event.Use x ∷ []) rest e
+members_gone t (event.Bodiless i j ∷ es) b rest e = ap (λ z. second_members_by t z rest) (sym (append_assoc b (event.Bodiless i j ∷ []) es)) ∙ members_gone t es (b ++ event.Bodiless i j ∷ []) rest e
+members_gone t (event.Statement i j ∷ es) b rest e = ap (λ z. second_members_by t z rest) (sym (append_assoc b (event.Statement i j ∷ []) es)) ∙ members_gone t es (b ++ event.Statement i j ∷ []) rest e
+members_gone t (event.Misplaced i j ∷ es) b rest e = ap (λ z. second_members_by t z rest) (sym (append_assoc b (event.Misplaced i j ∷ []) es)) ∙ members_gone t es (b ++ event.Misplaced i j ∷ []) rest e
+members_gone t (event.SecondDefault i ∷ es) b rest e = ap (λ z. second_members_by t z rest) (sym (append_assoc b (event.SecondDefault i ∷ []) es)) ∙ members_gone t es (b ++ event.SecondDefault i ∷ []) rest e
 
 module _ (a new : Alone) (outer : Outer) (gaps : List Gap) (site : IsSite a outer gaps new) (told : TellsPieces (moved_by gaps) (file_context 0) a.tree site.patch (become (moved_by gaps) a.tree site.patch)) where
   abbrev v : ℕ → ℕ
@@ -217,13 +238,6 @@ module _ (a new : Alone) (outer : Outer) (gaps : List Gap) (site : IsSite a oute
   abbrev WithoutAll : List Gap → List Event → Type 0
   WithoutAll [] fs = Unit {0}
   WithoutAll (g ∷ gs) fs = Without g fs × WithoutAll gs fs
-
-  one_member : (w : ℕ → List ℕ) (m o : Member) (g h x : ℕ) (s : List ℕ) → own_has_member w m g s (event.Member o h x ∷ []) ≡ ((same_member m o && nat_eq g h) && same_text s (w x))
-  one_member w m o g h x s = by (same_member m o && nat_eq g h && same_text s (w x))
-    where
-      by : (b : Bool) → (b || false) ≡ b
-      by true = refl
-      by false = refl
 
   -- a group that stays is none of a gap
   group_apart : (g : Gap) (x h : ℕ) → Among g gaps → Stays gaps x → IsNew v g h → nat_eq h (v x) ≡ false
@@ -304,20 +318,6 @@ module _ (a new : Alone) (outer : Outer) (gaps : List Gap) (site : IsSite a oute
     members_stay (event.Statement i j ∷ es) b c h f o e = members_stay es (b ++ event.Statement i j ∷ []) (c ++ event.Statement (v i) (v j) ∷ []) h.1 (fewer_more (event.Statement i j) b c h.0 f) (all_more gs (event.Statement i j) c into h.0 o) e
     members_stay (event.Misplaced i j ∷ es) b c h f o e = members_stay es (b ++ event.Misplaced i j ∷ []) (c ++ event.Misplaced (v i) (v j) ∷ []) h.1 (fewer_more (event.Misplaced i j) b c h.0 f) (all_more gs (event.Misplaced i j) c into h.0 o) e
     members_stay (event.SecondDefault i ∷ es) b c h f o e = members_stay es (b ++ event.SecondDefault i ∷ []) (c ++ event.SecondDefault (v i) ∷ []) h.1 (fewer_more (event.SecondDefault i) b c h.0 f) (all_more gs (event.SecondDefault i) c into h.0 o) e
-
-  -- a run that goes
-  members_gone : (es b rest : List Event) → second_members_by t b (es ++ rest) ≡ [] → second_members_by t (b ++ es) rest ≡ []
-  members_gone [] b rest e = ap (λ z. second_members_by t z rest) (append-nil b) ∙ e
-  members_gone (event.Member m g x ∷ es) b rest e =
-      let p = no_place_if (own_is_duplicate t m g (t x) b) no_place (second_members_by t (b ++ event.Member m g x ∷ []) (es ++ rest)) e in
-      ap (λ z. second_members_by t z rest) (sym (append_assoc b (event.Member m g x ∷ []) es)) ∙ members_gone es (b ++ event.Member m g x ∷ []) rest p.1
-  members_gone (event.Import i ∷ es) b rest e = ap (λ z. second_members_by t z rest) (sym (append_assoc b (event.Import i ∷ []) es)) ∙ members_gone es (b ++ event.Import i ∷ []) rest e
-  members_gone (event.Declaration d ∷ es) b rest e = ap (λ z. second_members_by t z rest) (sym (append_assoc b (event.Declaration d ∷ []) es)) ∙ members_gone es (b ++ event.Declaration d ∷ []) rest e
-  members_gone (event.Use x ∷ es) b rest e = ap (λ z. second_members_by t z rest) (sym (append_assoc b (event.Use x ∷ []) es)) ∙ members_gone es (b ++ event.Use x ∷ []) rest e
-  members_gone (event.Bodiless i j ∷ es) b rest e = ap (λ z. second_members_by t z rest) (sym (append_assoc b (event.Bodiless i j ∷ []) es)) ∙ members_gone es (b ++ event.Bodiless i j ∷ []) rest e
-  members_gone (event.Statement i j ∷ es) b rest e = ap (λ z. second_members_by t z rest) (sym (append_assoc b (event.Statement i j ∷ []) es)) ∙ members_gone es (b ++ event.Statement i j ∷ []) rest e
-  members_gone (event.Misplaced i j ∷ es) b rest e = ap (λ z. second_members_by t z rest) (sym (append_assoc b (event.Misplaced i j ∷ []) es)) ∙ members_gone es (b ++ event.Misplaced i j ∷ []) rest e
-  members_gone (event.SecondDefault i ∷ es) b rest e = ap (λ z. second_members_by t z rest) (sym (append_assoc b (event.SecondDefault i ∷ []) es)) ∙ members_gone es (b ++ event.SecondDefault i ∷ []) rest e
 
   -- the members of a gap, behind others that are of none of its groups
   module _ (g : Gap) (c : List Event) (f : Without g c) (rest : List Event) where
@@ -403,7 +403,7 @@ module _ (a new : Alone) (outer : Outer) (gaps : List Gap) (site : IsSite a oute
   members_pieces (gap old news ∷ ps) (g ∷ gs) j h p into b c f o e =
       let k : Among g gaps = into g (inl refl) in
       let q : second_members_by u (c ++ news) (told_behind v ps) ≡ [] =
-      members_pieces ps gs g.upto h.2 p.3 (λ x m. into x (inr m)) (b ++ old) (c ++ news) (fewer_gap g old news b c k h.1.each f) (all_behind g old news gs g.upto c k h.1.each (omega arith) p.3 (λ x m. into x (inr m)) o.1) (members_gone old b (told_before ps) e) in
+      members_pieces ps gs g.upto h.2 p.3 (λ x m. into x (inr m)) (b ++ old) (c ++ news) (fewer_gap g old news b c k h.1.each f) (all_behind g old news gs g.upto c k h.1.each (omega arith) p.3 (λ x m. into x (inr m)) o.1) (members_gone t old b (told_before ps) e) in
       ap (λ z. second_members_by u z (news ++ told_behind v ps)) (sym (append-nil c))
       ∙ members_new g c o.0 (told_behind v ps) old news [] h.1.each h.1.members_once (ap (λ z. second_members_by u (z ++ news) (told_behind v ps)) (append-nil c) ∙ q)
 

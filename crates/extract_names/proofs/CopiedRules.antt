@@ -28,7 +28,7 @@ use Rattle.extract_names.proofs.Edges.{eq_true}
 use Rattle.extract_names.proofs.Rows.{both_true, on_off, not_on, every_among}
 use Rattle.extract_names.proofs.Replaced.{among_split, found_among, new_found, clash_free}
 use Rattle.extract_names.proofs.Declares.{new_is, clash_flip, any_two, none_second}
-use Rattle.extract_names.proofs.Copied as copied
+use Rattle.extract_names.proofs.CopiedRows as copied
 
 -- ---- events
 

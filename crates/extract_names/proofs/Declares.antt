@@ -28,7 +28,7 @@ use Rattle.go_scopes_events.specs.Scopes.{otherwise}
 use Rattle.go_heads.specs.Functions.{Alone}
 use Rattle.go_heads.specs.Names.{own_text, own_names, own_declarations}
 use Rattle.go_scopes_bodies.specs.Carried.{carried_block, carried_declaration, carried_event, carried_role, carried_use}
-use Rattle.go_scopes_bodies.specs.Faults.{outer_meaning, own_ask, asked_among, own_asked, own_second_declarations, own_none_new, own_unused}
+use Rattle.go_scopes_bodies.specs.Faults.{outer_meaning, own_ask, own_asked, own_second_declarations, own_none_new, own_unused}
 use Rattle.go_scopes_bodies.specs.Meant.{Meant, own, Outer, own_local, or_outside, own_meant}
 use Rattle.extract_names.specs.Gaps.{Gap, moved_by, Among, IsInRun, Stays, AtEdge, BlockAtEdge}
 use Rattle.extract_names.specs.Pieces.{TellsPieces}
@@ -36,7 +36,7 @@ use Rattle.extract_names.specs.Sites.{found_as, declared_at, token_of, Declarati
 use Rattle.extract_names.proofs.Edges.{is_eq, eq_true, not_eq}
 use Rattle.extract_names.proofs.Founds.{RiseFrom, find, find_self, IsObject, object_found, meaning_found}
 use Rattle.extract_names.proofs.Rows.{both_true, and_true, on_off, every_among, ClashFree}
-use Rattle.extract_names.proofs.Replaced.{carried_local, among_left, among_right, among_split, among_new, among_found, found_among, new_found, clash_free, block_same, in_block}
+use Rattle.extract_names.proofs.Replaced.{among_left, among_right, among_split, among_new, among_found, found_among, new_found, clash_free, block_same, in_block}
 use Rattle.extract_names.proofs.Replaced as replaced
 use Rattle.extract_names.proofs.Kept as kept
 use Rattle.extract_names.proofs.Asked as asked
@@ -149,7 +149,7 @@ not_in g t r (inr le) = let lt : t < g.upto = r.1 in omega (arith, le, lt)
 
 -- ---- new names of `:=`
 
-new_found_of : (x : Found) (ds : List Found) → has_new x ds ≡ true → (d : Found) × Among d ds × (same_statement x d ≡ true)
+pub new_found_of : (x : Found) (ds : List Found) → has_new x ds ≡ true → (d : Found) × Among d ds × (same_statement x d ≡ true)
 new_found_of x [] e = cc
 new_found_of x (d ∷ ds) e = by (same_statement x d) refl e (new_found_of x ds)
   where
@@ -157,7 +157,7 @@ new_found_of x (d ∷ ds) e = by (same_statement x d) refl e (new_found_of x ds)
     by true q e go = (d, inl refl, q)
     by false q e go = let y = go e in (y.0, inr y.1, y.2)
 
-new_told : (x : Found) (ds : List Found) (d : Found) → Among d ds → same_statement x d ≡ true → has_new x ds ≡ true
+pub new_told : (x : Found) (ds : List Found) (d : Found) → Among d ds → same_statement x d ≡ true → has_new x ds ≡ true
 new_told x [] d k e = absurd k
 new_told x (y ∷ ds) d (inl q) e = ap (λ b. b || has_new x ds) (subst (λ z. same_statement x z ≡ true) q e)
 new_told x (y ∷ ds) d (inr k) e = by (same_statement x y) (new_told x ds d k e)
@@ -166,10 +166,10 @@ new_told x (y ∷ ds) d (inr k) e = by (same_statement x y) (new_told x ds d k e
     by true e = refl
     by false e = e
 
-abbrev LacksNew : List Found → Found → Type 0
+abbrev pub LacksNew : List Found → Found → Type 0
 LacksNew ds x = (is_by_define x.it.manner && nat_eq x.it.column 0 && not (has_new x ds)) ≡ false
 
-none_lacks : (ds xs : List Found) → none_new ds xs ≡ [] → (x : Found) → Among x xs → LacksNew ds x
+pub none_lacks : (ds xs : List Found) → none_new ds xs ≡ [] → (x : Found) → Among x xs → LacksNew ds x
 none_lacks ds [] e x k = absurd k
 none_lacks ds (y ∷ xs) e x k = by (is_by_define y.it.manner && nat_eq y.it.column 0 && not (has_new y ds)) refl e k (λ f l. none_lacks ds xs f x l)
   where
@@ -178,20 +178,20 @@ none_lacks ds (y ∷ xs) e x k = by (is_by_define y.it.manner && nat_eq y.it.col
     by false q e (inl p) go = subst (LacksNew ds) (sym p) q
     by false q e (inr l) go = go e l
 
-lacks_none : (ds xs : List Found) → ((x : Found) → Among x xs → LacksNew ds x) → none_new ds xs ≡ []
+pub lacks_none : (ds xs : List Found) → ((x : Found) → Among x xs → LacksNew ds x) → none_new ds xs ≡ []
 lacks_none ds [] f = refl
 lacks_none ds (x ∷ xs) f = ap (λ b. place_if b x.place (none_new ds xs)) (f x (inl refl)) ∙ lacks_none ds xs (λ y k. f y (inr k))
 
 -- ---- unused variables
 
-abbrev IsSpent : List Asked → Found → Type 0
+abbrev pub IsSpent : List Asked → Found → Type 0
 IsSpent asks d = (is_counted d.it.entity d.it.block && not (is_used d asks)) ≡ false
 
-spent_none : (asks : List Asked) (ds : List Found) → ((d : Found) → Among d ds → IsSpent asks d) → unused_variables asks ds ≡ []
+pub spent_none : (asks : List Asked) (ds : List Found) → ((d : Found) → Among d ds → IsSpent asks d) → unused_variables asks ds ≡ []
 spent_none asks [] f = refl
 spent_none asks (d ∷ ds) f = ap (λ b. place_if b d.place (unused_variables asks ds)) (f d (inl refl)) ∙ spent_none asks ds (λ x k. f x (inr k))
 
-used_told : (d : Found) (asks : List Asked) (x : Asked) → Among x asks → means d x.meaning ≡ true → is_assigned x.it.role ≡ false → is_used d asks ≡ true
+pub used_told : (d : Found) (asks : List Asked) (x : Asked) → Among x asks → means d x.meaning ≡ true → is_assigned x.it.role ≡ false → is_used d asks ≡ true
 used_told d [] x k e f = absurd k
 used_told d (y ∷ asks) x (inl q) e f = ap (λ b. b || is_used d asks) (subst (λ (z : Asked). (means d z.meaning && not (is_assigned z.it.role)) ≡ true) q (and_true (means d x.meaning) (not (is_assigned x.it.role)) e (ap not f)))
 used_told d (y ∷ asks) x (inr k) e f = by (means d y.meaning && not (is_assigned y.it.role)) (used_told d asks x k e f)
@@ -199,6 +199,22 @@ used_told d (y ∷ asks) x (inr k) e f = by (means d y.meaning && not (is_assign
     by : (b : Bool) → is_used d asks ≡ true → (b || is_used d asks) ≡ true
     by true e = refl
     by false e = e
+
+pub carried_assigned : (v : ℕ → ℕ) (r : Role) → is_assigned (carried_role v r) ≡ is_assigned r
+carried_assigned v role.Operand = refl
+carried_assigned v role.Assigned = refl
+carried_assigned v role.Called = refl
+carried_assigned v (role.Selected last called) = refl
+carried_assigned v (role.New d) = refl
+carried_assigned v (role.Field g) = refl
+carried_assigned v (role.Key g) = refl
+carried_assigned v (role.Parameter g s) = refl
+
+-- what has to be used is a local variable
+pub counted : (e : Entity) (b : Block) → is_counted e b ≡ true → (e ≡ entity.Variable) × (is_package b ≡ false)
+counted entity.Variable block.Package h = cc
+counted entity.Variable (block.Local i) h = (refl, refl)
+counted e b h = cc
 
 module _ (a new : Alone) (outer : Outer) (gaps : List Gap) (site : IsSite a outer gaps new) (told : TellsPieces (moved_by gaps) (file_context 0) a.tree site.patch (become (moved_by gaps) a.tree site.patch)) (free : own_second_declarations a ≡ []) where
   abbrev v : ℕ → ℕ
@@ -408,40 +424,6 @@ module _ (a new : Alone) (outer : Outer) (gaps : List Gap) (site : IsSite a oute
       by None q = absurd (from_outer q (outer w) refl (e ∙ its.1))
       by (Some m) q = from_local m q (e ∙ its.1)
 
-  among_asked : (es : List Event) (u : Use) → Among (event.Use u) es → is_blank (own_text new u.name) ≡ false → Among (own_ask new outer u) (asked_among new outer es)
-  among_asked [] u k b = absurd k
-  among_asked (event.Use x ∷ es) u k b = by (is_blank (own_text new x.name)) refl k (λ m. among_asked es u m b)
-    where
-      by : (c : Bool) → is_blank (own_text new x.name) ≡ c → Among (event.Use u) (event.Use x ∷ es) → (Among (event.Use u) es → Among (own_ask new outer u) (asked_among new outer es)) → Among (own_ask new outer u) (if c then asked_among new outer es else own_ask new outer x ∷ asked_among new outer es)
-      by true c (inl e) go = let q : u ≡ x = cc in let d : is_blank (own_text new u.name) ≡ true = ap (λ (z : Use). is_blank (own_text new z.name)) q ∙ c in cc
-      by true c (inr m) go = go m
-      by false c (inl e) go = inl (let q : u ≡ x = cc in ap (own_ask new outer) q)
-      by false c (inr m) go = inr (go m)
-  among_asked (event.Declaration d ∷ es) u (inl e) b = cc
-  among_asked (event.Declaration d ∷ es) u (inr k) b = among_asked es u k b
-  among_asked (event.Import x ∷ es) u (inl e) b = cc
-  among_asked (event.Import x ∷ es) u (inr k) b = among_asked es u k b
-  among_asked (event.Member m g x ∷ es) u (inl e) b = cc
-  among_asked (event.Member m g x ∷ es) u (inr k) b = among_asked es u k b
-  among_asked (event.Bodiless x y ∷ es) u (inl e) b = cc
-  among_asked (event.Bodiless x y ∷ es) u (inr k) b = among_asked es u k b
-  among_asked (event.Statement x y ∷ es) u (inl e) b = cc
-  among_asked (event.Statement x y ∷ es) u (inr k) b = among_asked es u k b
-  among_asked (event.Misplaced x y ∷ es) u (inl e) b = cc
-  among_asked (event.Misplaced x y ∷ es) u (inr k) b = among_asked es u k b
-  among_asked (event.SecondDefault x ∷ es) u (inl e) b = cc
-  among_asked (event.SecondDefault x ∷ es) u (inr k) b = among_asked es u k b
-
-  carried_assigned : (r : Role) → is_assigned (carried_role v r) ≡ is_assigned r
-  carried_assigned role.Operand = refl
-  carried_assigned role.Assigned = refl
-  carried_assigned role.Called = refl
-  carried_assigned (role.Selected last called) = refl
-  carried_assigned (role.New d) = refl
-  carried_assigned (role.Field g) = refl
-  carried_assigned (role.Key g) = refl
-  carried_assigned (role.Parameter g s) = refl
-
   module _ (d : Found) (k : Among d E) (l : is_package d.it.block ≡ false) (x : Origin d) where
     was_local : is_package x.was.block ≡ false
     was_local = by x.was.block (ap is_package (sym x.block) ∙ l)
@@ -468,7 +450,7 @@ module _ (a new : Alone) (outer : Outer) (gaps : List Gap) (site : IsSite a oute
 
     -- a use of what it is uses it
     used_by : (u : Use) → Among (event.Use u) new_events → is_assigned u.role ≡ false → own_meant new outer u.name (own_text new u.name) ≡ declared_at new d.it.name → is_used d (own_asked new outer) ≡ true
-    used_by u m r e = used_told d (own_asked new outer) (own_ask new outer u) (among_asked new_events u m blank) (means_it u.name (own_text new u.name) d k l x.file blank e) r
+    used_by u m r e = used_told d (own_asked new outer) (own_ask new outer u) (asked.asked_told new outer new_events u m blank) (means_it u.name (own_text new u.name) d k l x.file blank e) r
       where
         blank : is_blank (own_text new u.name) ≡ false
         blank = by (is_blank (own_text new u.name)) refl
@@ -486,7 +468,7 @@ module _ (a new : Alone) (outer : Outer) (gaps : List Gap) (site : IsSite a oute
         by (inl (u, m, s, r, q)) =
             let same : own_meant new outer (v u.name) (own_text a u.name) ≡ renamed a gaps new (own_meant a outer u.name (own_text a u.name)) = asked.kept_use a new outer gaps site told free u m s in
             let meant : own_meant a outer u.name (own_text a u.name) ≡ declared_at a x.was.name = sym (asked.old_use a new outer gaps site told free u m) ∙ q in
-            used_by (carried_use v u) (kept_there u (replaced.old_or_gone a new outer gaps site told (event.Use u) m) s) (carried_assigned u.role ∙ r)
+            used_by (carried_use v u) (kept_there u (replaced.old_or_gone a new outer gaps site told (event.Use u) m) s) (carried_assigned v u.role ∙ r)
             (ap (own_meant new outer (v u.name)) (site.texts u.name s) ∙ same ∙ ap (renamed a gaps new) meant ∙ sym object_same)
           where
             kept_there : (u : Use) → replaced.Remains a new outer gaps site told (event.Use u) ⊎ replaced.Gone a new outer gaps site told (event.Use u) → Stays gaps u.name → Among (event.Use (carried_use v u)) new_events
@@ -498,11 +480,6 @@ module _ (a new : Alone) (outer : Outer) (gaps : List Gap) (site : IsSite a oute
   pub variables_used : own_unused new outer ≡ []
   variables_used = spent_none (own_asked new outer) E (λ d k. by d k (origin d k) (is_counted d.it.entity d.it.block) refl)
     where
-      counted : (e : Entity) (b : Block) → is_counted e b ≡ true → (e ≡ entity.Variable) × (is_package b ≡ false)
-      counted entity.Variable block.Package h = cc
-      counted entity.Variable (block.Local i) h = (refl, refl)
-      counted e b h = cc
-
       by : (d : Found) → Among d E → (x : Origin d) → (b : Bool) → is_counted d.it.entity d.it.block ≡ b → (b && not (is_used d (own_asked new outer))) ≡ false
       by d k x false q = refl
       by d k x true q = let c = counted d.it.entity d.it.block q in ap not (spent d k c.1 x (sym x.entity ∙ c.0))

@@ -88,16 +88,16 @@ stand = (
           each = (
             tt,
             (
-              record { again = result; listed = inl refl; was = was; told = inr (inl refl); named = refl; new = refl; variable = refl; beyond = omega arith; behind = omega arith; before = omega arith; text = refl; name = refl; entity = refl; manner = refl; block = refl; from = refl; to = refl },
+              record { again = result; listed = inl refl; was = was; told = inr (inl refl); named = refl; new = refl; variable = refl; beyond = omega arith; behind = omega arith; before = omega arith; text = refl; name = refl; entity = refl; manner = refl; block = refl; from = refl; to = refl; source = (let a : 8 ≤ 9 = omega arith in a, let b : 9 < 20 = omega arith in b) },
               (
-                record { token = 2; within = omega arith; name = refl; calm = inr (outside (object.Predeclared predeclared.Int), refl, tt); initial = refl; constant = refl },
+                record { token = 2; within = omega arith; name = refl; calm = inr (outside (object.Predeclared predeclared.Int), refl, tt); initial = refl; constant = refl; declaring = inr (object.Predeclared predeclared.Int, refl) },
                 (
                   tt,
                   (
-                    record { token = 4; within = omega arith; name = refl; calm = inr (own (object.Local 0 1), refl, tt); initial = refl; constant = refl },
+                    record { token = 4; within = omega arith; name = refl; calm = inr (own (object.Local 0 1), refl, tt); initial = refl; constant = refl; declaring = inl refl },
                     (
-                      record { token = 6; within = omega arith; name = refl; calm = inr (outside (object.Package 1), refl, tt); initial = refl; constant = refl },
-                      (record { token = 8; within = omega arith; name = refl; calm = inr (own (object.Local 0 0), refl, tt); initial = refl; constant = refl }, tt),
+                      record { token = 6; within = omega arith; name = refl; calm = inr (outside (object.Package 1), refl, tt); initial = refl; constant = refl; declaring = inl refl },
+                      (record { token = 8; within = omega arith; name = refl; calm = inr (own (object.Local 0 0), refl, tt); initial = refl; constant = refl; declaring = inl refl }, tt),
                     ),
                   ),
                 ),

@@ -17,6 +17,7 @@ use Rattle.go_tree.specs.Uses.{declared_by}
 use Rattle.go_tree.specs.Units.{is_blank}
 use Rattle.go_scopes_events.specs.Orders.{AreInOrder}
 use Rattle.go_scopes_events.specs.Scopes.{is_local, locals_of, inner, inmost}
+use Rattle.go_scopes_cycles.specs.Needs.{source_of}
 use Rattle.go_heads.specs.Bodies.{function_events}
 use Rattle.go_heads.specs.Functions.{Alone}
 use Rattle.go_heads.specs.Locals.{locals_in}
@@ -334,6 +335,19 @@ meaning_found a lo r h t w m e =
         → (d : Found) × (m.source ≡ Some d) × (declared_at a d.it.name ≡ Some (own m.object)) × (find d.it.name (own_declarations a) ≡ Some d) × (d.file ≡ 0)
     by None s q = absurd s
     by (Some d) s q = let x = s.2 in let f : x.0 ≡ d = same_some x.0 d (sym x.1 ∙ s.0) in (d, s.0, ap (λ (z : Found). own_declared None z.it.name (own_meanings a)) (sym f) ∙ x.2, q.0, q.1)
+
+-- and what it is declared by
+pub local_source : (a : Alone) (lo : ℕ) → RiseFrom lo (own_declarations a) → Every (λ d. d.file ≡ 0) (own_declarations a) → (t : ℕ) (w : List ℕ) → source_of (own_local a t w) ≡ innermost_of t w None (own_declarations a)
+local_source a lo r h t w =
+    by (own_local a t w) (innermost_of t w None (own_declarations a))
+    (fold_same (own_meanings a) t w first_numbers (own_declarations a) None None tt
+    (every_map (λ m. (d : Found) × (m.source ≡ Some d) × (lo ≤ d.it.name) × (own_declared None d.it.name (own_meanings a) ≡ Some (own m.object))) (IsFound (own_meanings a) t w) (own_meanings a) (λ m x. (x.0, x.1, x.3)) (all_found first_numbers (own_declarations a) lo r h)))
+  where
+    by : (o : Option Meaning) (p : Option Found) → Same (own_meanings a) t w o p → source_of o ≡ p
+    by None None s = refl
+    by None (Some d) s = absurd s
+    by (Some m) None s = absurd s
+    by (Some m) (Some d) s = s.0
 
 -- ---- what is told of a token
 

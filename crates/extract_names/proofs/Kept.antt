@@ -22,7 +22,7 @@ use Rattle.extract_names.specs.Pieces.{Piece, stays, gap, told_before, told_behi
 use Rattle.extract_names.specs.Sites.{declared_at, DeclarationStays, EventStays, EachEvent, DeclarationGoes, EventGoes, EventIsNew, AllStand, IsSite, token_in, declared_behind, local_number, new_number, renamed}
 use Rattle.extract_names.proofs.Edges.{is_le, not_le, is_lt, not_lt, is_eq, eq_true, not_eq, upto_moved, stays_edge, placed, mono, same_le, same_lt, same_eq}
 use Rattle.extract_names.proofs.Founds.{RiseFrom, find, find_self, IsObject, object_found, object_none, hit, innermost_of, HoldsOf, innermost_holds, by_found, meant_is, Which, untold, looked_up, declaring, which, pick, first_of_two, object_is}
-use Rattle.extract_names.proofs.Rows.{first_off, second_off, and_true, not_on, on_off, hit_tells, every_among, Row, same, other, old_row, new_row, placed_at, Again, GapStands, RowsStand, LieAlike, Side, Sides, IsKept, IsAgain, IsLost, State, nothing, anew, lost, rows_fold}
+use Rattle.extract_names.proofs.Rows.{first_off, second_off, and_true, not_on, on_off, hit_tells, Row, same, other, old_row, new_row, placed_at, Again, GapStands, RowsStand, LieAlike, Side, Sides, IsLost, State, nothing, anew, lost, rows_fold}
 use Rattle.extract_names.proofs.Rows as rows
 use Rattle.extract_names.proofs.Replaced as replaced
 
@@ -167,11 +167,10 @@ module _ (a new : Alone) (outer : Outer) (gaps : List Gap) (site : IsSite a oute
         by (inl m) = (own (object.Package 0), m.1)
         by (inr m) = (own (object.Local 0 m.1), m.2)
 
-    lost_or_blank : (b : Bool) → is_blank w ≡ b → IsLost v gaps o p → Outcome t u w
-    lost_or_blank true q k = inl (new_meant ∙ ap (λ b. if b then None else by_found new p (outer w)) q ∙ sym (ap rename (old_meant ∙ ap (λ b. if b then None else by_found a o (outer w)) q)))
-    lost_or_blank false q k =
+    pub lost_means : is_blank w ≡ false → IsLost v gaps o p → MeansLost t w
+    lost_means q k =
         let s = some_object k.was k.old in
-        inr (record {
+        record {
           gap = k.gap;
           listed = k.listed;
           token = k.was.it.name;
@@ -180,7 +179,11 @@ module _ (a new : Alone) (outer : Outer) (gaps : List Gap) (site : IsSite a oute
           declared = s.1;
           meant = old_meant ∙ ap (λ b. if b then None else by_found a o (outer w)) q ∙ ap (λ z. by_found a z (outer w)) k.old ∙ s.1;
           gone = k.gone;
-        })
+        }
+
+    lost_or_blank : (b : Bool) → is_blank w ≡ b → IsLost v gaps o p → Outcome t u w
+    lost_or_blank true q k = inl (new_meant ∙ ap (λ b. if b then None else by_found new p (outer w)) q ∙ sym (ap rename (old_meant ∙ ap (λ b. if b then None else by_found a o (outer w)) q)))
+    lost_or_blank false q k = inr (lost_means q k)
 
     outcome : (hi j : ℕ) → State v gaps hi j o p → Outcome t u w
     outcome hi j (nothing e f) = alike (ap (λ z. by_found new z (outer w)) f ∙ outside_same (outer w) ∙ sym (ap (λ z. rename (by_found a z (outer w))) e))
@@ -195,10 +198,13 @@ module _ (a new : Alone) (outer : Outer) (gaps : List Gap) (site : IsSite a oute
         alike (by_declared k.was k.one k.old k.new (m ∙ ap (λ z. v k.gap.from + z) (sym t) ∙ sym (behind_gap v gaps 1 k.was.it.name site.apart k.gap k.listed k.in_run)) (k.local_new ∙ sym k.local))
     outcome hi j (lost k lt le) = lost_or_blank (is_blank w) refl k
 
-    pub meant_alike : LieAlike v gaps t u → Sides v gaps t u w all → Outcome t u w
-    meant_alike l s =
+    pub state_alike : LieAlike v gaps t u → Sides v gaps t u w all → (hi : ℕ) × (j : ℕ) × State v gaps hi j o p
+    state_alike l s =
         let x = rows_fold v gaps up t u l w all 0 1 None None (nothing refl refl) stand (subst (RiseFrom 0) (replaced.old_whole a new outer gaps site told) (replaced.rises_old a new outer gaps site told)) s in
-        outcome x.0 x.1 (subst (λ z. State v gaps x.0 x.1 z p) (sym (ap (innermost_of t w None) (replaced.old_whole a new outer gaps site told))) (subst (State v gaps x.0 x.1 (innermost_of t w None (old_row all))) (sym (ap (innermost_of u w None) (replaced.new_whole a new outer gaps site told))) x.2))
+        (x.0, x.1, subst (λ z. State v gaps x.0 x.1 z p) (sym (ap (innermost_of t w None) (replaced.old_whole a new outer gaps site told))) (subst (State v gaps x.0 x.1 (innermost_of t w None (old_row all))) (sym (ap (innermost_of u w None) (replaced.new_whole a new outer gaps site told))) x.2))
+
+    pub meant_alike : LieAlike v gaps t u → Sides v gaps t u w all → Outcome t u w
+    meant_alike l s = let x = state_alike l s in outcome x.0 x.1 x.2
 
   -- ---- tokens that stay
 
@@ -227,6 +233,10 @@ module _ (a new : Alone) (outer : Outer) (gaps : List Gap) (site : IsSite a oute
     kept_sides w [] i h = tt
     kept_sides w (same ds ∷ rs) i h = kept_sides w rs i h.1
     kept_sides w (other g old news ∷ rs) i h = (kept_side w g old news h.1, kept_sides w rs g.upto h.2)
+
+    -- the innermost declarations of a name
+    pub kept_state : (w : List ℕ) → (hi : ℕ) × (j : ℕ) × State v gaps hi j (innermost_of t w None D) (innermost_of (v t) w None E)
+    kept_state w = state_alike t (v t) w kept_alike (kept_sides w all 1 stand)
 
     kept_meant : (w : List ℕ) → Outcome t (v t) w
     kept_meant w = meant_alike t (v t) w kept_alike (kept_sides w all 1 stand)
@@ -369,7 +379,7 @@ module _ (a new : Alone) (outer : Outer) (gaps : List Gap) (site : IsSite a oute
         ∙ ap (λ z. pick z new_use (first_of_two (declared_at new (v t)) new_use)) which_same
 
     -- a local of a run that the token names is needed
-    not_lost : MeansLost t w → own_object a outer t ≡ old_use → ⊥
+    pub not_lost : MeansLost t w → own_object a outer t ≡ old_use → ⊥
     not_lost k e = let y = site.needed k.gap k.listed k.token k.in_run k.it k.declared (inl (t, st, e ∙ k.meant)) in k.gone y.0 y.1 y.2
 
     pub kept_use : which t old_events ≡ looked_up → new_use ≡ rename old_use

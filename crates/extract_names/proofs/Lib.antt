@@ -9,8 +9,17 @@ mod Calm
 mod Asked
 mod Declares
 mod Repeated
+mod Rounds
+mod Sources
+mod SiteCycles
 mod AllRules
 mod ExampleSite
+mod CopiedRows
 mod Copied
 mod CopiedRules
+mod CopyNames
+mod CopyAsked
+mod CopyMembers
+mod CopyDeclares
+mod CopyCycles
 mod CopySite

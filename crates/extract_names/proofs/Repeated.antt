@@ -25,7 +25,7 @@ use Rattle.go_scopes_bodies.specs.Faults.{own_hidden_lists}
 use Rattle.go_scopes_bodies.specs.Meant.{Outer}
 use Rattle.extract_names.specs.Gaps.{Gap, moved_by, Among, Stays, AtEdge}
 use Rattle.extract_names.specs.Pieces.{Piece, stays, gap, told_before, told_behind, TellsPieces}
-use Rattle.extract_names.specs.Sites.{EachEvent, TokenStays, DeclarationStays, EventStays, EventIsNew, AllStand, IsSite}
+use Rattle.extract_names.specs.Sites.{specification_at, EachEvent, TokenStays, DeclarationStays, EventStays, EventIsNew, AllStand, IsSite}
 use Rattle.extract_names.proofs.Edges.{rises, same_eq, stays_edge}
 use Rattle.extract_names.proofs.Rows.{both_true, and_true, second_off}
 use Rattle.extract_names.proofs.Replaced.{among_left, among_right, among_split}
@@ -33,7 +33,7 @@ use Rattle.extract_names.proofs.Replaced as replaced
 
 -- ---- what uses and hides names of a list
 
-use_found : (s : ℕ) (w : List ℕ) (t : ℕ → List ℕ) (es : List Event) → uses_name s w t es ≡ true → (u : Use) × Among (event.Use u) es × (is_list s (list_around u) ≡ true) × (same_text w (t u.name) ≡ true)
+pub use_found : (s : ℕ) (w : List ℕ) (t : ℕ → List ℕ) (es : List Event) → uses_name s w t es ≡ true → (u : Use) × Among (event.Use u) es × (is_list s (list_around u) ≡ true) × (same_text w (t u.name) ≡ true)
 use_found s w t [] e = cc
 use_found s w t (event.Use u ∷ es) e = by (is_list s (list_around u) && same_text w (t u.name)) refl e (use_found s w t es)
   where
@@ -57,7 +57,7 @@ or_second : (b c : Bool) → c ≡ true → (b || c) ≡ true
 or_second true c e = refl
 or_second false c e = e
 
-use_told : (s : ℕ) (w : List ℕ) (t : ℕ → List ℕ) (es : List Event) (u : Use) → Among (event.Use u) es → is_list s (list_around u) ≡ true → same_text w (t u.name) ≡ true → uses_name s w t es ≡ true
+pub use_told : (s : ℕ) (w : List ℕ) (t : ℕ → List ℕ) (es : List Event) (u : Use) → Among (event.Use u) es → is_list s (list_around u) ≡ true → same_text w (t u.name) ≡ true → uses_name s w t es ≡ true
 use_told s w t [] u k e f = absurd k
 use_told s w t (event.Use x ∷ es) u (inl q) e f = let p : u ≡ x = cc in or_first (is_list s (list_around x) && same_text w (t x.name)) (uses_name s w t es) (subst (λ (z : Use). (is_list s (list_around z) && same_text w (t z.name)) ≡ true) p (and_true (is_list s (list_around u)) (same_text w (t u.name)) e f))
 use_told s w t (event.Use x ∷ es) u (inr k) e f = or_second (is_list s (list_around x) && same_text w (t x.name)) (uses_name s w t es) (use_told s w t es u k e f)
@@ -76,10 +76,10 @@ use_told s w t (event.Misplaced x z ∷ es) u (inr k) e f = use_told s w t es u 
 use_told s w t (event.SecondDefault x ∷ es) u (inl q) e f = cc
 use_told s w t (event.SecondDefault x ∷ es) u (inr k) e f = use_told s w t es u k e f
 
-abbrev Hides : ℕ → (ℕ → List ℕ) → List Event → Declaration → Type 0
+abbrev pub Hides : ℕ → (ℕ → List ℕ) → List Event → Declaration → Type 0
 Hides s t all d = (is_list s (list_of d) && not (is_blank (t d.name)) && uses_name s (t d.name) t all) ≡ true
 
-hide_found : (s : ℕ) (t : ℕ → List ℕ) (all es : List Event) → hides_one s t all es ≡ true → (d : Declaration) × Among (event.Declaration d) es × Hides s t all d
+pub hide_found : (s : ℕ) (t : ℕ → List ℕ) (all es : List Event) → hides_one s t all es ≡ true → (d : Declaration) × Among (event.Declaration d) es × Hides s t all d
 hide_found s t all [] e = cc
 hide_found s t all (event.Declaration d ∷ es) e = by (is_list s (list_of d) && not (is_blank (t d.name)) && uses_name s (t d.name) t all) refl e (hide_found s t all es)
   where
@@ -95,7 +95,7 @@ hide_found s t all (event.Statement x z ∷ es) e = let y = hide_found s t all e
 hide_found s t all (event.Misplaced x z ∷ es) e = let y = hide_found s t all es e in (y.0, inr y.1, y.2)
 hide_found s t all (event.SecondDefault x ∷ es) e = let y = hide_found s t all es e in (y.0, inr y.1, y.2)
 
-hide_told : (s : ℕ) (t : ℕ → List ℕ) (all es : List Event) (d : Declaration) → Among (event.Declaration d) es → Hides s t all d → hides_one s t all es ≡ true
+pub hide_told : (s : ℕ) (t : ℕ → List ℕ) (all es : List Event) (d : Declaration) → Among (event.Declaration d) es → Hides s t all d → hides_one s t all es ≡ true
 hide_told s t all [] d k e = absurd k
 hide_told s t all (event.Declaration x ∷ es) d (inl q) e = let p : d ≡ x = cc in or_first (is_list s (list_of x) && not (is_blank (t x.name)) && uses_name s (t x.name) t all) (hides_one s t all es) (subst (Hides s t all) p e)
 hide_told s t all (event.Declaration x ∷ es) d (inr k) e = or_second (is_list s (list_of x) && not (is_blank (t x.name)) && uses_name s (t x.name) t all) (hides_one s t all es) (hide_told s t all es d k e)
@@ -116,7 +116,7 @@ hide_told s t all (event.SecondDefault x ∷ es) d (inr k) e = hide_told s t all
 
 -- ---- lists that stand elsewhere
 
-list_by_carried : (v : ℕ → ℕ) (e : Entity) (s : Option ℕ) → list_by e (carried_token v s) ≡ carried_token v (list_by e s)
+pub list_by_carried : (v : ℕ → ℕ) (e : Entity) (s : Option ℕ) → list_by e (carried_token v s) ≡ carried_token v (list_by e s)
 list_by_carried v entity.Constant s = refl
 list_by_carried v entity.Type s = refl
 list_by_carried v entity.Variable s = refl
@@ -129,7 +129,7 @@ list_at_carried v (site_of.Type s) = refl
 list_at_carried v (site_of.Value s column alone) = refl
 list_at_carried v (site_of.Right s reach) = refl
 
-around_carried : (v : ℕ → ℕ) (u : Use) → list_around (carried_use v u) ≡ carried_token v (list_around u)
+pub around_carried : (v : ℕ → ℕ) (u : Use) → list_around (carried_use v u) ≡ carried_token v (list_around u)
 around_carried v u = by u.constant (list_at_carried v u.site)
   where
     by : (b : Bool) → list_at (carried_site v u.site) ≡ carried_token v (list_at u.site) → (if b then list_at (carried_site v u.site) else None) ≡ carried_token v (if b then list_at u.site else None)
@@ -143,11 +143,17 @@ list_stays gs entity.Variable s h = tt
 list_stays gs entity.Parameter s h = tt
 list_stays gs entity.Function s h = tt
 
+listed_stays : (gs : List Gap) (s : Site) → TokenStays gs (specification_at s) → TokenStays gs (list_at s)
+listed_stays gs site_of.Elsewhere h = tt
+listed_stays gs (site_of.Type s) h = h
+listed_stays gs (site_of.Value s column alone) h = h
+listed_stays gs (site_of.Right s reach) h = tt
+
 around_stays : (gs : List Gap) (b : Bool) (s : Option ℕ) → TokenStays gs s → TokenStays gs (if b then s else None)
 around_stays gs true s h = h
 around_stays gs false s h = tt
 
-local_same : (v : ℕ → ℕ) (b : Block) → is_local (carried_block v b) ≡ is_local b
+pub local_same : (v : ℕ → ℕ) (b : Block) → is_local (carried_block v b) ≡ is_local b
 local_same v block.Package = refl
 local_same v (block.Local i) = refl
 
@@ -160,10 +166,24 @@ a_place_if true s ss e f = cc
 a_place_if false s ss e f = f
 
 -- the event names no list
-abbrev IsListless : Event → Type 0
+abbrev pub IsListless : Event → Type 0
 IsListless (event.Declaration d) = list_of d ≡ None
 IsListless (event.Use u) = u.constant ≡ false
 IsListless e = Unit {0}
+
+-- the lists behind some events
+pub lists_gone : (t : ℕ → List ℕ) (es b rest : List Event) → hidden_lists_by t (λ x. no_place) b (es ++ rest) ≡ [] → hidden_lists_by t (λ x. no_place) (b ++ es) rest ≡ []
+lists_gone t [] b rest e = ap (λ z. hidden_lists_by t (λ x. no_place) z rest) (append-nil b) ∙ e
+lists_gone t (event.Declaration d ∷ es) b rest e =
+    let p = no_place_if (is_repetition d && is_hidden (list_of d) t b) no_place (hidden_lists_by t (λ x. no_place) (b ++ event.Declaration d ∷ []) (es ++ rest)) e in
+    ap (λ z. hidden_lists_by t (λ x. no_place) z rest) (sym (append_assoc b (event.Declaration d ∷ []) es)) ∙ lists_gone t es (b ++ event.Declaration d ∷ []) rest p.1
+lists_gone t (event.Use x ∷ es) b rest e = ap (λ z. hidden_lists_by t (λ x. no_place) z rest) (sym (append_assoc b (event.Use x ∷ []) es)) ∙ lists_gone t es (b ++ event.Use x ∷ []) rest e
+lists_gone t (event.Import x ∷ es) b rest e = ap (λ z. hidden_lists_by t (λ x. no_place) z rest) (sym (append_assoc b (event.Import x ∷ []) es)) ∙ lists_gone t es (b ++ event.Import x ∷ []) rest e
+lists_gone t (event.Member m g x ∷ es) b rest e = ap (λ z. hidden_lists_by t (λ x. no_place) z rest) (sym (append_assoc b (event.Member m g x ∷ []) es)) ∙ lists_gone t es (b ++ event.Member m g x ∷ []) rest e
+lists_gone t (event.Bodiless x y ∷ es) b rest e = ap (λ z. hidden_lists_by t (λ x. no_place) z rest) (sym (append_assoc b (event.Bodiless x y ∷ []) es)) ∙ lists_gone t es (b ++ event.Bodiless x y ∷ []) rest e
+lists_gone t (event.Statement x y ∷ es) b rest e = ap (λ z. hidden_lists_by t (λ x. no_place) z rest) (sym (append_assoc b (event.Statement x y ∷ []) es)) ∙ lists_gone t es (b ++ event.Statement x y ∷ []) rest e
+lists_gone t (event.Misplaced x y ∷ es) b rest e = ap (λ z. hidden_lists_by t (λ x. no_place) z rest) (sym (append_assoc b (event.Misplaced x y ∷ []) es)) ∙ lists_gone t es (b ++ event.Misplaced x y ∷ []) rest e
+lists_gone t (event.SecondDefault x ∷ es) b rest e = ap (λ z. hidden_lists_by t (λ x. no_place) z rest) (sym (append_assoc b (event.SecondDefault x ∷ []) es)) ∙ lists_gone t es (b ++ event.SecondDefault x ∷ []) rest e
 
 module _ (a new : Alone) (outer : Outer) (gaps : List Gap) (site : IsSite a outer gaps new) (told : TellsPieces (moved_by gaps) (file_context 0) a.tree site.patch (become (moved_by gaps) a.tree site.patch)) where
   abbrev v : ℕ → ℕ
@@ -195,7 +215,7 @@ module _ (a new : Alone) (outer : Outer) (gaps : List Gap) (site : IsSite a oute
           let p : x ≡ carried_use v z = cc in
           let n : is_list (v s) (list_around (carried_use v z)) ≡ true = subst (λ (c : Use). is_list (v s) (list_around c) ≡ true) p l in
           let o : same_text w (u (v z.name)) ≡ true = subst (λ (c : Use). same_text w (u c.name) ≡ true) p m in
-          use_told s w t es z k (sym (ap (is_list (v s)) (around_carried v z) ∙ list_same s (list_around z) h (around_stays gaps z.constant (list_at z.site) st.3)) ∙ n) (ap (same_text w) (sym (site.texts z.name st.0)) ∙ o)
+          use_told s w t es z k (sym (ap (is_list (v s)) (around_carried v z) ∙ list_same s (list_around z) h (around_stays gaps z.constant (list_at z.site) (listed_stays gaps z.site st.3))) ∙ n) (ap (same_text w) (sym (site.texts z.name st.0)) ∙ o)
       remained x (event.Declaration d) q st k l m = cc
       remained x (event.Import z) q st k l m = cc
       remained x (event.Member i j z) q st k l m = cc
@@ -306,19 +326,6 @@ module _ (a new : Alone) (outer : Outer) (gaps : List Gap) (site : IsSite a oute
     lists_stay (event.Misplaced x y ∷ es) b c h f e = lists_stay es (b ++ event.Misplaced x y ∷ []) (c ++ carried_event v (event.Misplaced x y) ∷ []) h.1 (fewer_stays (event.Misplaced x y) b c h.0 f) e
     lists_stay (event.SecondDefault x ∷ es) b c h f e = lists_stay es (b ++ event.SecondDefault x ∷ []) (c ++ carried_event v (event.SecondDefault x) ∷ []) h.1 (fewer_stays (event.SecondDefault x) b c h.0 f) e
 
-  lists_gone : (es b rest : List Event) → old_lists b (es ++ rest) ≡ [] → old_lists (b ++ es) rest ≡ []
-  lists_gone [] b rest e = ap (λ z. old_lists z rest) (append-nil b) ∙ e
-  lists_gone (event.Declaration d ∷ es) b rest e =
-      let p = no_place_if (is_repetition d && is_hidden (list_of d) t b) no_place (old_lists (b ++ event.Declaration d ∷ []) (es ++ rest)) e in
-      ap (λ z. old_lists z rest) (sym (append_assoc b (event.Declaration d ∷ []) es)) ∙ lists_gone es (b ++ event.Declaration d ∷ []) rest p.1
-  lists_gone (event.Use x ∷ es) b rest e = ap (λ z. old_lists z rest) (sym (append_assoc b (event.Use x ∷ []) es)) ∙ lists_gone es (b ++ event.Use x ∷ []) rest e
-  lists_gone (event.Import x ∷ es) b rest e = ap (λ z. old_lists z rest) (sym (append_assoc b (event.Import x ∷ []) es)) ∙ lists_gone es (b ++ event.Import x ∷ []) rest e
-  lists_gone (event.Member m g x ∷ es) b rest e = ap (λ z. old_lists z rest) (sym (append_assoc b (event.Member m g x ∷ []) es)) ∙ lists_gone es (b ++ event.Member m g x ∷ []) rest e
-  lists_gone (event.Bodiless x y ∷ es) b rest e = ap (λ z. old_lists z rest) (sym (append_assoc b (event.Bodiless x y ∷ []) es)) ∙ lists_gone es (b ++ event.Bodiless x y ∷ []) rest e
-  lists_gone (event.Statement x y ∷ es) b rest e = ap (λ z. old_lists z rest) (sym (append_assoc b (event.Statement x y ∷ []) es)) ∙ lists_gone es (b ++ event.Statement x y ∷ []) rest e
-  lists_gone (event.Misplaced x y ∷ es) b rest e = ap (λ z. old_lists z rest) (sym (append_assoc b (event.Misplaced x y ∷ []) es)) ∙ lists_gone es (b ++ event.Misplaced x y ∷ []) rest e
-  lists_gone (event.SecondDefault x ∷ es) b rest e = ap (λ z. old_lists z rest) (sym (append_assoc b (event.SecondDefault x ∷ []) es)) ∙ lists_gone es (b ++ event.SecondDefault x ∷ []) rest e
-
   lists_new : (g : Gap) (old : List Event) (es b c rest : List Event) → EachEvent (EventIsNew a v g old) es → Fewer b c → ((d : List Event) → Fewer b d → new_lists d rest ≡ []) → new_lists c (es ++ rest) ≡ []
   lists_new g old [] b c rest h f go = go c f
   lists_new g old (event.Declaration d ∷ es) b c rest h f go =
@@ -338,7 +345,7 @@ module _ (a new : Alone) (outer : Outer) (gaps : List Gap) (site : IsSite a oute
   lists_pieces (stays es ∷ ps) gs h b c f e = lists_stay (told_before ps) (told_behind v ps) (λ x y k l. lists_pieces ps gs h.1 x y k l) es b c h.0 f e
   lists_pieces (gap old news ∷ ps) [] h b c f e = absurd h
   lists_pieces (gap old news ∷ ps) (g ∷ gs) h b c f e =
-      lists_new g old news (b ++ old) c (told_behind v ps) h.1.each (fewer_old old b c f) (λ d k. lists_pieces ps gs h.2 (b ++ old) d k (lists_gone old b (told_before ps) e))
+      lists_new g old news (b ++ old) c (told_behind v ps) h.1.each (fewer_old old b c f) (λ d k. lists_pieces ps gs h.2 (b ++ old) d k (lists_gone t old b (told_before ps) e))
 
   pub lists_mean_the_same : own_hidden_lists a ≡ [] → own_hidden_lists new ≡ []
   lists_mean_the_same e =

@@ -1,27 +1,35 @@
 -- A function whose body begins with a copy of a run of statements of another one, with parameters for the locals that are free in it, and
 -- names in place of some holes.
-use Rattle.std.specs.Prelude.{◌≡◌, ℕ, ◌<◌, ◌≤◌, ◌⊎◌, Bool, false, true, ◌&&◌, nat_eq, nat_le, nat_lt, if◌then◌else◌, List, [], ◌∷◌, ◌++◌, length, map, Some}
+use Rattle.std.specs.Prelude.{◌≡◌, ℕ, suc, ◌<◌, ◌≤◌, ◌⊎◌, Bool, false, true, ◌&&◌, nat_eq, nat_le, nat_lt, if◌then◌else◌, List, [], ◌∷◌, ◌++◌, length, map, Option, Some, None}
 use Rattle.std.specs.Option.{option_map}
 use Rattle.go_tree.specs.declared.context.Block.{Block}
 use Rattle.go_tree.specs.declared.context.Block.TheVariants as block
 use Rattle.go_tree.specs.declared.context.Entity.TheVariants as entity
 use Rattle.go_tree.specs.declared.context.Manner.TheVariants as manner
+use Rattle.go_tree.specs.declared.context.Role.{Role}
+use Rattle.go_tree.specs.declared.context.Role.TheVariants as role
 use Rattle.go_tree.specs.declared.context.Scope.{Scope}
+use Rattle.go_tree.specs.declared.context.Site.TheVariants as site
 use Rattle.go_tree.specs.declared.event.Declaration.{Declaration}
 use Rattle.go_tree.specs.declared.event.Event.{Event}
 use Rattle.go_tree.specs.declared.event.Event.TheVariants as event
+use Rattle.go_tree.specs.declared.event.Use.{Use}
+use Rattle.go_tree.specs.declared.object.Object.{Object}
 use Rattle.go_tree.specs.Contexts.{is_package}
 use Rattle.go_tree.specs.Declarations.{is_reused_of, is_new}
+use Rattle.go_tree.specs.Lookups.{is_assigned}
+use Rattle.go_tree.specs.Redeclared.{are_parameters}
 use Rattle.go_tree.specs.Units.{is_blank}
 use Rattle.go_scopes_events.specs.Orders.{AreInOrder}
 use Rattle.go_heads.specs.Bodies.{function_events}
 use Rattle.go_heads.specs.Functions.{Alone}
 use Rattle.go_heads.specs.Names.{own_text, own_names}
 use Rattle.go_scopes_bodies.specs.Carried.{carried_token, carried_event}
-use Rattle.go_scopes_bodies.specs.Meant.{Meant, Outer, own_object}
+use Rattle.go_scopes_bodies.specs.Faults.{second_members_by, own_faults}
+use Rattle.go_scopes_bodies.specs.Meant.{Meant, outside, Outer, own_object}
 use Rattle.extract_names.specs.Gaps.{Among}
 use Rattle.extract_names.specs.Pieces.{Piece, stays, gap, told_before}
-use Rattle.extract_names.specs.Sites.{found_as, declared_at, DeclaresItself, token_of, EachEvent, local_number, renumbered}
+use Rattle.extract_names.specs.Sites.{found_as, declared_at, DeclaresItself, token_of, EachEvent, specification_at, IsPlain, IsNamed, local_number, renumbered}
 
 -- A hole of the run, by its tokens, and the token of the parameter whose name stands in its place.
 pub record Replaced : Type 0 where
@@ -107,17 +115,45 @@ told_copied c (gap old new ∷ ps) = new ++ told_copied c ps
 
 -- ---- how it stands
 
+-- a token that there may be is one of the run that stays; one that stands in the copy; or one in front of it
+abbrev pub TokenKept : Copy → Option ℕ → Type 0
+TokenKept c None = Unit {0}
+TokenKept c (Some t) = IsKept c t
+
+abbrev pub TokenBehind : Copy → Option ℕ → Type 0
+TokenBehind c None = Unit {0}
+TokenBehind c (Some t) = c.place c.from ≤ t
+
+abbrev pub TokenInFront : Copy → Option ℕ → Type 0
+TokenInFront c None = Unit {0}
+TokenInFront c (Some t) = t < c.place c.from
+
+-- The name that a selector ends with stays too.
+abbrev pub RoleCopied : Copy → Role → Type 0
+RoleCopied c (role.Selected last called) = (x : ℕ) × (last ≡ suc x) × IsKept c x
+RoleCopied c r = Unit {0}
+
 -- A declaration of the run is local. It stands in the list of the run, or in an inner block, which ends in the run.
 pub record DeclarationCopied (c : Copy) (d : Declaration) : Type 0 where
   pub name : IsKept c d.name
   pub statement : IsKept c d.statement
   pub from : IsEdge c d.scope.from
+  pub source : TokenKept c d.source
+  pub variety : are_parameters d.entity d.entity ≡ false
   pub behind : c.from < d.scope.from
   pub ends : ((d.block ≡ block.Local c.around) × (d.scope.to ≡ c.end)) ⊎ ((i : ℕ) × (d.block ≡ block.Local i) × IsKept c i × IsEdge c d.scope.to)
 
+-- No name of a function stands in the value of a package's variable.
+pub record UseCopied (c : Copy) (u : Use) : Type 0 where
+  pub name : IsKept c u.name
+  pub role : RoleCopied c u.role
+  pub specification : TokenKept c (specification_at u.site)
+  pub initial : u.initial ≡ false
+
 abbrev pub EventCopied : Copy → Event → Type 0
 EventCopied c (event.Declaration d) = DeclarationCopied c d
-EventCopied c (event.Use u) = IsKept c u.name
+EventCopied c (event.Use u) = UseCopied c u
+EventCopied c (event.Member m g x) = IsKept c g × IsKept c x
 EventCopied c e = Unit {0}
 
 -- A hole only looks names up. In its place one name is looked up.
@@ -126,9 +162,17 @@ HoleGoes h (event.Use u) = (h.from ≤ u.name) × (u.name < h.upto)
 HoleGoes h (event.Declaration d) = ⊥
 HoleGoes h e = Unit {0}
 
+-- The name stands in no declaration of constants.
+pub record HoleUse (c : Copy) (h : Replaced) (u : Use) : Type 0 where
+  pub name : u.name ≡ c.place h.from
+  pub specification : TokenBehind c (specification_at u.site)
+  pub constant : u.constant ≡ false
+  pub initial : u.initial ≡ false
+
 abbrev pub HoleIsNew : Copy → Replaced → Event → Type 0
-HoleIsNew c h (event.Use u) = u.name ≡ c.place h.from
+HoleIsNew c h (event.Use u) = HoleUse c h u
 HoleIsNew c h (event.Declaration d) = ⊥
+HoleIsNew c h (event.Member m g x) = ⊥
 HoleIsNew c h (event.Misplaced i j) = ⊥
 HoleIsNew c h (event.SecondDefault i) = ⊥
 HoleIsNew c h e = Unit {0}
@@ -143,9 +187,10 @@ abbrev pub BlockInFront : Copy → Block → Type 0
 BlockInFront c block.Package = Unit {0}
 BlockInFront c (block.Local i) = i < c.from
 
--- In front of the run a local is in scope from a token in front on, or up to one.
+-- In front of the run a local is in scope from a token in front on, or up to one. Statements begin in front of it, or behind it.
 pub record DeclaredInFront (c : Copy) (d : Declaration) : Type 0 where
   pub name : d.name < c.from
+  pub statement : d.statement < c.from
   pub block : BlockInFront c d.block
   pub scope : is_package d.block ≡ false → (d.scope.from ≤ c.from) ⊎ (d.scope.to ≤ c.from)
 
@@ -155,7 +200,7 @@ StandsInFront c (event.Use u) = u.name < c.from
 StandsInFront c e = Unit {0}
 
 abbrev pub StandsBehind : Copy → Event → Type 0
-StandsBehind c (event.Declaration d) = (c.upto ≤ d.name) × (d.name ≤ d.scope.from)
+StandsBehind c (event.Declaration d) = (c.upto ≤ d.name) × (d.name ≤ d.scope.from) × (c.upto ≤ d.statement)
 StandsBehind c (event.Use u) = c.upto ≤ u.name
 StandsBehind c e = Unit {0}
 
@@ -190,6 +235,53 @@ pub record ParameterStands (new : Alone) (front : List Event) (u : ℕ) : Type 0
   pub manner : it.manner ≡ manner.Declared
   pub some : is_blank (own_text new u) ≡ false
 
+-- The signature of the new function stands in front of its body. What it names means what no local is, and is not imported; it declares
+-- the function, and parameters, which have no specification of their own and are in scope in the body.
+pub record SignatureDeclares (c : Copy) (d : Declaration) : Type 0 where
+  pub entity : (d.entity ≡ entity.Function) ⊎ (d.entity ≡ entity.Parameter)
+  pub manner : d.manner ≡ manner.Declared
+  pub source : TokenInFront c d.source
+  pub parameter : is_package d.block ≡ false → (d.source ≡ None) × (c.body ≤ d.scope.from)
+
+pub record SignatureNames (new : Alone) (outer : Outer) (c : Copy) (u : Use) : Type 0 where
+  pub name : u.name < c.body
+  pub object : Object
+  pub meant : outer (own_text new u.name) ≡ Some object
+  pub plain : IsPlain (outside object)
+  pub constant : u.constant ≡ false
+  pub initial : u.initial ≡ false
+
+abbrev pub InSignature : Alone → Outer → Copy → Event → Type 0
+InSignature new outer c (event.Declaration d) = SignatureDeclares c d
+InSignature new outer c (event.Use u) = SignatureNames new outer c u
+InSignature new outer c (event.Member m g x) = g < c.place c.from
+InSignature new outer c e = Unit {0}
+
+-- a local of the run that is declared in its own list
+pub record DeclaredInList (a : Alone) (c : Copy) (run : List Event) (d : Declaration) : Type 0 where
+  pub told : Among (event.Declaration d) run
+  pub around : is_around c d.block ≡ true
+  pub new : is_new (own_names a) (found_as a d) ≡ true
+
+-- The new function returns parameters, and what the run's own list declares.
+pub record ReturnNames (a new : Alone) (c : Copy) (run : List Event) (u : Use) : Type 0 where
+  pub name : u.name < c.close
+  pub elsewhere : u.site ≡ site.Elsewhere
+  pub constant : u.constant ≡ false
+  pub initial : u.initial ≡ false
+  pub meant : ((p : ℕ) × Among p c.parameters × (own_text new u.name ≡ own_text new p)) ⊎ ((d : Declaration) × DeclaredInList a c run d × (own_text new u.name ≡ own_text a d.name))
+
+abbrev pub InReturn : Alone → Alone → Copy → List Event → Event → Type 0
+InReturn a new c run (event.Use u) = ReturnNames a new c run u
+InReturn a new c run (event.Member m g x) = ⊥
+InReturn a new c run e = Unit {0}
+
+-- A variable of the run is used in it, other than by an assignment, or the new function returns it.
+abbrev pub UsedInCopy : Alone → Outer → Copy → Alone → List Event → List Event → Declaration → Type 0
+UsedInCopy a outer c new run tail d =
+    ((u : Use) × Among (event.Use u) run × IsKept c u.name × (is_assigned u.role ≡ false) × (own_object a outer u.name ≡ declared_at a d.name))
+    ⊎ ((u : Use) × Among (event.Use u) tail × (is_assigned u.role ≡ false) × (is_around c d.block ≡ true) × (own_text new u.name ≡ own_text a d.name))
+
 -- What a token of the run names: a local of the run; a free local, whose parameter is spelled so; or what no local is, and no parameter is
 -- spelled so.
 abbrev pub NamesLocal : Alone → Outer → Copy → ℕ → Type 0
@@ -222,12 +314,19 @@ pub record IsCopy (a : Alone) (outer : Outer) (c : Copy) (new : Alone) : Type 0 
   pub outer_end : c.upto ≤ c.end
   pub body : c.body < c.place c.from
   pub close : c.place c.upto ≤ c.close
-  pub holes : (h : Replaced) → Among h c.holes → (h.from < h.upto) × IsEdge c h.from
+  pub next : (t : ℕ) → IsKept c t → c.place (suc t) ≡ suc (c.place t)
+  pub holes : (h : Replaced) → Among h c.holes → (h.from < h.upto) × (h.from < c.upto) × IsEdge c h.from
+  -- In place of a hole stands the name of its parameter, which nothing that the run declares is spelled like.
+  pub named : (h : Replaced) → Among h c.holes → Among h.parameter c.parameters × (own_text new (c.place h.from) ≡ own_text new h.parameter)
+  pub fresh : (h : Replaced) → Among h c.holes → (d : Declaration) → Among (event.Declaration d) (told_before pieces) → own_text new h.parameter ≡ own_text a d.name → ⊥
   pub copied : AllCopied c c.holes pieces
   pub in_front : EachEvent (StandsInFront c) before
   pub from_behind : EachEvent (StandsBehind c) behind
   pub head_tells : EachEvent (HeadTells c) head
   pub tail_tells : EachEvent (TailTells c) tail
+  pub signature : EachEvent (InSignature new outer c) head
+  pub members_once : second_members_by (own_text new) [] head ≡ []
+  pub returns : EachEvent (InReturn a new c (told_before pieces)) tail
   pub texts : (t : ℕ) → IsKept c t → own_text new (c.place t) ≡ own_text a t
   -- In an inner block behind a name of the run's list that name is in scope.
   pub steps : (d e : Declaration) → DeclarationCopied c d → DeclarationCopied c e → Among (event.Declaration d) (function_events a) → Among (event.Declaration e) (function_events a) → d.name < e.name
@@ -238,9 +337,12 @@ pub record IsCopy (a : Alone) (outer : Outer) (c : Copy) (new : Alone) : Type 0 
   pub once : (f g : Free) → Among f c.free → Among g c.free → f.old ≡ g.old → f ≡ g
   pub names : (t : ℕ) → IsKept c t → NamesLocal a outer c t ⊎ (NamesFree a outer c new t ⊎ NamesOuter a outer c new t)
   -- What the list of the run declares isn't spelled like a parameter; and what it reuses of the list in front of it is one.
-  pub apart : (d : Declaration) → Among (event.Declaration d) (function_events a) → IsIn c d.name → is_around c d.block ≡ true → is_new (own_names a) (found_as a d) ≡ true → (u : ℕ) → Among u c.parameters → own_text new u ≡ own_text a d.name → ⊥
+  pub apart : (d : Declaration) → Among (event.Declaration d) (function_events a) → IsIn c d.name → is_around c d.block ≡ true → is_new (own_names a) (found_as a d) ≡ true
+      → (u : ℕ) → Among u c.parameters → own_text new u ≡ own_text a d.name → ⊥
   pub reuses : (d x : Declaration) → Among (event.Declaration d) (function_events a) → Among (event.Declaration x) before → IsIn c d.name → is_reused_of (found_as a d) (found_as a x) ≡ true
       → (is_around c d.block ≡ true) × (u : ℕ) × Among u c.parameters × (own_text new u ≡ own_text a d.name)
+  -- Each variable of the run is used.
+  pub used : (d : Declaration) → Among (event.Declaration d) (told_before pieces) → is_new (own_names a) (found_as a d) ≡ true → d.entity ≡ entity.Variable → UsedInCopy a outer c new (told_before pieces) tail d
 
 -- ---- what holds of it
 
@@ -260,3 +362,14 @@ copied_number a c new n = local_number (declared_at new (copied_behind c (token_
 -- Each token of the run that is in no hole means what it meant, the locals by their new numbers, the free ones as parameters.
 abbrev pub KeepsCopied : Alone → Outer → Copy → Alone → Type 0
 KeepsCopied a outer c new = (t : ℕ) → IsKept c t → own_object new outer (c.place t) ≡ option_map (renumbered (copied_number a c new)) (own_object a outer t)
+
+-- Each name in place of a hole means the hole's parameter.
+abbrev pub HolesMeanParameters : Alone → Outer → Copy → Alone → Type 0
+HolesMeanParameters a outer c new = (h : Replaced) → Among h c.holes → IsNamed (c.place h.from) (function_events new) → own_object new outer (c.place h.from) ≡ declared_at new h.parameter
+
+-- What holds of such a function: each token of the run that is in no hole means what it meant, each name in place of a hole the hole's
+-- parameter, and no rule on names fails.
+pub record CopiesNames (a : Alone) (outer : Outer) (c : Copy) (new : Alone) : Type 0 where
+  pub kept : KeepsCopied a outer c new
+  pub holes : HolesMeanParameters a outer c new
+  pub faultless : own_faults new outer ≡ []

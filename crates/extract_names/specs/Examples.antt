@@ -8,7 +8,7 @@ use Rattle.go_tree.specs.declared.object.Predeclared.TheVariants as predeclared
 use Rattle.go_tree.specs.Contexts.{file_context}
 use Rattle.go_heads.specs.Bodies.{function_events}
 use Rattle.go_heads.specs.Functions.{Alone}
-use Rattle.extract_names.specs.SiteFaults.{faults_but_cycles}
+use Rattle.go_scopes_bodies.specs.Faults.{own_faults}
 use Rattle.go_scopes_bodies.specs.Meant.{Meant, own, outside, own_object}
 use Rattle.extract_names.specs.Gaps.{Gap, moved_by, ranges}
 use Rattle.extract_names.specs.Pieces.{pieces, told_before, told_behind}
@@ -62,8 +62,8 @@ pub record Examples : Type 0 where
   pub places : places old.tree patch ≡ ranges gaps
   pub before : told_before (pieces (moved_by gaps) (file_context 0) old.tree patch) ≡ function_events old
   pub behind : told_behind (moved_by gaps) (pieces (moved_by gaps) (file_context 0) old.tree patch) ≡ function_events new
-  pub faultless : faults_but_cycles old around ≡ []
-  pub still : faults_but_cycles new around ≡ []
+  pub faultless : own_faults old around ≡ []
+  pub still : own_faults new around ≡ []
   -- what the names of the old function mean: of its parameter, of the variable, and that of the function
   pub meant : map (own_object old around) (1 ∷ 3 ∷ 4 ∷ 8 ∷ 10 ∷ 14 ∷ 16 ∷ 21 ∷ []) ≡ Some (own (object.Package 0)) ∷ local 0 ∷ Some (outside (object.Predeclared predeclared.Int)) ∷ local 1 ∷ local 0 ∷ local 1 ∷ local 1 ∷ local 1 ∷ []
   -- and those of the new one: what stays, and in the gap `b int`, `b`, `h` and `a`

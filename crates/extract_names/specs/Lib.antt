@@ -1,7 +1,6 @@
 pub mod Pieces
 pub mod Gaps
 pub mod Sites
-pub mod SiteFaults
 pub mod Sentences
 pub mod Examples
 pub mod NameExamples

@@ -7,8 +7,7 @@ use Rattle.go_tree.specs.declared.object.Object.TheVariants as object
 use Rattle.go_tree.specs.declared.object.Predeclared.TheVariants as predeclared
 use Rattle.go_heads.specs.Functions.{Alone}
 use Rattle.go_heads.specs.Names.{no_place}
-use Rattle.go_scopes_bodies.specs.Faults.{own_none_new}
-use Rattle.extract_names.specs.SiteFaults.{faults_but_cycles}
+use Rattle.go_scopes_bodies.specs.Faults.{own_none_new, own_faults}
 use Rattle.go_scopes_bodies.specs.Meant.{Meant, outside, Outer, own_object}
 use Rattle.extract_names.specs.Sentences.{Word, name, number, mark, function_of, around, local}
 
@@ -53,6 +52,21 @@ hidden_at_site = function_of (
     mark token.Var ∷ name (codes "n") ∷ name (codes "int") ∷ semicolon ∷
     name (codes "n") ∷ mark token.Assign ∷ name (codes "h") ∷ mark token.LeftParenthesis ∷ name (codes "int") ∷ mark token.RightParenthesis ∷ semicolon ∷
     mark token.Return ∷ name (codes "n") ∷ semicolon ∷ closing ∷ semicolon ∷ [])
+
+-- func f(a int) int { var int int; var b int; int, b = h(a); return b }
+abbrev pub hidden_by_result : Alone
+hidden_by_result = function_of (one_parameter (codes "f") (codes "a") (
+    mark token.Var ∷ name (codes "int") ∷ name (codes "int") ∷ semicolon ∷
+    mark token.Var ∷ name (codes "b") ∷ name (codes "int") ∷ semicolon ∷
+    name (codes "int") ∷ mark token.Comma ∷ name (codes "b") ∷ mark token.Assign ∷ name (codes "h") ∷ mark token.LeftParenthesis ∷ name (codes "a") ∷ mark token.RightParenthesis ∷ semicolon ∷
+    mark token.Return ∷ name (codes "b") ∷ semicolon ∷ closing ∷ semicolon ∷ []))
+
+-- ---- refused: a value's name means something else where it is handed over
+
+-- func f(true int) int { return h(true) }
+abbrev pub hidden_value : Alone
+hidden_value = function_of (one_parameter (codes "f") (codes "true") (
+    mark token.Return ∷ name (codes "h") ∷ mark token.LeftParenthesis ∷ name (codes "true") ∷ mark token.RightParenthesis ∷ semicolon ∷ closing ∷ semicolon ∷ []))
 
 -- ---- refused: the package declares the name of a predeclared type
 
@@ -111,16 +125,20 @@ pub record NameExamples : Type 0 where
   pub callee : own_object in_use around 14 ≡ local 1
   -- the type of n is the parameter
   pub type_hidden : own_object hidden_at_site around 10 ≡ local 0
+  -- the type of the first result is the predeclared one, and that of the second is the first result
+  pub result_hides : map (own_object hidden_by_result around) (9 ∷ 10 ∷ 14 ∷ []) ≡ local 1 ∷ int_type ∷ local 1 ∷ []
+  -- the argument is the parameter
+  pub value_hidden : own_object hidden_value around 11 ≡ local 0
   -- the type of the parameter is that of the package
   pub type_declared : map (own_object written around_int) (4 ∷ 6 ∷ []) ≡ Some (outside (object.Package 3)) ∷ Some (outside (object.Package 3)) ∷ []
   -- In the inner block the name a is the variable that is declared there, and outside of it the parameter.
-  pub inner_faultless : faults_but_cycles inner_block around ≡ []
+  pub inner_faultless : own_faults inner_block around ≡ []
   pub inner_names : map (own_object inner_block around) (3 ∷ 8 ∷ 10 ∷ 13 ∷ 19 ∷ 24 ∷ []) ≡ local 0 ∷ local 1 ∷ local 0 ∷ local 2 ∷ local 2 ∷ local 1 ∷ []
   -- The name a before `:=` is the parameter, and c is new.
-  pub reused_faultless : faults_but_cycles reused around ≡ []
+  pub reused_faultless : own_faults reused around ≡ []
   pub reused_names : map (own_object reused around) (3 ∷ 12 ∷ 14 ∷ 18 ∷ 21 ∷ 23 ∷ []) ≡ local 0 ∷ local 0 ∷ local 1 ∷ local 0 ∷ local 0 ∷ local 1 ∷ []
   -- Where b is named later it is declared, and where it isn't nothing is.
-  pub needed_faultless : faults_but_cycles needs around ≡ []
+  pub needed_faultless : own_faults needs around ≡ []
   pub needed_names : map (own_object needs around) (9 ∷ 10 ∷ 12 ∷ 14 ∷ 16 ∷ 20 ∷ []) ≡ local 1 ∷ int_type ∷ local 1 ∷ new_function ∷ local 0 ∷ local 1 ∷ []
-  pub blank_faultless : faults_but_cycles needs_not around ≡ []
+  pub blank_faultless : own_faults needs_not around ≡ []
   pub blank_names : map (own_object needs_not around) (8 ∷ 10 ∷ 12 ∷ []) ≡ None ∷ new_function ∷ local 0 ∷ []

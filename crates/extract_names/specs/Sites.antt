@@ -8,14 +8,16 @@ use Rattle.go_tree.specs.declared.context.Entity.TheVariants as entity
 use Rattle.go_tree.specs.declared.context.Manner.TheVariants as manner
 use Rattle.go_tree.specs.declared.context.Role.{Role}
 use Rattle.go_tree.specs.declared.context.Role.TheVariants as role
+use Rattle.go_tree.specs.declared.context.Site.{Site}
+use Rattle.go_tree.specs.declared.context.Site.TheVariants as site
 use Rattle.go_tree.specs.declared.event.Declaration.{Declaration}
 use Rattle.go_tree.specs.declared.event.Event.{Event}
 use Rattle.go_tree.specs.declared.event.Event.TheVariants as event
 use Rattle.go_tree.specs.declared.event.Use.{Use}
 use Rattle.go_tree.specs.declared.object.Declared.{Declared}
+use Rattle.go_tree.specs.declared.object.Object.{Object}
 use Rattle.go_tree.specs.declared.object.Object.TheVariants as object
 use Rattle.go_tree.specs.declared.object.Predeclared.TheVariants as predeclared
-use Rattle.go_tree.specs.Constants.{list_at}
 use Rattle.go_tree.specs.Contexts.{is_package, file_context}
 use Rattle.go_tree.specs.Declarations.{Found, is_reused_of, is_new}
 use Rattle.go_tree.specs.Lookups.{is_assigned}
@@ -27,7 +29,7 @@ use Rattle.go_heads.specs.Functions.{Alone}
 use Rattle.go_heads.specs.Locals.{own_locals}
 use Rattle.go_heads.specs.Names.{text_there, own_text, no_place, own_names, own_declarations}
 use Rattle.go_scopes_bodies.specs.Carried.{carried_block}
-use Rattle.go_scopes_bodies.specs.Faults.{second_members_by}
+use Rattle.go_scopes_bodies.specs.Faults.{second_members_by, own_faults}
 use Rattle.go_scopes_bodies.specs.Meant.{Meant, own, outside, Outer, own_meanings, own_meant, own_declared, own_object}
 use Rattle.extract_names.specs.Gaps.{Redeclared, Gap, moved_by, ranges, Among, IsInRun, AreApart, Stays, AtEdge, BlockAtEdge, EachGap}
 use Rattle.extract_names.specs.Pieces.{ReplacesRuns, Piece, stays, gap, pieces}
@@ -66,6 +68,13 @@ EachEvent Q (e ∷ es) = Q e × EachEvent Q es
 abbrev pub IsApart : Declaration → Gap → Type 0
 IsApart d g = (d.scope.from ≤ g.from) ⊎ (g.upto < d.name)
 
+-- the specification in whose type, values or right side a name is looked up, if it is in one
+abbrev pub specification_at : Site → Option ℕ
+specification_at site.Elsewhere = None
+specification_at (site.Type s) = Some s
+specification_at (site.Value s column alone) = Some s
+specification_at (site.Right s reach) = Some s
+
 -- a token that there may be stays
 abbrev pub TokenStays : List Gap → Option ℕ → Type 0
 TokenStays gs None = Unit {0}
@@ -82,14 +91,14 @@ pub record DeclarationStays (gs : List Gap) (d : Declaration) : Type 0 where
   pub follows : IsFollowed d
   pub apart : is_package d.block ≡ false → EachGap (IsApart d) gs
 
--- The name that a selector ends with stays too, and the specification in whose type or values a name stands. No name of a function stands in the value of a package's variable.
+-- The name that a selector ends with stays too, and the specification that a name stands in. No name of a function stands in the value of a package's variable.
 abbrev pub RoleStays : List Gap → Role → Type 0
 RoleStays gs (role.Selected last called) = (x : ℕ) × (last ≡ suc x) × Stays gs x
 RoleStays gs r = Unit {0}
 
 abbrev pub EventStays : List Gap → Event → Type 0
 EventStays gs (event.Declaration d) = DeclarationStays gs d
-EventStays gs (event.Use u) = Stays gs u.name × RoleStays gs u.role × (u.initial ≡ false) × TokenStays gs (list_at u.site)
+EventStays gs (event.Use u) = Stays gs u.name × RoleStays gs u.role × (u.initial ≡ false) × TokenStays gs (specification_at u.site)
 EventStays gs (event.Member m g x) = Stays gs g × Stays gs x
 EventStays gs e = Unit {0}
 
@@ -130,6 +139,15 @@ IsPlain (own object.Import) = ⊥
 IsPlain (own (object.Predeclared p)) = ⊥
 IsPlain o = Unit {0}
 
+-- the token is one of the gap's
+abbrev pub IsNew : (ℕ → ℕ) → Gap → ℕ → Type 0
+IsNew v g t = (v g.from ≤ t) × (t < v g.from + length g.texts)
+
+-- a token that there may be is one of the gap's
+abbrev pub TokenIsNew : (ℕ → ℕ) → Gap → Option ℕ → Type 0
+TokenIsNew v g None = Unit {0}
+TokenIsNew v g (Some t) = IsNew v g t
+
 -- A gap whose tokens stand from the token m on, where old tokens have the places v, declares a variable of the run again, whose scope
 -- goes beyond the run, in the same block and up to the same end.
 pub record DeclaresAgain (a : Alone) (v : ℕ → ℕ) (g : Gap) (old : List Event) (d : Declaration) : Type 0 where
@@ -150,8 +168,10 @@ pub record DeclaresAgain (a : Alone) (v : ℕ → ℕ) (g : Gap) (old : List Eve
   pub block : d.block ≡ carried_block v was.block
   pub from : d.scope.from ≡ v g.from + again.begins
   pub to : d.scope.to ≡ v was.scope.to
+  pub source : TokenIsNew v g d.source
 
--- A name is blank, or has to mean something, and not what is imported. It stands in no declaration of constants.
+-- A name is blank, or has to mean something, and not what is imported. It stands in no declaration of constants; and in one of variables it
+-- means what no local is.
 pub record UseIsNew (v : ℕ → ℕ) (g : Gap) (u : Use) : Type 0 where
   pub token : ℕ
   pub within : token < length g.texts
@@ -159,10 +179,7 @@ pub record UseIsNew (v : ℕ → ℕ) (g : Gap) (u : Use) : Type 0 where
   pub calm : (is_blank (text_there (slice_get g.texts token)) ≡ true) ⊎ ((o : Meant) × (g.means token ≡ Some o) × IsPlain o)
   pub initial : u.initial ≡ false
   pub constant : u.constant ≡ false
-
--- the token is one of the gap's
-abbrev pub IsNew : (ℕ → ℕ) → Gap → ℕ → Type 0
-IsNew v g t = (v g.from ≤ t) × (t < v g.from + length g.texts)
+  pub declaring : (u.site ≡ site.Elsewhere) ⊎ ((o : Object) × (g.means token ≡ Some (outside o)))
 
 abbrev pub EventIsNew : Alone → (ℕ → ℕ) → Gap → List Event → Event → Type 0
 EventIsNew a v g old (event.Declaration d) = DeclaresAgain a v g old d
@@ -295,3 +312,9 @@ KeepsTokens a outer gaps new = (t : ℕ) → Stays gaps t → own_object new out
 abbrev pub SaysNames : Alone → Outer → List Gap → Alone → Type 0
 SaysNames a outer gaps new =
     (g : Gap) → Among g gaps → (i : ℕ) → i < length g.texts → (o : Meant) → g.means i ≡ Some o → IsNamed (moved_by gaps g.from + i) (function_events new) → own_object new outer (moved_by gaps g.from + i) ≡ renamed a gaps new (Some o)
+
+-- What holds of such a function: tokens that stay and names of gaps mean what they have to, and no rule on names fails.
+pub record KeepsNames (a : Alone) (outer : Outer) (gaps : List Gap) (new : Alone) : Type 0 where
+  pub kept : KeepsTokens a outer gaps new
+  pub said : SaysNames a outer gaps new
+  pub faultless : own_faults new outer ≡ []

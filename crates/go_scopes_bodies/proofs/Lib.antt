@@ -32,3 +32,4 @@ mod FunctionParts
 mod Sources
 mod OwnNeeds
 mod Cycles
+pub mod Public
