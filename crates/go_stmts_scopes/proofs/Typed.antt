@@ -194,7 +194,7 @@ cut_some : (x : Part) (b : Bool) (xs : Parts) → IsExpression x → AllRun xs �
 cut_some (typed f i j l ps) true xs h g = (inl refl, g)
 cut_some x false xs h g = (h, g)
 
-first_cut_runs : (xs : Parts) → AllRun xs → AllRun (first_cut xs)
+pub first_cut_runs : (xs : Parts) → AllRun xs → AllRun (first_cut xs)
 first_cut_runs [] h = tt
 first_cut_runs (None ∷ xs) h = h
 first_cut_runs (Some x ∷ xs) h = cut_some x (is_type (sort_of x)) xs h.0 h.1

@@ -2,8 +2,11 @@
 
 ghost use Rattle.std.specs.Prelude.{◌≡◌, ℕ, Bool, true, List};
 ghost use Rattle.go_grammar.specs.declared.kind.Category.{Category};
+ghost use Rattle.go_grammar.specs.declared.kind.Category.TheVariants as category;
+ghost use Rattle.go_grammar.specs.declared.kind.Kind.TheVariants as kind;
+ghost use Rattle.go_grammar.specs.declared.kind.Sort.TheVariants as declaring;
 ghost use Rattle.go_grammar.specs.Categories.{is_simple};
-ghost use Rattle.go_grammar.specs.Trees.{Tree, kind_of};
+ghost use Rattle.go_grammar.specs.Trees.{Tree, Trees, node, kind_of};
 ghost use Rattle.go_types.specs.Relations.{Rights};
 ghost use Rattle.go_types.specs.Trees.{TypeTree};
 ghost use Rattle.go_typed.specs.Trees.{Typed, Typeds};
@@ -17,7 +20,7 @@ ghost use Rattle.go_stmts_scopes.specs.Examples.{Examples};
 ghost use Rattle.go_stmts_scopes.specs.Locals.{IsLexical, IsLexicalList};
 ghost use Rattle.go_stmts_scopes.specs.Runs.{IsExpression, HasBrackets};
 ghost use Rattle.go_stmts_scopes.specs.Scoped.{IsScoped, is_use, tested};
-ghost use Rattle.go_stmts_scopes.specs.Shapes.{IsFirst};
+ghost use Rattle.go_stmts_scopes.specs.Shapes.{IsFirst, IsFunction, IsStatement};
 ghost use Rattle.go_stmts_scopes.specs.Statements.{AreScoped, IsSimple, IsSimpleTree, is_written_simple, tree_in};
 
 /// What is typed as an expression has the shape of one: no statement and no name that is declared is run in it, whatever the scope, and
@@ -62,6 +65,19 @@ pub fn derived_statements_are_simple()
 /// definition declares names and reads expressions (Go specification: Short variable declarations, If statements).
 pub fn derived_definitions_have_shape()
     ensures { (c : Category) (s : Frame) (h : Hint) (t : Tree) → IsShaped c t → is_simple (kind_of t) ≡ true → IsFirst (tree_in (reading s h t)) }
+{}
+
+/// A specification of variables is read as a statement that declares names and reads expressions (Go specification: Variable
+/// declarations).
+pub fn derived_specifications_have_shape()
+    ensures { (s : Frame) (h : Hint) (t : Tree) → IsShaped (category.Specification declaring.Variable) t → IsStatement (tree_in (reading s h t)) }
+{}
+
+/// Each statement that is derived from the grammar, and each function, is read as one of the shape that evaluation asks for, whatever is
+/// known where it begins, and whether a rule fails or none (Go specification: Statements, Function declarations).
+pub fn derived_functions_have_shape()
+    ensures { ((s : Frame) (h : Hint) (t : Tree) → IsShaped category.Statement t → IsStatement (tree_in (reading s h t)))
+        × ((s : Frame) (h : Hint) (i j : ℕ) (ps : Trees) → IsShaped category.Declaration (node kind.FunctionDeclaration i j ps) → IsFunction (tree_in (reading s h (node kind.FunctionDeclaration i j ps)))) }
 {}
 
 /// A statement of the shape that evaluation asks for is lexically scoped where what is named in it is in scope, and so are a function and a
