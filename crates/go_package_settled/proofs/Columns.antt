@@ -26,7 +26,7 @@ use Rattle.go_tree.specs.Declarations as declarations
 
 -- ---- what is told
 
-each_tells : (Q : Declaration → Type 0) (x : Declaration) (es : List Event) → EachDeclared Q es → Tells x es → Q x
+pub each_tells : (Q : Declaration → Type 0) (x : Declaration) (es : List Event) → EachDeclared Q es → Tells x es → Q x
 each_tells Q x [] h t = absurd t
 each_tells Q x (event.Declaration d ∷ es) h (inl e) = subst Q (sym e) h.0
 each_tells Q x (event.Declaration d ∷ es) h (inr t) = each_tells Q x es h.1 t
@@ -46,7 +46,7 @@ none_before i j t c b (event.Declaration d ∷ es) o (inr h) = let r = none_befo
 none_before i j t c b (event.Use u ∷ es) o h = let r = none_before (suc u.name) j t c b es o.1 h in let l = o.0 in omega (arith, l, r)
 none_before i j t c b (e ∷ es) o h = none_before i j t c b es o h
 
-tells_behind : (i j : ℕ) (x : Declaration) (es : List Event) → AreInOrder i j es → Tells x es → i ≤ x.name
+pub tells_behind : (i j : ℕ) (x : Declaration) (es : List Event) → AreInOrder i j es → Tells x es → i ≤ x.name
 tells_behind i j x [] o h = absurd h
 tells_behind i j x (event.Declaration d ∷ es) o (inl e) = let s = ap (λ (y : Declaration). y.name) e in let l = o.0 in omega (arith, l, s)
 tells_behind i j x (event.Declaration d ∷ es) o (inr h) = let r = tells_behind (suc d.name) j x es o.1 h in let l = o.0 in omega (arith, l, r)
@@ -65,23 +65,23 @@ is_that i j x c b (e ∷ es) o t h = is_that i j x c b es o t h
 
 -- ---- specifications in files
 
-abbrev InSpecs : Specification → List Specification → Type 0
+abbrev pub InSpecs : Specification → List Specification → Type 0
 InSpecs x [] = ⊥
 InSpecs x (y ∷ ys) = (x ≡ y) ⊎ InSpecs x ys
 
 -- one of these in the file n has the name t
-abbrev AnyIn : ℕ → ℕ → List Specification → Type 0
+abbrev pub AnyIn : ℕ → ℕ → List Specification → Type 0
 AnyIn n t [] = ⊥
 AnyIn n t (x ∷ xs) = ((x.file ≡ n) × Listed t x.names) ⊎ AnyIn n t xs
 
 -- This specification declares the name at the token t of the file n, as its name of this number.
-record Declares (xs : List Specification) (n t : ℕ) : Type 0 where
-  specification : Specification
-  column : ℕ
-  among : InSpecs specification xs
-  file : specification.file ≡ n
-  place : place_of t specification.names ≡ Some column
-  is : declaring xs n t ≡ (specification, column)
+pub record Declares (xs : List Specification) (n t : ℕ) : Type 0 where
+  pub specification : Specification
+  pub column : ℕ
+  pub among : InSpecs specification xs
+  pub file : specification.file ≡ n
+  pub place : place_of t specification.names ≡ Some column
+  pub is : declaring xs n t ≡ (specification, column)
 
 listed_place : (t : ℕ) (ts : List ℕ) → Listed t ts → place_of t ts ≡ None → ⊥
 listed_place t [] h e = h
@@ -119,7 +119,7 @@ declares_by x xs n t (Some c) e h f =
 declares_by x xs n t None e (inl h) f = absurd (column_none n t x e h)
 declares_by x xs n t None e (inr h) f = declares_more x xs n t e (f h)
 
-declares : (xs : List Specification) (n t : ℕ) → AnyIn n t xs → Declares xs n t
+pub declares : (xs : List Specification) (n t : ℕ) → AnyIn n t xs → Declares xs n t
 declares [] n t h = absurd h
 declares (x ∷ xs) n t h = declares_by x xs n t (column_of n t x) refl h (λ k. declares xs n t k)
 
@@ -132,20 +132,20 @@ any_behind : (n t : ℕ) (xs ys : List Specification) → AnyIn n t ys → AnyIn
 any_behind n t [] ys h = h
 any_behind n t (x ∷ xs) ys h = inr (any_behind n t xs ys h)
 
-in_one_file : (n t : ℕ) (es : List Event) (xs : List Specification) → AreTold es n xs → AnyNamed t xs → AnyIn n t xs
+pub in_one_file : (n t : ℕ) (es : List Event) (xs : List Specification) → AreTold es n xs → AnyNamed t xs → AnyIn n t xs
 in_one_file n t es [] h k = absurd k
 in_one_file n t es (x ∷ xs) h (inl k) = inl (h.0.file, k)
 in_one_file n t es (x ∷ xs) h (inr k) = inr (in_one_file n t es xs h.1 k)
 
 -- ---- files
 
-abbrev Reads : Source → Type 0
+abbrev pub Reads : Source → Type 0
 Reads s = IsFile (kinds s.tokens.tokens) s.tree
 
 same_source : (a b : Source) → ◌≡◌ {A = Option Source} (Some a) (Some b) → a ≡ b
 same_source a b e = cc
 
-read_at : (ss : List Source) (i : ℕ) (s : Source) → AllByRecursion Reads ss → slice_get ss i ≡ Some s → Reads s
+pub read_at : (ss : List Source) (i : ℕ) (s : Source) → AllByRecursion Reads ss → slice_get ss i ≡ Some s → Reads s
 read_at [] i s h e = absurd cc
 read_at (x ∷ ss) zero s h e = subst Reads (same_source x s e) h.0
 read_at (x ∷ ss) (suc i) s h e = read_at ss i s h.1 e
@@ -153,13 +153,13 @@ read_at (x ∷ ss) (suc i) s h e = read_at ss i s h.1 e
 same_unit : (a b : names.Unit) → ◌≡◌ {A = Option names.Unit} (Some a) (Some b) → a ≡ b
 same_unit a b e = cc
 
-source_at : (ss : List Source) (i : ℕ) (u : names.Unit) → slice_get (map unit_of ss) i ≡ Some u → (s : Source) × (slice_get ss i ≡ Some s) × (unit_of s ≡ u)
+pub source_at : (ss : List Source) (i : ℕ) (u : names.Unit) → slice_get (map unit_of ss) i ≡ Some u → (s : Source) × (slice_get ss i ≡ Some s) × (unit_of s ≡ u)
 source_at [] i u e = absurd cc
 source_at (x ∷ ss) zero u e = (x, refl, same_unit (unit_of x) u e)
 source_at (x ∷ ss) (suc i) u e = source_at ss i u e
 
 -- the specifications of the files from the number k on
-any_at : (k : ℕ) (ss : List Source) (i : ℕ) (s : Source) (n t : ℕ) → n ≡ k + i → slice_get ss i ≡ Some s → AnyIn n t (in_file n s.tree) → AnyIn n t (specifications k ss)
+pub any_at : (k : ℕ) (ss : List Source) (i : ℕ) (s : Source) (n t : ℕ) → n ≡ k + i → slice_get ss i ≡ Some s → AnyIn n t (in_file n s.tree) → AnyIn n t (specifications k ss)
 any_at k [] i s n t q e h = absurd cc
 any_at k (x ∷ ss) zero s n t q e h =
     let same : n ≡ k = omega (arith, q) in
@@ -176,7 +176,7 @@ record IsToldIn (k : ℕ) (ss : List Source) (x : Specification) : Type 0 where
   there : slice_get ss number ≡ Some source
   told : IsTold (unit_of source).events (k + number) x
 
-split_specs : (x : Specification) (xs ys : List Specification) → InSpecs x (xs ++ ys) → InSpecs x xs ⊎ InSpecs x ys
+pub split_specs : (x : Specification) (xs ys : List Specification) → InSpecs x (xs ++ ys) → InSpecs x xs ⊎ InSpecs x ys
 split_specs x [] ys h = inr h
 split_specs x (y ∷ xs) ys (inl e) = inl (inl e)
 split_specs x (y ∷ xs) ys (inr h) = more (split_specs x xs ys h)

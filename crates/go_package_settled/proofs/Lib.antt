@@ -18,3 +18,12 @@ mod Specified
 mod Naming
 mod Columns
 mod Telling
+mod Around
+mod Simple
+mod Looking
+mod Rights
+mod Sourced
+mod Uses
+mod Sites
+mod Calling
+mod Needing

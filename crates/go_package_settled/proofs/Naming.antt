@@ -41,7 +41,7 @@ told_each Q c k i j ps own below =
 
 -- ---- what declares nothing by itself
 
-abbrev NotNew : Role → Type 0
+abbrev pub NotNew : Role → Type 0
 NotNew (role.New d) = ⊥
 NotNew r = Unit {0}
 
@@ -72,7 +72,7 @@ entry_not : (named : Bool) (p : Tree) (i : ℕ) (s : Option Scope) → NotNew (e
 entry_not true p i s = name_not p (role.Parameter i s) tt
 entry_not false p i s = tt
 
-part_not : (c : Context) (k : Kind) (i j : ℕ) (named : Bool) (n : ℕ) (p : Tree) → layer k ≡ Holding → NotNew c.role → NotNew (role_in c k i j named n p)
+pub part_not : (c : Context) (k : Kind) (i j : ℕ) (named : Bool) (n : ℕ) (p : Tree) → layer k ≡ Holding → NotNew c.role → NotNew (role_in c k i j named n p)
 part_not c (kind.Specification s) i j named n p e r = absurd cc
 part_not c kind.Define i j named n p e r = absurd cc
 part_not c kind.DefiningRange i j named n p e r = absurd cc

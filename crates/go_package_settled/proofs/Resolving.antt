@@ -69,7 +69,7 @@ follow_in n i j ts (event.Declaration d ∷ es) rest h k = (inr (refl, h.0), fol
 follow_in n i j ts (event.Use u ∷ es) rest h k = follow_less n i (suc u.name) (found_in n ts es ++ rest) (let a = h.0 in omega (arith, a)) (follow_in n (suc u.name) j ts es rest h.1 k)
 follow_in n i j ts (e ∷ es) rest h k = follow_in n i j ts es rest h k
 
-follow_found : (n : ℕ) (us : List names.Unit) → AreOrderly us → Follow n 0 (found_from n us)
+pub follow_found : (n : ℕ) (us : List names.Unit) → AreOrderly us → Follow n 0 (found_from n us)
 follow_found n [] h = tt
 follow_found n (u ∷ us) h = follow_in n 0 h.0.end u.tokens u.events (found_from (suc n) us) h.0.order (follow_found (suc n) us h.1)
 
@@ -86,7 +86,7 @@ not_before : (x y : Found) → is_same x y ≡ true → IsAfter y.file (suc y.it
 not_before x y e (inl h) = let f = same_file x y e in omega (arith, h, f)
 not_before x y e (inr h) = let f = same_name x y e in let k = h.1 in omega (arith, k, f)
 
-distinct : (n i : ℕ) (ds : List Found) (x y : Found) → Follow n i ds → IsIn x ds → IsIn y ds → is_same x y ≡ true → x ≡ y
+pub distinct : (n i : ℕ) (ds : List Found) (x y : Found) → Follow n i ds → IsIn x ds → IsIn y ds → is_same x y ≡ true → x ≡ y
 distinct n i [] x y h k l e = absurd k
 distinct n i (d ∷ ds) x y h (inl p) (inl q) e = p ∙ sym q
 distinct n i (d ∷ ds) x y h (inl p) (inr l) e = absurd (not_behind x y e (subst (λ z. IsAfter z.file (suc z.it.name) y) (sym p) (in_after d.file (suc d.it.name) ds y h.1 l)))

@@ -35,13 +35,13 @@ AnyDeclared P [] = ⊥
 AnyDeclared P (event.Declaration d ∷ es) = P d ⊎ AnyDeclared P es
 AnyDeclared P (e ∷ es) = AnyDeclared P es
 
-any_front : (P : Declaration → Type 0) (es fs : List Event) → AnyDeclared P es → AnyDeclared P (es ++ fs)
+pub any_front : (P : Declaration → Type 0) (es fs : List Event) → AnyDeclared P es → AnyDeclared P (es ++ fs)
 any_front P [] fs h = absurd h
 any_front P (event.Declaration d ∷ es) fs (inl h) = inl h
 any_front P (event.Declaration d ∷ es) fs (inr h) = inr (any_front P es fs h)
 any_front P (e ∷ es) fs h = any_front P es fs h
 
-any_behind : (P : Declaration → Type 0) (es fs : List Event) → AnyDeclared P fs → AnyDeclared P (es ++ fs)
+pub any_behind : (P : Declaration → Type 0) (es fs : List Event) → AnyDeclared P fs → AnyDeclared P (es ++ fs)
 any_behind P [] fs h = h
 any_behind P (event.Declaration d ∷ es) fs h = inr (any_behind P es fs h)
 any_behind P (e ∷ es) fs h = any_behind P es fs h
@@ -89,7 +89,7 @@ AreNames (more (node k i j qs) ps) = (k ≡ kind.DeclaredName) × (qs ≡ none) 
 AreNames (skip ps) = ⊥
 
 -- the place of a name in a list
-place_by : {P : Type 0} (t i k : ℕ) (ts : List ℕ) → place_of t (i ∷ ts) ≡ Some k → (t ≡ i → k ≡ 0 → P) → ((l : ℕ) → place_of t ts ≡ Some l → k ≡ suc l → P) → P
+pub place_by : {P : Type 0} (t i k : ℕ) (ts : List ℕ) → place_of t (i ∷ ts) ≡ Some k → (t ≡ i → k ≡ 0 → P) → ((l : ℕ) → place_of t ts ≡ Some l → k ≡ suc l → P) → P
 place_by {P} t i k ts e f g = by (nat_eq t i) refl e
   where
     some_number : (a b : ℕ) → ◌≡◌ {A = Option ℕ} (Some a) (Some b) → b ≡ a
@@ -182,7 +182,7 @@ variables_told c i j (more (node l a b ns) ps) t k h e =
     (names_told (begin g kind.NameList) (Names f declaring.Variable i j) a b ns 0 ns t k refl h.1 e)))))
 
 -- a type
-only_first : {P : Type 0} (t i k : ℕ) → place_of t (i ∷ []) ≡ Some k → (t ≡ i → k ≡ 0 → P) → P
+pub only_first : {P : Type 0} (t i k : ℕ) → place_of t (i ∷ []) ≡ Some k → (t ≡ i → k ≡ 0 → P) → P
 only_first t i k e f = place_by t i k [] e f (λ l q z. absurd cc)
 
 type_told : (c : Context) (i j : ℕ) (ps : Trees) (t k : ℕ) → place_of t (i ∷ []) ≡ Some k → AnyDeclared (IsNamed t k true) (events c (node (kind.Specification declaring.Type) i j ps))
@@ -255,7 +255,7 @@ module _ (ts : List TokenKind) where
   further_names (more p ps) i j h = one_name p h.3 ps (more_names ps (last p) j h.4)
   further_names (skip ps) i j h = absurd h
 
-  all_names : (ps : Trees) (i j : ℕ) → Spells ts (Then [] category.DeclaredName (Many [] (Again category.DeclaredName token.Comma))) i ps j → AreNames ps
+  pub all_names : (ps : Trees) (i j : ℕ) → Spells ts (Then [] category.DeclaredName (Many [] (Again category.DeclaredName token.Comma))) i ps j → AreNames ps
   all_names none i j h = absurd h
   all_names (more p ps) i j h = one_name p h.1 ps (further_names ps (last p) j h.2)
   all_names (skip ps) i j h = absurd h
@@ -376,7 +376,7 @@ module _ (ts : List TokenKind) where
   many_tell n (skip ps) i j h = absurd h
 
   -- imports specify nothing
-  no_specifications : (n : ℕ) (p : Tree) → Derives ts category.Imports p → declaration n p ≡ []
+  pub no_specifications : (n : ℕ) (p : Tree) → Derives ts category.Imports p → declaration n p ≡ []
   no_specifications n (node kind.Imports i j ps) h = refl
   no_specifications n (node k i j ps) h = absurd (true_false false h.0 refl)
 

@@ -112,7 +112,7 @@ told_of k (u ∷ us) x a = by (split_in x (found_in k u.tokens u.events) (found_
 
 -- ---- a token that declares a name
 
-lesser_name : (a b : ℕ) → a < b → nat_eq a b ≡ false
+pub lesser_name : (a b : ℕ) → a < b → nat_eq a b ≡ false
 lesser_name a b e = by (nat_eq a b) refl
   where
     by : (c : Bool) → nat_eq a b ≡ c → nat_eq a b ≡ false
@@ -142,7 +142,7 @@ token_told ms n ts (e ∷ es) x i j o a = token_told ms n ts es x i j o a
 
 -- ---- locals
 
-local_number : (k : Numbers) (b : Block) → is_package b ≡ false → number_in (Some (own_number k b)) ≡ None
+pub local_number : (k : Numbers) (b : Block) → is_package b ≡ false → number_in (Some (own_number k b)) ≡ None
 local_number k block.Package e = absurd cc
 local_number k (block.Local i) e = refl
 
@@ -150,7 +150,7 @@ same_itself : (d : Found) → is_same d d ≡ true
 same_itself d = grind arith
 
 -- the first of these declarations that stands at the place of a local is a local
-local_own : (x : Found) (w : List ℕ) (all : List Meaning) (k : Numbers) (ds : List Found) (o : Object) → ((y : Found) → IsIn y ds → is_same y x ≡ true → is_package y.it.block ≡ false) → IsIn x ds
+pub local_own : (x : Found) (w : List ℕ) (all : List Meaning) (k : Numbers) (ds : List Found) (o : Object) → ((y : Found) → IsIn y ds → is_same y x ≡ true → is_package y.it.block ≡ false) → IsIn x ds
     → own_object x.file x.it.name w all (numbered k ds) ≡ Some o → number_in (Some o) ≡ None
 local_own x w all k [] o f h e = absurd h
 local_own x w all k (y ∷ ds) o f h e =
@@ -162,7 +162,7 @@ local_own x w all k (y ∷ ds) o f h e =
     by false q (inl s) g r = absurd (let t : is_same y x ≡ true = subst (λ z. is_same z x ≡ true) s (same_itself x) in grind (arith, t, q))
     by false q (inr i) g r = r i g
 
-imports_aside : (n t : ℕ) (w : List ℕ) (all : List Meaning) (k : ℕ) (us : List names.Unit) (ms : List Meaning) → own_object n t w all (imported_from k us ++ ms) ≡ own_object n t w all ms
+pub imports_aside : (n t : ℕ) (w : List ℕ) (all : List Meaning) (k : ℕ) (us : List names.Unit) (ms : List Meaning) → own_object n t w all (imported_from k us ++ ms) ≡ own_object n t w all ms
 imports_aside n t w all k [] ms = refl
 imports_aside n t w all k (u ∷ us) ms = by (imports_fmt u.tokens u.events) (imports_aside n t w all (suc k) us ms)
   where
@@ -171,7 +171,7 @@ imports_aside n t w all k (u ∷ us) ms = by (imports_fmt u.tokens u.events) (im
     by true g = g
     by false g = g
 
-orderly_at : (us : List names.Unit) (n : ℕ) (u : names.Unit) → AreOrderly us → slice_get us n ≡ Some u → (j : ℕ) × AreInOrder 0 j u.events
+pub orderly_at : (us : List names.Unit) (n : ℕ) (u : names.Unit) → AreOrderly us → slice_get us n ≡ Some u → (j : ℕ) × AreInOrder 0 j u.events
 orderly_at [] n u h e = absurd cc
 orderly_at (x ∷ us) zero u h e = (h.0.end, subst (λ (y : names.Unit). AreInOrder 0 h.0.end y.events) (some_same x u e) h.0.order)
 orderly_at (x ∷ us) (suc n) u h e = orderly_at us n u h.1 e

@@ -60,14 +60,26 @@ pub fn faultless_packages_are_resolved()
     resolved_packages_have_an_order();
 }
 
+/// In a package whose files have trees and whose names are free of faults each object needs what its specification names, as it is named there,
+/// and one that is no type needs the same in full and in part.
+pub fn faultless_packages_need_what_they_name()
+    ensures { (ss : List Source) → let us = map unit_of ss in let p = package_of ss (uses us) in let os = outlines p (specifications 0 ss) in
+        IsFaultless ss → NeedsAreNamed p os (declared_in us) }
+{
+    files_are_orderly();
+    names_are_in_order();
+    faultless_packages_are_resolved();
+}
+
 /// In a package whose files have trees and whose names are free of faults what the objects stand for is known by stages, and further rounds
-/// change nothing, where each object needs what its specification names.
+/// change nothing.
 pub fn faultless_packages_settle()
     ensures { (ss : List Source) → let us = map unit_of ss in let p = package_of ss (uses us) in let os = outlines p (specifications 0 ss) in
-        IsFaultless ss → NeedsAreNamed p os (declared_in us) → IsSettled p os }
+        IsFaultless ss → IsSettled p os }
 {
     names_are_in_order();
     faultless_packages_are_resolved();
+    faultless_packages_need_what_they_name();
     resolved_packages_settle();
 }
 
