@@ -17,3 +17,4 @@ mod Clauses
 mod Alone
 mod Ends
 mod Worked
+mod Above

@@ -4,3 +4,4 @@ pub mod Gaps
 pub mod Marked
 pub mod Ends
 pub mod Worked
+pub mod Above

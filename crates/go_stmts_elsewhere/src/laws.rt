@@ -10,6 +10,7 @@ ghost use Rattle.go_rewriting.specs.Places.{carry};
 ghost use Rattle.go_stmts_defs.specs.Bodies.{start};
 ghost use Rattle.go_stmts_defs.specs.Frames.{Frame};
 ghost use Rattle.go_stmts_defs.specs.Reading.{reading};
+ghost use Rattle.go_stmts_elsewhere.specs.Above.{NodesAbove};
 ghost use Rattle.go_stmts_elsewhere.specs.Ends.{NodesEnd, ListsEnd};
 ghost use Rattle.go_stmts_elsewhere.specs.Frames.{AlongFrames, AlongReadings, KeepsPlaces};
 ghost use Rattle.go_stmts_elsewhere.specs.Functions.{AlongFunctions, LocalsStand, Numbered, NumberedFunctions, only_objects, stays};
@@ -92,4 +93,10 @@ pub fn nodes_end_alike()
 /// Worked lists: the first worked class with a call in place of its window, a window at the end of a clause, and two windows in one list.
 pub fn worked_gaps()
     ensures { WorkedGaps }
+{}
+
+/// Above a gap: a node whose parts are the same but for what stands in its blocks, statements and clauses has the same form, fails the same
+/// rules and gives its parts the same.
+pub fn nodes_above_a_gap_stay()
+    ensures { NodesAbove }
 {}
