@@ -1,0 +1,102 @@
+//! Laws of statements and functions elsewhere, for the crates above. These functions do nothing: their contracts are what holds.
+
+ghost use Rattle.std.specs.Prelude.{ℕ, Bool};
+ghost use Rattle.go_exprs_elsewhere.specs.Elsewhere.{Moves, KeepsSpelling};
+ghost use Rattle.go_exprs_rules.specs.Scopes.{Hint, Scope};
+ghost use Rattle.go_grammar.specs.Trees.{Tree, Trees, last};
+ghost use Rattle.go_package_defs.specs.Bodies.{function_in};
+ghost use Rattle.go_package_alike.specs.Scopes.{AllTokens};
+ghost use Rattle.go_rewriting.specs.Places.{carry};
+ghost use Rattle.go_stmts_defs.specs.Bodies.{start};
+ghost use Rattle.go_stmts_defs.specs.Frames.{Frame};
+ghost use Rattle.go_stmts_defs.specs.Reading.{reading};
+ghost use Rattle.go_stmts_elsewhere.specs.Above.{NodesAbove};
+ghost use Rattle.go_stmts_elsewhere.specs.Ends.{NodesEnd, ListsEnd};
+ghost use Rattle.go_stmts_elsewhere.specs.Frames.{AlongFrames, AlongReadings, KeepsPlaces};
+ghost use Rattle.go_stmts_elsewhere.specs.Functions.{AlongFunctions, LocalsStand, Numbered, NumberedFunctions, only_objects, stays};
+ghost use Rattle.go_stmts_elsewhere.specs.Gaps.{GapRead, ListsAreReadAlone, behind};
+ghost use Rattle.go_stmts_elsewhere.specs.Marked.{AlongAt, AlongReadingsAt, AllKeepAt, KeepAt, RelatedAt, SameReadingsAt};
+ghost use Rattle.go_stmts_elsewhere.specs.Worked.{WorkedGaps};
+
+use go_package_alike::laws::statements_follow_from_their_tokens;
+use go_renumbering::laws::renumbered_functions_are_typed_the_same;
+
+/// Statements, declarations and bodies whose tokens stand elsewhere are read the same in frames that are related, under the new numbers; the
+/// same rules fail in them at the new places, and what is known behind them is related again.
+pub fn statements_are_read_elsewhere()
+    ensures { (m : Moves) (l : ℕ → Bool) (f g : Frame) (h : Hint) (x : Tree) →
+        AlongFrames m l f g → KeepsSpelling m x → KeepsPlaces m x → AlongReadings m l (reading f h x) (reading g h (carry m.token x)) }
+{}
+
+/// A function whose tokens stand elsewhere, in a scope that gives its locals and the objects of the package other numbers, is the same
+/// function there; or a fault is reported of both, the same one where tokens stay in order.
+pub fn functions_are_typed_elsewhere()
+    ensures { (m : Moves) (l : ℕ → Bool) (s t : Scope) (count other : ℕ) (types others : ℕ → ℕ) (old number : ℕ) (x : Tree) →
+        AlongFrames m l (start s count types) (start t other others) → LocalsStand s t → KeepsSpelling m x → KeepsPlaces m x →
+        AlongFunctions m l (last x) number (function_in s old count types x) (function_in t number other others (carry m.token x)) }
+{}
+
+/// A function that stays as it is, in a package that numbers its objects, functions and declared types otherwise, is the same function
+/// under these numbers, with the right sides behind it; or the same fault is reported of it.
+pub fn unchanged_functions_are_numbered_anew()
+    ensures { (constants types_of variables functions name : ℕ → ℕ) (s t : Scope) (count : ℕ) (types others : ℕ → ℕ) (old number : ℕ) (x : Tree) →
+        Numbered (only_objects constants types_of variables functions) name s t count types others →
+        NumberedFunctions (only_objects constants types_of variables functions) name number (function_in s old count types x) (function_in t number count others x) }
+{
+    renumbered_functions_are_typed_the_same();
+}
+
+/// Statements are read elsewhere where frames are related at their own tokens alone, where they stood and where they stand.
+pub fn statements_are_read_at_their_tokens()
+    ensures { (p q : ℕ → Bool) (m : Moves) (l : ℕ → Bool) (f g : Frame) (h : Hint) (x : Tree) →
+        AlongAt p q m l f g → KeepAt p q m x → AlongReadingsAt p q m l (reading f h x) (reading g h (carry m.token x)) }
+{
+    statements_follow_from_their_tokens();
+}
+
+/// Frames that are related field by field, of what tokens say and mean at some tokens alone, are related at these.
+pub fn frames_are_related_at_tokens()
+    ensures { (p q : ℕ → Bool) (m : Moves) (l : ℕ → Bool) (f g : Frame) → RelatedAt p q m l f g → AlongAt p q m l f g }
+{}
+
+/// In a list of statements in which others take the place of a run, what stands in front and behind is read the same, given how the two
+/// runs lead from related frames to related frames.
+pub fn lists_are_read_around_a_gap()
+    ensures { (p q p2 q2 : ℕ → Bool) (m : Moves) (l l2 : ℕ → Bool) (f g : Frame) (front old new rest : Trees) →
+        AlongAt p q m l f g → AllKeepAt p q m front →
+        ((a b : Frame) → AlongAt p q m l a b → AlongAt p2 q2 m l2 (behind a old) (behind b new)) → AllKeepAt p2 q2 m rest →
+        GapRead m (AlongAt p2 q2 m l2) f g front old new rest }
+{
+    statements_follow_from_their_tokens();
+}
+
+/// Statements that stay where they are depend on what their own tokens say and mean and on the locals that these name, and on no other
+/// tokens or locals.
+pub fn statements_are_read_by_what_they_name()
+    ensures { (p l : ℕ → Bool) (f g : Frame) (h : Hint) (x : Tree) → RelatedAt p p stays l f g → AllTokens p x → SameReadingsAt p l (reading f h x) (reading g h x) }
+{
+    statements_follow_from_their_tokens();
+}
+
+/// The statements of a block or of a clause are read by themselves, so the law on lists with a gap holds of each.
+pub fn lists_are_read_alone()
+    ensures { ListsAreReadAlone }
+{}
+
+/// Nodes of one form are terminating alike where their parts are so; lists where their last statements are, whatever stands in front of
+/// them.
+pub fn nodes_end_alike()
+    ensures nodes { NodesEnd }
+    ensures lists { ListsEnd }
+{}
+
+/// Worked lists: the first worked class with a call in place of its window, a window at the end of a clause, and two windows in one list.
+pub fn worked_gaps()
+    ensures { WorkedGaps }
+{}
+
+/// Above a gap: a node whose parts are the same but for what stands in its blocks, statements and clauses has the same form, fails the same
+/// rules and gives its parts the same.
+pub fn nodes_above_a_gap_stay()
+    ensures { NodesAbove }
+{}
