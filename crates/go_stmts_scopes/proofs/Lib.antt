@@ -12,5 +12,10 @@ mod Headers
 mod Rows
 mod Loops
 mod Bodies
+mod NamedTypings
+mod NamedReadings
+mod Covered
+mod CoveredStatements
+mod CoveredBodies
 mod Examples
 pub mod Public

@@ -26,28 +26,28 @@ use Rattle.go_stmts_scopes.proofs.Statements.{course, runs_inner, places, placed
 -- ---- scopes
 
 -- all of these are among those
-abbrev IsWithin : List ℕ → List ℕ → Type 0
+abbrev pub IsWithin : List ℕ → List ℕ → Type 0
 IsWithin s1 s = (k : ℕ) → In k s1 → In k s
 
-put_more : (f : Form) (s : List ℕ) → IsWithin s (put f s)
+pub put_more : (f : Form) (s : List ℕ) → IsWithin s (put f s)
 put_more (form.New i) s k h = inr h
 put_more (form.Declared i) s k h = inr h
 put_more f s k h = h
 
-names_more : (n : ℕ) (s : List ℕ) (ps : Typeds TypeTree) → IsWithin s (behind_names n s ps)
+pub names_more : (n : ℕ) (s : List ℕ) (ps : Typeds TypeTree) → IsWithin s (behind_names n s ps)
 names_more zero s ps k h = h
 names_more (suc n) s trees.none k h = h
 names_more (suc n) s (trees.more p ps) k h = names_more n (put (form_of p) s) ps k (put_more (form_of p) s k h)
 names_more (suc n) s (trees.skip ps) k h = names_more n s ps k h
 
 mutual
-  behind_more : (s : List ℕ) (x : Typed TypeTree) → IsWithin s (behind s x)
+  pub behind_more : (s : List ℕ) (x : Typed TypeTree) → IsWithin s (behind s x)
   behind_more s (typed (form.Define n) i j l ps) k h = names_more n s ps k h
   behind_more s (typed (form.Specified n) i j l ps) k h = names_more n s ps k h
   behind_more s (typed form.Variables i j l ps) k h = all_more s ps k h
   behind_more s (typed f i j l ps) k h = h
 
-  all_more : (s : List ℕ) (ps : Typeds TypeTree) → IsWithin s (behind_all s ps)
+  pub all_more : (s : List ℕ) (ps : Typeds TypeTree) → IsWithin s (behind_all s ps)
   all_more s trees.none k h = h
   all_more s (trees.more p ps) k h = all_more (behind s p) ps k (behind_more s p k h)
   all_more s (trees.skip ps) k h = all_more s ps k h

@@ -7,6 +7,7 @@ ghost use Rattle.go_grammar.specs.declared.kind.Kind.TheVariants as kind;
 ghost use Rattle.go_grammar.specs.declared.kind.Sort.TheVariants as declaring;
 ghost use Rattle.go_grammar.specs.Categories.{is_simple};
 ghost use Rattle.go_grammar.specs.Trees.{Tree, Trees, node, kind_of};
+ghost use Rattle.go_tree.specs.declared.context.Scope.{Scope as Extent};
 ghost use Rattle.go_types.specs.Relations.{Rights};
 ghost use Rattle.go_types.specs.Trees.{TypeTree};
 ghost use Rattle.go_typed.specs.Trees.{Typed, Typeds};
@@ -15,12 +16,16 @@ ghost use Rattle.go_exprs_rules.specs.Typing.{typing};
 ghost use Rattle.go_stmts_defs.specs.Frames.{Frame};
 ghost use Rattle.go_stmts_defs.specs.Reading.{reading};
 ghost use Rattle.go_stmts_final_types.specs.Shapes.{IsShaped};
-ghost use Rattle.go_meaning_simulation.specs.Links.{Ways};
+ghost use Rattle.go_meaning_simulation.specs.Links.{Ways, nowhere};
+ghost use Rattle.extract_runs.specs.Lexical.{lexical_links};
+ghost use Rattle.extract_runs.specs.Sound.{SoundChain, SoundStatement};
 ghost use Rattle.go_stmts_scopes.specs.Examples.{Examples};
-ghost use Rattle.go_stmts_scopes.specs.Locals.{IsLexical, IsLexicalList};
+ghost use Rattle.go_stmts_scopes.specs.Locals.{behind_all, IsLexical, IsLexicalList};
+ghost use Rattle.go_stmts_scopes.specs.Names.{NamesMean};
 ghost use Rattle.go_stmts_scopes.specs.Runs.{IsExpression, HasBrackets};
 ghost use Rattle.go_stmts_scopes.specs.Scoped.{IsScoped, is_use, tested};
-ghost use Rattle.go_stmts_scopes.specs.Shapes.{IsFirst, IsFunction, IsStatement};
+ghost use Rattle.go_stmts_scopes.specs.Shapes.{AreStatements, IsFirst, IsFunction, IsStatement};
+ghost use Rattle.go_stmts_scopes.specs.Standing.{Extents, StandInScope, StandsInScope};
 ghost use Rattle.go_stmts_scopes.specs.Statements.{AreScoped, IsSimple, IsSimpleTree, is_written_simple, tree_in};
 
 /// What is typed as an expression has the shape of one: no statement and no name that is declared is run in it, whatever the scope, and
@@ -85,6 +90,22 @@ pub fn derived_functions_have_shape()
 pub fn shaped_statements_are_scoped()
     ensures { (named written declared : ℕ → Bool) (returns : Bool) (rights : Rights) (local : ℕ → ℕ) (gone : ℕ → Bool) (W : Ways (List ℕ)) (s : List ℕ)
         → ((x : Typed TypeTree) → IsLexical (tested named written declared returns) rights local gone W s x) × ((ps : Typeds TypeTree) → IsLexicalList (tested named written declared returns) rights local gone W s ps) }
+{}
+
+/// Where a typed tree names or declares a local, the token means this local (Go specification: Declarations and scope). This holds of any
+/// tree, whatever is known where it begins, and whether a rule fails or none.
+pub fn names_stand_where_they_are_meant()
+    ensures { (s : Frame) (h : Hint) (t : Tree) → NamesMean s.around.objects (tree_in (reading s h t)) }
+{}
+
+/// A function is lexically scoped from its parameters on where its names stand as they may, and each variable that is in scope at one of its
+/// tokens is a parameter or is declared in it; and so is a window, from the locals on that are in scope in front of it (Go specification:
+/// Blocks, Declarations and scope).
+pub fn covered_functions_are_scoped()
+    ensures { (named written declared : ℕ → Bool) (returns : Bool) (rights : Rights) (x : Extents) (gone : ℕ → Bool) (local : ℕ → ℕ) (s : List ℕ) →
+        let ls = tested named written declared returns in
+        ((t : Typed TypeTree) → IsFunction t → StandsInScope ls rights x s t → SoundStatement (lexical_links ls) rights local gone nowhere s s t)
+        × ((r : Extent) (a b : ℕ) (ps : Typeds TypeTree) → AreStatements ps → StandInScope ls rights x r a b s ps → SoundChain (lexical_links ls) rights local gone nowhere s (behind_all s ps) ps) }
 {}
 
 /// A window and a function that are lexically scoped, and a statement that isn't, worked out by hand.
