@@ -1,0 +1,14 @@
+pub mod Numbers
+pub mod Meant
+pub mod Declared
+pub mod Found
+pub mod Objects
+pub mod Names
+pub mod Examples
+mod Farther
+mod Appended
+mod Parameters
+mod Longer
+mod Blocks
+mod Imports
+mod Lying

@@ -1,0 +1,86 @@
+//! Laws of a package with one function more, for the crates above. The functions do nothing: their contracts are the laws.
+
+ghost use Rattle.std.specs.Prelude.{◌≡◌, ℕ, suc, ◌≤◌, false, List, ◌∷◌, ◌++◌, length, map};
+ghost use Rattle.std.specs.List.{AllByRecursion};
+ghost use Rattle.go_tokens.specs.Tokens.{TokenList};
+ghost use Rattle.go_tokens.specs.declared.token.TokenKind.{TokenKind};
+ghost use Rattle.go_grammar.specs.declared.kind.Category.TheVariants as category;
+ghost use Rattle.go_grammar.specs.declared.kind.Kind.TheVariants as kind;
+ghost use Rattle.go_grammar.specs.Grammar.{IsFile, Derives};
+ghost use Rattle.go_grammar.specs.Trees.{Tree, Trees, node, last};
+ghost use Rattle.go_rewriting.specs.Places.{with_declaration};
+ghost use Rattle.go_tree.specs.declared.event.Event.{Event};
+ghost use Rattle.go_tree.specs.Contexts.{file_context};
+ghost use Rattle.go_tree.specs.Events.{events, function_declared};
+ghost use Rattle.go_tree.specs.Imports.{imports_fmt};
+ghost use Rattle.go_scopes_events.specs.Orders.{EachDeclared};
+ghost use Rattle.go_tree.specs.Units.{Unit, word, is_blank};
+ghost use Rattle.go_heads_added.specs.Added.{IsAdded, LiesIn, NoneSays, KeepsAll, KeepsDeclared, AreEarlier, BlockWithin, gap_in, reaching};
+ghost use Rattle.go_heads_added.specs.Appended.{AreAdded, HasNames, IsFront, IsParameterOf, IsParsed, TellsMore, context_behind, empty_function, unit_of};
+ghost use Rattle.go_heads_added.specs.Examples.{Examples};
+
+use go_scopes_events::laws::locals_stand_in_functions;
+
+/// Behind a function that is appended to a file, and the name of which no token says, each token of the package means what it meant: the
+/// objects of the package behind the function, and the functions behind it, have the next numbers; and the objects of the package are those
+/// that there were, with the function between.
+pub fn added_names()
+    ensures objects { (k n : ℕ) (name : List ℕ) (old new : List Unit) (h : IsAdded k n name old new) → LiesIn k n name old new h → NoneSays name old
+        → KeepsAll k n (gap_in k n name old new h) old new }
+    ensures declared { (k n : ℕ) (name : List ℕ) (old new : List Unit) (h : IsAdded k n name old new) → LiesIn k n name old new h → NoneSays name old
+        → KeepsDeclared k h.longer.end (gap_in k n name old new h) old new }
+{}
+
+/// A file with a declaration behind all others tells what it told, to its own end, and then what that declaration tells. This holds of any
+/// tree.
+pub fn longer_files_tell_more()
+    ensures { (i j end : ℕ) (ps : Trees) (d : Tree) → events (file_context end) (with_declaration (node kind.File i j ps) d end)
+        ≡ map (reaching end) (events (file_context j) (node kind.File i j ps)) ++ events (context_behind end ps d) d }
+{}
+
+/// A function with an empty body tells that it is declared, and then nothing that declares anything but its parameters.
+pub fn empty_functions_declare_parameters()
+    ensures { (ts : List TokenKind) (end i j a b : ℕ) (s : Tree) (ps : Trees) → let d = empty_function i j s a b in Derives ts category.Declaration d
+        → (es : List Event) × (events (context_behind end ps d) d ≡ function_declared i j ∷ es) × EachDeclared (IsParameterOf (last s)) es }
+{}
+
+/// Where a function with an empty body stands behind all declarations of a file, and the tokens in front of it say what they said, the file
+/// tells what it told, to another end, and behind that what the function tells, which is its own declaration and those of its parameters.
+pub fn appended_functions_make_files_longer()
+    ensures { (k n i j end x y u v : ℕ) (a b : TokenList) (ts : List TokenKind) (ps : Trees) (s : Tree) → let d = empty_function x y s u v in let t = node kind.File i j ps in
+        IsFront n a b → Derives ts category.Declaration d → n ≤ x → TellsMore k n (word b (suc x)) (unit_of a t) (unit_of b (with_declaration t d end)) }
+{}
+
+/// The names that a file declares or looks up stand in front of its end.
+pub fn names_stand_in_files()
+    ensures { (ts : List TokenKind) (t : Tree) (n : ℕ) → IsFile ts t → last t ≡ n → AreEarlier n (events (file_context (last t)) t) }
+{}
+
+/// The blocks in which a file declares names begin in front of its end.
+pub fn blocks_begin_in_files()
+    ensures { (ts : List TokenKind) (t : Tree) (n : ℕ) → IsFile ts t → last t ≤ n → EachDeclared (λ d. BlockWithin n d.block) (events (file_context (last t)) t) }
+{}
+
+/// A file with a declaration behind all others, the tokens in front of which say what they said, imports what it imported.
+pub fn longer_files_import_the_same()
+    ensures { (ts us : List TokenKind) (i j n end : ℕ) (a b : TokenList) (ps : Trees) (d : Tree) → let t = node kind.File i j ps in
+        IsFile ts t → last t ≤ n → Derives us category.Declaration d → IsFront n a b
+        → imports_fmt b (events (file_context end) (with_declaration t d end)) ≡ imports_fmt a (events (file_context j) t) }
+{}
+
+/// A package in which a function with an empty body and a name stands behind all declarations of a file, and the other files are as they
+/// were, is one with a function more, whose names, blocks and locals lie so that names mean what they meant.
+pub fn appended_functions_are_added()
+    ensures { (k j end x y u v : ℕ) (a b : TokenList) (ts us : List TokenKind) (ps : Trees) (s : Tree) (before behind : List Unit) → let d = empty_function x y s u v in
+        let t = node kind.File 0 j ps in length before ≡ k → AllByRecursion IsParsed before → AllByRecursion IsParsed behind → IsFile ts t → HasNames (unit_of a t)
+        → IsFront j a b → Derives us category.Declaration d → j ≤ x → is_blank (word b (suc x)) ≡ false
+        → AreAdded k j (word b (suc x)) (before ++ unit_of a t ∷ behind) (before ++ unit_of b (with_declaration t d end) ∷ behind) }
+{
+    locals_stand_in_functions();
+    longer_files_import_the_same();
+}
+
+/// A worked example: a file with a function more, its tree, and what it tells.
+pub fn examples()
+    ensures { Examples }
+{}
