@@ -1,16 +1,22 @@
 -- Nodes that are terminating alike.
-use Rattle.std.proofs.Common.{◌≡◌, ◌∙◌, Bool, true, false, List, [], ◌∷◌, ◌++◌, map, Option, Some, None, refl, sym, ap, is_some}
-use Rattle.std.specs.Prelude.{◌||◌, ◌&&◌, not}
+use Rattle.std.proofs.Common.{◌≡◌, ◌∙◌, ℕ, Bool, true, false, List, [], ◌∷◌, ◌++◌, map, Option, Some, None, refl, sym, ap, is_some}
+use Rattle.std.specs.Prelude.{◌-◌, ◌||◌, ◌&&◌, not, if◌then◌else◌}
 use Rattle.std.specs.List.{list_any, list_all}
 use Rattle.std.specs.Option.{option_map}
+use Rattle.go_base.specs.declared.fault.FaultCode.TheVariants as code
+use Rattle.go_grammar.specs.declared.kind.Kind.TheVariants as kind
+use Rattle.go_types.specs.Trees.{TypeTree}
 use Rattle.go_typed.specs.declared.form.Form.{Form}
 use Rattle.go_typed.specs.declared.form.Form.TheVariants as form
-use Rattle.go_typed.specs.Trees.{row, list_of, form_of}
+use Rattle.go_typed.specs.Trees.{typed, row, list_of, form_of}
+use Rattle.go_exprs_rules.specs.declared.fault.TypeFault.{TypeFault}
+use Rattle.go_exprs_rules.specs.Faults.{fault_at}
 use Rattle.go_exprs_rules.specs.Settling.{Part}
 use Rattle.go_exprs_rules.specs.Tables.{Parts, on_one}
 use Rattle.go_stmts_defs.specs.Targets.{is_panic_call}
 use Rattle.go_stmts_defs.specs.Ending.{is_break, lets_break, breaks, any_breaks, last_flag, is_fallthrough, is_fallthrough_part, last_falls, is_default_clause, part_breaks, loop_ends, clauses_end, ends, terminates, which_terminate}
-use Rattle.go_stmts_elsewhere.specs.Ends.{EndAlike, AllEndAlike, HasList, NodesEnd, ListsEnd}
+use Rattle.go_stmts_defs.specs.Rules.{has_results, function_failing, judges}
+use Rattle.go_stmts_elsewhere.specs.Ends.{FunctionsEnd, ReturnsEnd, EndAlike, AllEndAlike, HasList, NodesEnd, ListsEnd}
 
 list_row : (xs : Parts) → list_of (row xs) ≡ xs
 list_row [] = refl
@@ -191,3 +197,25 @@ lists_end f w i j a b u v xs ys s t e d = record {
       ∙ ap (λ zs. ends f zs (flags (xs ++ Some s ∷ []))) (sym (list_row (xs ++ Some s ∷ [])));
   leaving = ap (λ c. is_break f || (lets_break f && c)) (breaks_end xs ys s t e d);
 }
+
+-- ---- functions
+
+unfailing : (ts : List TypeTree) (j : ℕ) (b : Part) → terminates b ≡ true → function_failing ts j b ≡ []
+unfailing ts j b e = ap (λ z. if not (has_results ts) || z then [] else fault_at code.MissingReturn (j - 1) j) e ∙ by (not (has_results ts))
+  where
+    by : (z : Bool) → (if z || true then [] else fault_at code.MissingReturn (j - 1) j) ≡ []
+    by true = refl
+    by false = refl
+
+abbrev nothing_failing : List TypeFault
+nothing_failing = []
+
+either_way : (z : Bool) → (if z then nothing_failing else nothing_failing) ≡ nothing_failing
+either_way true = refl
+either_way false = refl
+
+pub functions_end : FunctionsEnd
+functions_end s i j g b e = ap (λ fs. if judges kind.FunctionDeclaration (Some b ∷ []) then fs else []) (unfailing s.results j b e) ∙ either_way (judges kind.FunctionDeclaration (Some b ∷ []))
+
+pub returns_end : ReturnsEnd
+returns_end i j a b u v xs ps = last_added xs (typed form.Return a b v ps)

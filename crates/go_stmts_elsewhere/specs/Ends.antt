@@ -1,12 +1,16 @@
 -- When nodes that differ in their statements are terminating alike.
-use Rattle.std.specs.Prelude.{◌≡◌, ℕ, [], ◌∷◌, ◌++◌, Some, None}
+use Rattle.std.specs.Prelude.{◌≡◌, ℕ, true, [], ◌∷◌, ◌++◌, Option, Some, None}
+use Rattle.go_grammar.specs.declared.kind.Kind.TheVariants as kind
 use Rattle.go_types.specs.Trees.{TypeTree}
 use Rattle.go_typed.specs.Forms.{is_default}
 use Rattle.go_typed.specs.declared.form.Form.{Form}
 use Rattle.go_typed.specs.declared.form.Form.TheVariants as form
-use Rattle.go_typed.specs.Trees.{Label, typed, row, form_of}
+use Rattle.go_typed.specs.Trees.{Label, typed, Typeds, row, form_of}
 use Rattle.go_exprs_rules.specs.Settling.{Part}
 use Rattle.go_exprs_rules.specs.Tables.{Parts}
+use Rattle.go_stmts_defs.specs.Frames.{Frame}
+use Rattle.go_stmts_defs.specs.Laying.{layout}
+use Rattle.go_stmts_defs.specs.Rules.{own_faults}
 use Rattle.go_stmts_defs.specs.Ending.{terminates, breaks, any_breaks, is_fallthrough}
 use Rattle.go_stmts_defs.specs.Targets.{is_panic_call}
 
@@ -46,3 +50,11 @@ NodesEnd = (f : Form) (i j a b : ℕ) (u v : Label TypeTree) (xs ys : Parts) →
 abbrev pub ListsEnd : Type 0
 ListsEnd = (f : Form) → HasList f → (i j a b : ℕ) (u v : Label TypeTree) (xs ys : Parts) (s t : Part) → EndAlike s t → any_breaks (row ys) ≡ any_breaks (row xs) →
     NodesEndAlike (typed f i j u (row (xs ++ Some s ∷ []))) (typed f a b v (row (ys ++ Some t ∷ [])))
+
+-- The rule on missing returns doesn't fail at a function whose block is terminating; g is its signature.
+abbrev pub FunctionsEnd : Type 0
+FunctionsEnd = (s : Frame) (i j : ℕ) (g : Option Part) (b : Part) → terminates b ≡ true → own_faults s kind.FunctionDeclaration form.Function i j (layout s kind.FunctionDeclaration i (g ∷ Some b ∷ [])) ≡ []
+
+-- A block that ends in `return` is terminating.
+abbrev pub ReturnsEnd : Type 0
+ReturnsEnd = (i j a b : ℕ) (u v : Label TypeTree) (xs : Parts) (ps : Typeds TypeTree) → terminates (typed form.Block i j u (row (xs ++ Some (typed form.Return a b v ps) ∷ []))) ≡ true

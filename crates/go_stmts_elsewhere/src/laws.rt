@@ -11,7 +11,7 @@ ghost use Rattle.go_stmts_defs.specs.Bodies.{start};
 ghost use Rattle.go_stmts_defs.specs.Frames.{Frame};
 ghost use Rattle.go_stmts_defs.specs.Reading.{reading};
 ghost use Rattle.go_stmts_elsewhere.specs.Above.{NodesAbove};
-ghost use Rattle.go_stmts_elsewhere.specs.Ends.{NodesEnd, ListsEnd};
+ghost use Rattle.go_stmts_elsewhere.specs.Ends.{FunctionsEnd, ListsEnd, NodesEnd, ReturnsEnd};
 ghost use Rattle.go_stmts_elsewhere.specs.Frames.{AlongFrames, AlongReadings, KeepsPlaces};
 ghost use Rattle.go_stmts_elsewhere.specs.Functions.{AlongFunctions, LocalsStand, Numbered, NumberedFunctions, only_objects, stays};
 ghost use Rattle.go_stmts_elsewhere.specs.Gaps.{GapRead, ListsAreReadAlone, behind};
@@ -99,4 +99,10 @@ pub fn worked_gaps()
 /// rules and gives its parts the same.
 pub fn nodes_above_a_gap_stay()
     ensures { NodesAbove }
+{}
+
+/// The end of a function: no return is missing where its block is terminating, as a block is that ends in `return`.
+pub fn functions_end()
+    ensures terminating { FunctionsEnd }
+    ensures returning { ReturnsEnd }
 {}
