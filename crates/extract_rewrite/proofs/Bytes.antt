@@ -30,7 +30,7 @@ names_edited : (fs : List FileText) (name : List ℕ) (s e : ℕ) (new : List �
 names_edited [] name s e new = refl
 names_edited (f ∷ fs) name s e new = λ j. name_kept (bytes_eq f.name name) f (spliced f.bytes s e new) j ∷ names_edited fs name s e new j
 
-names_of : (o : Option FileText) (fs : List FileText) (e : Edit) → map (λ f. f.name) (edited_of o fs e) ≡ map (λ f. f.name) fs
+pub names_of : (o : Option FileText) (fs : List FileText) (e : Edit) → map (λ f. f.name) (edited_of o fs e) ≡ map (λ f. f.name) fs
 names_of None fs e = refl
 names_of (Some f) fs e = names_edited fs f.name e.start e.end e.text
 
@@ -47,7 +47,7 @@ before_by w (f ∷ fs) (g ∷ gs) h k =
     let more : map (λ f. f.name) fs ≡ map (λ f. f.name) gs = cc in
     (subst (ComesBefore w) one k.0, before_by w fs gs more k.1)
 
-ascends_by : (fs gs : List FileText) → map (λ f. f.name) fs ≡ map (λ f. f.name) gs → Ascends fs → Ascends gs
+pub ascends_by : (fs gs : List FileText) → map (λ f. f.name) fs ≡ map (λ f. f.name) gs → Ascends fs → Ascends gs
 ascends_by [] [] h k = tt
 ascends_by [] (g ∷ gs) h k = absurd (cc)
 ascends_by (f ∷ fs) [] h k = tt

@@ -5,3 +5,9 @@ pub mod Seen
 pub mod Taken
 pub mod Examples
 pub mod Calling
+pub mod Limited
+pub mod InOrder
+pub mod Sizes
+pub mod CheckedFiles
+pub mod FilesRead
+pub mod Extracting

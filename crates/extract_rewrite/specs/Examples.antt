@@ -1,5 +1,5 @@
 -- Edits and counts of small packages, worked out by hand.
-use Rattle.std.specs.Prelude.{◌≡◌, ℕ, List, [], ◌∷◌, ◌++◌, map, codes}
+use Rattle.std.specs.Prelude.{◌≡◌, ℕ, ◌+◌, List, [], ◌∷◌, ◌++◌, map, codes}
 use Rattle.go_tokens.specs.declared.token.TokenKind.TheVariants as token
 use Rattle.go_tokens.specs.Lexing.{span}
 use Rattle.go_tree.specs.declared.node.Node.{Node}
@@ -14,6 +14,7 @@ use Rattle.extract_texts.specs.Examples.{Piece, t, placed, function_pieces, both
 use Rattle.extract_rewrite.specs.Order.{from_the_end}
 use Rattle.extract_rewrite.specs.Edits.{edit_at, edits}
 use Rattle.extract_rewrite.specs.Counts.{counts, dropped}
+use Rattle.extract_rewrite.specs.Ready.{added_bytes, removed_bytes}
 
 abbrev pub place_of : Edit → Place
 place_of e = record { file = e.file; start = e.start; end = e.end }
@@ -63,6 +64,8 @@ pub record Examples : Type 0 where
   pub places : (r : Node) → map place_of (edits (both r) (codes "addmul") first_two) ≡ a_place 125 125 ∷ a_place 91 112 ∷ a_place 35 56 ∷ []
   pub other_template : (r : Node) → map place_of (edits (both r) (codes "addmul") second_first) ≡ a_place 125 125 ∷ a_place 91 112 ∷ a_place 35 56 ∷ []
   pub numbers : (r : Node) → counts (both r) first_two ≡ record { members = 2; parameters = 2; results = 1; dropped = 0 }
+  -- with 1,048,494 bytes before, the new package has 1,048,576, which are as many as it may have
+  pub grows : (r : Node) → added_bytes (edits (both r) (codes "addmul") first_two) ≡ removed_bytes (edits (both r) (codes "addmul") first_two) + 82
   -- a comment in the template stays, and one in another window is dropped
   pub kept : (r : Node) → dropped (commented r) first_two ≡ 0
   pub lost : (r : Node) → dropped (commented r) second_first ≡ 1

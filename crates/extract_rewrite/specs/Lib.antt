@@ -4,6 +4,10 @@ pub mod Renewed
 pub mod Edits
 pub mod Counts
 pub mod Extraction
+pub mod Limits
+pub mod Answers
 pub mod Shown
+pub mod Ready
+pub mod Reading
 pub mod Sites
 pub mod Examples

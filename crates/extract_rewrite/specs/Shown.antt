@@ -1,5 +1,5 @@
 -- What is written at windows as the program holds them.
-use Rattle.std.specs.Prelude.{◌≡◌, ℕ, List, [], map, Option, unwrap_or}
+use Rattle.std.specs.Prelude.{◌≡◌, ℕ, List, [], map, Option, Some, None, unwrap_or}
 use Rattle.std.specs.Option.{option_map}
 use Rattle.go_base.specs.declared.bytes.FileText.{FileText}
 use Rattle.go_tree.specs.Units.{Place}
@@ -8,9 +8,11 @@ use Rattle.go_typed.specs.Contents.{content}
 use Rattle.go_typed.specs.Packages.{PackageView}
 use Rattle.edit_apply.specs.declared.edits.Edit.{Edit}
 use Rattle.escape_check.specs.declared.member.Member.{Member as Found}
-use Rattle.escape_check.specs.Places.{sources_in}
-use Rattle.escape_check.specs.Shown.{member_view}
+use Rattle.escape_check.specs.Places.{Refusal, sources_in}
+use Rattle.escape_check.specs.Shown.{member_view, refusal_view}
 use Rattle.extract_texts.specs.Texts.{call_at, window_bytes}
+use Rattle.extract_rewrite.specs.declared.error.ExtractError.{ExtractError}
+use Rattle.extract_rewrite.specs.declared.error.ExtractError.TheVariants as errors
 use Rattle.extract_rewrite.specs.declared.extracted.Extracted.{Extracted}
 use Rattle.extract_rewrite.specs.Counts.{Counts}
 use Rattle.extract_rewrite.specs.Edits.{edit_at}
@@ -29,6 +31,11 @@ counts_shown x = record { members = x.members; parameters = x.parameters; result
 
 abbrev pub extracted_shown : Extracted → Extraction
 extracted_shown x = record { edits = x.edits; counts = counts_shown x }
+
+-- the refusal that an error tells
+abbrev pub extract_refusal : ExtractError → Option Refusal
+extract_refusal (errors.Refused r) = Some (refusal_view r)
+extract_refusal errors.Memory = None
 
 -- ---- texts
 

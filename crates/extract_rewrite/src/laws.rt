@@ -8,11 +8,14 @@ ghost use Rattle.edit_apply.specs.declared.edits.Edit.{Edit};
 ghost use Rattle.edit_apply.specs.Applied.{AreApplicable, IsInRange, applied};
 ghost use Rattle.extract_rewrite.specs.Apart.{AllApart};
 ghost use Rattle.extract_rewrite.specs.Examples.{Examples};
+ghost use Rattle.extract_rewrite.specs.Limits.{AreApartFromOthers};
 ghost use Rattle.extract_rewrite.specs.Order.{from_the_end};
 ghost use Rattle.extract_rewrite.specs.Renewed.{OtherBytesStay};
 ghost use Rattle.extract_rewrite.specs.Sites.{CallsStandAtWindows, NewFunctionsStand};
 
+use go_grammar::laws::one_tree_of_a_file;
 use go_print_laws::laws::{calls_stand, functions_stand};
+use go_tokens::laws::one_lexing;
 
 /// Edits of ranges that don't overlap, from the end of each file to its start, may be done one after the other, unless there are too
 /// many bytes then.
@@ -41,6 +44,14 @@ pub fn new_functions_stand()
     ensures { NewFunctionsStand }
 {
     functions_stand();
+}
+
+/// A package that is within the limits passes none of them.
+pub fn packages_within_limits_pass_none()
+    ensures { AreApartFromOthers }
+{
+    one_lexing();
+    one_tree_of_a_file();
 }
 
 /// Edits and counts of small packages, worked out by hand.

@@ -6,6 +6,12 @@
 
 pub mod dropped;
 pub mod edits;
+pub mod error;
+pub mod extract;
 pub mod extracted;
 pub mod laws;
+mod limits;
 pub mod order;
+mod reading;
+mod ready;
+mod size;

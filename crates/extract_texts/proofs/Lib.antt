@@ -10,3 +10,4 @@ pub mod Rows
 pub mod Seen
 pub mod Templates
 pub mod Unused
+pub mod Enough

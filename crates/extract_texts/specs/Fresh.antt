@@ -1,5 +1,5 @@
 -- Names for the parameters that stand in place of constants.
-use Rattle.std.specs.Prelude.{ℕ, zero, suc, ◌+◌, Bool, ◌||◌, if◌then◌else◌, List, [], ◌∷◌, ◌++◌, length, codes}
+use Rattle.std.specs.Prelude.{◌≡◌, ◌≤◌, ◌^◌, ℕ, zero, suc, ◌+◌, Bool, ◌||◌, if◌then◌else◌, List, [], ◌∷◌, ◌++◌, length, codes}
 use Rattle.std.specs.Fmt.{decimal}
 use Rattle.go_tokens.specs.Spellings.{same_text}
 use Rattle.go_tree.specs.File.{FileTree}
@@ -36,3 +36,7 @@ room_for fs count = count + suc (tokens_in fs)
 -- The first so many of `p0`, `p1` and so on that are not used.
 abbrev pub fresh_names : Sources → List ℕ → ℕ → List (List ℕ)
 fresh_names s name count = unused_from (is_used s name) 0 count (room_for s.files count)
+
+-- There are as many as are asked for.
+abbrev pub AreEnough : Type 0
+AreEnough = (s : Sources) (name : List ℕ) (count : ℕ) → room_for s.files count ≤ 2 ^ 64 → length (fresh_names s name count) ≡ count
