@@ -50,6 +50,7 @@ fn main(rt: HostRuntime) -> anyhow::Result<()> {
         },
     )?;
     run(&rt, &Scripts { name: "scripts" })?;
+    run(&rt, &Scripts { name: "extracts" })?;
     run(&rt, &Runs { name: "runs" })?;
     run(&rt, &Runs { name: "runs_go122" })
 }
