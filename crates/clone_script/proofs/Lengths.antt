@@ -1,5 +1,5 @@
 -- How many bytes are read of the line of `extract`.
-use Rattle.std.proofs.Common.{◌≡◌, ℕ, ◌+◌, ◌-◌, List, ◌∷◌, ◌++◌, length, Ok, ap, ◌∙◌, arith}
+use Rattle.std.proofs.Common.{◌≡◌, ℕ, ◌+◌, ◌-◌, List, ◌∷◌, ◌++◌, length, Ok, ap, arith}
 use Rattle.std.proofs.lemmas.List.{length-append}
 use Rattle.std.specs.Fmt.{decimal}
 use Rattle.clone_script.specs.Reading.{number_at, name_at}
@@ -12,6 +12,6 @@ pub room_is : (bytes behind_class behind_name name : List ℕ) (class : ℕ) →
 room_is bytes behind_class behind_name name class first second =
     let n = number_found most_number blank bytes behind_class class (omega arith) first in
     let m = name_found blank behind_class behind_name name second in
-    let all : length bytes ≡ length (decimal class) + (1 + length behind_class) = ap length n.1 ∙ length-append (decimal class) (blank ∷ behind_class) in
-    let part : length behind_class ≡ length name + (1 + length behind_name) = ap length m.1 ∙ length-append name (blank ∷ behind_name) in
-    omega (arith, all, part)
+    let all = length-append (decimal class) (blank ∷ behind_class) in
+    let part = length-append name (blank ∷ behind_name) in
+    omega (arith, ap length n.1, all, ap length m.1, part)

@@ -68,6 +68,14 @@ blank_spelled room n s ns h small t = record {
 last_spelled : (room n : ℕ) → 1 ≤ room → n ≤ most_number → Spelled (Some n) room (newline ∷ []) (n ∷ [])
 last_spelled room n h small = record { some = omega arith; small = (small, tt); text = refl; few = h }
 
+-- no number fits into the bytes that are left
+pub no_room : (room : ℕ) (number : Option ℕ) (bytes : List ℕ) → room < least_room number → numbers_from room number bytes ≡ Err bad
+unfolding numbers_from
+no_room room None [] h = let e : nat_lt room 2 ≡ true = grind arith in rw e refl
+no_room room (Some n) [] h = let e : nat_lt room 1 ≡ true = grind arith in rw e refl
+no_room room None (b ∷ bs) h = let e : nat_lt room 2 ≡ true = grind arith in rw e refl
+no_room room (Some n) (b ∷ bs) h = let e : nat_lt room 1 ≡ true = grind arith in rw e refl
+
 -- ---- what was read is spelled
 
 abbrev Found : Option ℕ → ℕ → List ℕ → List ℕ → List ℕ → Type 0
@@ -198,8 +206,8 @@ number_read n size room x read small one few next =
     let inside : f.0 - 48 ≤ most_number = omega (arith, f.4) in
     let whole : behind (f.0 - 48) f.1 ≤ most_number = omega (arith, f.6, small) in
     let behind_first : numbers_from (room - 1) (Some (f.0 - 48)) (f.1 ++ x) ≡ read =
-      digits_read f.1 (f.0 - 48) (room - 1) x f.5 whole f.7 (omega (arith, few, long)) ∙ ap (λ (z : ℕ). numbers_from ((room - 1) - length f.1) (Some z) x) f.6
-      ∙ next ((room - 1) - length f.1) (omega (arith, few, long)) in
+    digits_read f.1 (f.0 - 48) (room - 1) x f.5 whole f.7 (omega (arith, few, long)) ∙ ap (λ (z : ℕ). numbers_from ((room - 1) - length f.1) (Some z) x) f.6
+    ∙ next ((room - 1) - length f.1) (omega (arith, few, long)) in
     ap (λ (z : List ℕ). numbers_from room None (z ++ x)) f.2 ∙ rw (has_room room 2 (omega (arith, few, one, long)), with_first most_number f.0 f.3 f.4 inside) behind_first
 
 some_behind : (ns : List ℕ) → 1 ≤ length (behind_number ns)
@@ -215,8 +223,8 @@ behind_read [] n room rest h few = rw (has_room room 1 few) refl
 behind_read (m ∷ ms) n room rest h few =
     let long : length (decimal m ++ behind_number ms) ≡ length (decimal m) + length (behind_number ms) = length-append (decimal m) (behind_number ms) in
     let next : numbers_from (room - 1) None ((decimal m ++ behind_number ms) ++ rest) ≡ Ok (m ∷ ms, rest) =
-      ap (numbers_from (room - 1) None) (append_assoc (decimal m) (behind_number ms) rest)
-      ∙ number_read m (length (behind_number ms)) (room - 1) (behind_number ms ++ rest) (Ok (m ∷ ms, rest)) h.0 (some_behind ms) (omega (arith, few, long)) (λ left le. behind_read ms m left rest h.1 le) in
+    ap (numbers_from (room - 1) None) (append_assoc (decimal m) (behind_number ms) rest)
+    ∙ number_read m (length (behind_number ms)) (room - 1) (behind_number ms ++ rest) (Ok (m ∷ ms, rest)) h.0 (some_behind ms) (omega (arith, few, long)) (λ left le. behind_read ms m left rest h.1 le) in
     rw (has_room room 1 (omega (arith, few))) (ap (put_front n) next)
 
 again : (ns : List ℕ) (room : ℕ) (rest : List ℕ) → 0 < length ns → AreNumbers ns → length (numbers_text ns) ≤ room → numbers_from room None (numbers_text ns ++ rest) ≡ Ok (ns, rest)
@@ -297,7 +305,7 @@ numbers_read room = record {
   ahead = λ bytes e. let t = ahead bytes room None tt e in (t.0, t.1, t.2, record { some = t.3.some; small = t.3.small; text = t.3.text; few = t.3.few });
   short = λ bytes q c ns t.
       let whole : numbers_at room (bytes ++ c ∷ q) ≡ Ok (ns, []) =
-        ap (numbers_at room) (t.text ∙ sym (append-nil (numbers_text ns))) ∙ again ns room [] t.some t.small (subst (λ (z : List ℕ). length z ≤ room) t.text t.few) in
+      ap (numbers_at room) (t.text ∙ sym (append-nil (numbers_text ns))) ∙ again ns room [] t.some t.small (subst (λ (z : List ℕ). length z ≤ room) t.text t.few) in
       unended (numbers_at room bytes) (numbers_at room (bytes ++ c ∷ q)) ns q c (goes_on bytes (c ∷ q) room None) whole;
 }
 

@@ -116,6 +116,7 @@ behind_made keyword.Drop bytes rest size e = absurd cc
 behind_made keyword.Classes bytes rest size e = absurd cc
 behind_made keyword.Maximal bytes rest size e = absurd cc
 behind_made keyword.Stat bytes rest size e = absurd cc
+behind_made keyword.Extract bytes rest size e = absurd cc
 behind_made keyword.Run bytes rest size e =
     let turns = bind_ok (number_at most_turns blank bytes) _ (size, rest) e in
     ((λ text. command.Run turns.0.0 text), run_made bytes rest size turns.0 turns.1 turns.2)

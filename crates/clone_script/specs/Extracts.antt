@@ -27,16 +27,22 @@ abbrev pub refused_line : ℕ → ℕ → Option (List ℕ × Span) → List ℕ
 refused_line code member None = refusal_head code ++ codes "\n"
 refused_line code member (Some p) = refusal_head code ++ codes " " ++ decimal member ++ codes " " ++ place p.0 p.1 ++ codes "\n"
 
+-- for a number that is no member's
+abbrev pub number_line : ℕ → List ℕ
+number_line number = refusal_head 2 ++ codes " " ++ decimal number ++ codes "\n"
+
+abbrev pub counts_text : ℕ → ℕ → ℕ → ℕ → List ℕ
+counts_text members parameters results dropped =
+    codes " members " ++ decimal members ++ codes " parameters " ++ decimal parameters ++ codes " results " ++ decimal results ++ codes " dropped " ++ decimal dropped ++ codes "\n"
+
 -- `ok extract NAME members M parameters P results R dropped D` and a newline
 abbrev pub done_line : List ℕ → ℕ → ℕ → ℕ → ℕ → List ℕ
-done_line name members parameters results dropped =
-    codes "ok extract " ++ name ++ codes " members " ++ decimal members ++ codes " parameters " ++ decimal parameters
-    ++ codes " results " ++ decimal results ++ codes " dropped " ++ decimal dropped ++ codes "\n"
+done_line name members parameters results dropped = codes "ok extract " ++ name ++ counts_text members parameters results dropped
 
 -- The counts of an extraction that was done. Of a refused one the code and the word, and then, where there are any, the number of the
 -- member in its class and the place.
 abbrev pub extract_reply : List ℕ → ExtractAnswer → List ℕ
 extract_reply name (answers.Done members parameters results dropped) = done_line name members parameters results dropped
-extract_reply name answers.NoClass = refusal_head 1 ++ codes "\n"
-extract_reply name (answers.NoMember number) = refusal_head 2 ++ codes " " ++ decimal number ++ codes "\n"
+extract_reply name answers.NoClass = refused_line 1 0 None
+extract_reply name (answers.NoMember number) = number_line number
 extract_reply name (answers.Refused code member place) = refused_line code member (option_map (λ p. (p.0.now, p.1)) place)

@@ -237,7 +237,8 @@ fn drop_of(alloc: Global, bytes: &[u8]) -> Result<(Command, &[u8]), ScriptError>
 fn room_behind(read: usize) -> usize
     ensures { result ≡ most_line - (length (spelling_of keyword.Extract) + read) }
 {
-    MAX_LINE.saturating_sub(Keyword::Extract.spelling().len() + read)
+    let word = Keyword::Extract.spelling();
+    MAX_LINE.saturating_sub(word.len()).saturating_sub(read)
 }
 
 #[tactic(auto, using(crate::proofs::Lengths::room_is), unfolding(crate::specs::Commands::behind_keyword))]

@@ -57,7 +57,7 @@ pub fn examples()
     ensures begun { TakesNone (codes "clas") more }
     ensures cut_off { TakesNone (codes "edit main.go 0 0 10\nabcd") more }
     ensures extract_all { Takes (codes "extract 1 h all\n") (command.Extract 1 (codes "h") choice.All) 16 }
-    ensures extract_some { Takes (codes "extract 12 addmul 3 1 20\n") (command.Extract 12 (codes "addmul") (choice.Members (3 ∷ 1 ∷ 20 ∷ []))) 25 }
+    ensures extract_some { Takes (codes "extract 2 addmul 3 1 20\n") (command.Extract 2 (codes "addmul") (choice.Members (3 ∷ 1 ∷ 20 ∷ []))) 24 }
     ensures extract_none { TakesNone (codes "extract 1 h \n") bad }
     ensures extract_blanks { TakesNone (codes "extract 1 h 1  2\n") bad }
     ensures extract_blank_behind { TakesNone (codes "extract 1 h 1 \n") bad }

@@ -111,12 +111,11 @@ abbrev pub refusal_tail : List (List ℕ) → ℕ → Option Place → List ℕ
 refusal_tail names member None = codes "\n"
 refusal_tail names member (Some p) = codes " " ++ decimal member ++ codes " " ++ (file_name names p.file ++ codes ":" ++ decimal p.start ++ codes "-" ++ decimal p.end) ++ codes "\n"
 
-abbrev pub refusal_line : List (List ℕ) → Refusal → List ℕ
-refusal_line names r = refusal_head r.code ++ refusal_tail names r.member r.span
-
--- Of a number that is no member's the line tells the number.
+-- Of no class the line tells nothing more, and of a number that is no member's the number.
 abbrev pub kept_line : List (List ℕ) → Refusal → List ℕ
-kept_line names r = if nat_eq r.code 2 then refusal_head 2 ++ codes " " ++ decimal r.member ++ codes "\n" else refusal_line names r
+kept_line names r =
+    if nat_eq r.code 1 then refusal_head 1 ++ codes "\n"
+    else (if nat_eq r.code 2 then refusal_head 2 ++ codes " " ++ decimal r.member ++ codes "\n" else refusal_head r.code ++ refusal_tail names r.member r.span)
 
 -- The reply at a package that type-checks, and its files afterwards: the counts and the new texts, or why all is as it was.
 pub data ExtractReply (bounds : Bounds) (texts : List FileText) (c : Content) (p : PackageView) (class : ℕ) (name : List ℕ) (choice : Choice) (reply : List ℕ) (after : List FileText) : Type 0 where

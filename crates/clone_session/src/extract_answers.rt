@@ -1,12 +1,13 @@
 //! The reply to `extract`.
 
-ghost use Rattle.std.specs.Prelude.{◌≡◌, ◌⊎◌, None, map, IfOk, IsSome, OnOk};
+ghost use Rattle.std.specs.Prelude.{◌≡◌, ◌++◌, Some, IfOk, IsSome};
 ghost use Rattle.go_package_defs.specs.Checked.{names_of};
+ghost use Rattle.go_scopes_lookup.specs.Views.{place_of};
 ghost use Rattle.escape_check.specs.Shown.{refusal_view};
 ghost use Rattle.extract_rewrite.specs.Shown.{counts_shown};
-ghost use Rattle.clone_script.specs.Extracts.{done_line};
+ghost use Rattle.clone_script.specs.Extracts.{refusal_head};
 ghost use Rattle.clone_session.specs.After.{AreKeptOrNew};
-ghost use Rattle.clone_session.specs.Extracting.{choice_of, counts_told, kept_line, ExtractReply, Extracts};
+ghost use Rattle.clone_session.specs.Extracting.{choice_of, kept_line, refusal_tail, taken_line, Extracts};
 ghost use Rattle.clone_session.specs.Session.{IsGoodVerdict};
 
 use crate::answers::{fault_line, refresh};
@@ -35,27 +36,26 @@ fn choice_of(alloc: Global, named: &Named) -> Result<Choice, Memory>
     }
 }
 
-/// What the reply tells of a refusal, whose place is in a file of this name.
-fn told(refusal: Refusal, place: Option<(&Name, Span)>) -> ExtractAnswer<'_> {
-    match refusal.code {
-        1 => ExtractAnswer::NoClass,
-        2 => ExtractAnswer::NoMember(refusal.member),
-        code => ExtractAnswer::Refused {
-            code,
-            member: refusal.member,
-            place,
-        },
+/// The line of a refusal for these bytes of a member.
+fn placed_line<C: Check, H: WindowHash + Copy + Drop>(
+    alloc: Global,
+    session: &Session<C, H>,
+    name: &Name,
+    code: u8,
+    member: u32,
+    span: Span,
+) -> Result<Bytes, Memory>
+    ensures { IfOk result (λ reply. reply ≡ refusal_head code ++ refusal_tail (names_of session.now.texts) member (Some (place_of span))) }
+{
+    if span.file >= session.files() {
+        return Err(Memory);
     }
-}
-
-/// What the reply tells of an extraction that was done.
-fn counts(extracted: &Extracted) -> ExtractAnswer<'_> {
-    ExtractAnswer::Done {
-        members: extracted.members,
-        parameters: extracted.parameters,
-        results: extracted.results,
-        dropped: extracted.dropped,
-    }
+    let answer = ExtractAnswer::Refused {
+        code,
+        member,
+        place: Some((session.name_at(span.file), span)),
+    };
+    extract_reply(alloc, name.bytes(), answer)
 }
 
 /// The line of a refusal.
@@ -67,12 +67,37 @@ fn refused_line<C: Check, H: WindowHash + Copy + Drop>(
 ) -> Result<Bytes, Memory>
     ensures { IfOk result (λ reply. reply ≡ kept_line (names_of session.now.texts) (refusal_view refusal)) }
 {
-    let place = match refusal.span {
-        Some(span) if span.file < session.files() => Some((session.name_at(span.file), span)),
-        Some(_) => return Err(Memory),
-        None => None,
+    let (code, member) = (refusal.code, refusal.member);
+    if code == 1 {
+        return extract_reply(alloc, name.bytes(), ExtractAnswer::NoClass);
+    }
+    if code == 2 {
+        return extract_reply(alloc, name.bytes(), ExtractAnswer::NoMember(member));
+    }
+    match refusal.span {
+        Some(span) => placed_line(alloc, session, name, code, member, span),
+        None => {
+            let answer = ExtractAnswer::Refused {
+                code,
+                member,
+                place: None,
+            };
+            extract_reply(alloc, name.bytes(), answer)
+        }
+    }
+}
+
+/// The line of an extraction that was done.
+fn done_line(alloc: Global, name: &Name, extracted: &Extracted) -> Result<Bytes, Memory>
+    ensures { IfOk result (λ reply. reply ≡ taken_line name.now (counts_shown extracted.now)) }
+{
+    let answer = ExtractAnswer::Done {
+        members: extracted.members,
+        parameters: extracted.parameters,
+        results: extracted.results,
+        dropped: extracted.dropped,
     };
-    extract_reply(alloc, name.bytes(), told(refusal, place))
+    extract_reply(alloc, name.bytes(), answer)
 }
 
 /// The reply to `extract` of a package that type-checks.
@@ -88,7 +113,7 @@ fn taken_line<C: Check, H: WindowHash + Copy + Drop>(
     ensures after { AreKeptOrNew session.old session.new }
 {
     match session.extract(class, name.bytes(), choice) {
-        Ok(extracted) => extract_reply(alloc, name.bytes(), counts(&extracted)),
+        Ok(extracted) => done_line(alloc, name, &extracted),
         Err(ExtractError::Refused(refusal)) => refused_line(alloc, session, name, refusal),
         Err(ExtractError::Memory) => Err(Memory),
     }

@@ -324,7 +324,12 @@ impl<C: Check, H: WindowHash + Copy + Drop> Session<C, H> {
     ///
     /// The refusal of the least code that applies, with the member's number in the class, or with the number that is no member's; or
     /// want of memory. Then all is as it was.
-    pub fn extract(&mut self, class: u32, name: &[u8], choice: &Choice) -> Result<Extracted, ExtractError>
+    pub fn extract(
+        &mut self,
+        class: u32,
+        name: &[u8],
+        choice: &Choice,
+    ) -> Result<Extracted, ExtractError>
         requires { IsGoodVerdict self.old.verdict }
         ensures answer { IsAnswered self.old.bounds self.old.texts class name.now choice.now result }
         ensures texts { IfOk result (λ x. self.new.texts ≡ applied self.old.texts x.edits) }
@@ -332,7 +337,15 @@ impl<C: Check, H: WindowHash + Copy + Drop> Session<C, H> {
         ensures err { OnErr result (self.new ≡ self.old) }
     {
         let classes = self.classes()?;
-        let extracted = taken(self.alloc, self.checked(), &self.texts, &classes, class, name, choice)?;
+        let extracted = taken(
+            self.alloc,
+            self.checked(),
+            &self.texts,
+            &classes,
+            class,
+            name,
+            choice,
+        )?;
         self.texts.apply(extracted.edits.as_slice())?;
         self.verdict = None;
         self.index = None;
