@@ -347,7 +347,7 @@ impl<C: Check, H: WindowHash + Copy + Drop> Session<C, H> {
             choice,
         )?;
         self.texts.apply(extracted.edits.as_slice())?;
-        self.verdict = None;
+        self.verdict = None; // It was that of the old texts.
         self.index = None;
         Ok(extracted)
     }
