@@ -1,27 +1,21 @@
 -- What came of an extraction is told of the members of a class.
-use Rattle.std.proofs.Common.{◌≡◌, ℕ, List, ◌++◌, Option, Some, None, Result, Ok, Err, refl, sym, ap, subst, ◌∙◌, slice_get}
-use Rattle.std.specs.Prelude.{codes, nat_eq, if◌then◌else◌, map, unwrap_or}
-use Rattle.std.specs.Fmt.{decimal}
-use Rattle.std.specs.Option.{option_map}
+use Rattle.std.proofs.Common.{◌≡◌, ℕ, List, Some, Result, Ok, Err, map, refl, sym, subst}
 use Rattle.go_base.specs.declared.bytes.FileText.{FileText}
 use Rattle.go_base.specs.Gives.{Meets}
 use Rattle.go_typed.specs.declared.window.Window.{Window}
-use Rattle.go_typed.specs.Contents.{Content, content}
+use Rattle.go_typed.specs.Contents.{Content}
 use Rattle.go_typed.specs.Packages.{PackageView}
-use Rattle.go_package_defs.specs.Checked.{names_of, texts_of, IsChecked, IsCheckedPackage}
-use Rattle.edit_apply.specs.Applied.{applied}
-use Rattle.escape_check.specs.Places.{Refusal}
+use Rattle.go_package_defs.specs.Checked.{texts_of, IsChecked, IsCheckedPackage}
 use Rattle.extract_rewrite.specs.declared.error.ExtractError.{ExtractError}
 use Rattle.extract_rewrite.specs.declared.error.ExtractError.TheVariants as errors
 use Rattle.extract_rewrite.specs.declared.extracted.Extracted.{Extracted}
-use Rattle.extract_rewrite.specs.Extraction.{Extraction}
-use Rattle.extract_rewrite.specs.Shown.{extract_refusal, extracted_shown, counts_shown}
+use Rattle.extract_rewrite.specs.Shown.{extract_refusal, extracted_shown}
 use Rattle.clone_window.specs.declared.bounds.Bounds.{Bounds}
 use Rattle.clone_window.specs.Bodies.{bodies_of}
 use Rattle.clone_classes.specs.declared.choose.Choice.{Choice}
 use Rattle.clone_classes.specs.Choices.{chosen, place_of}
 use Rattle.clone_replies.specs.Classes.{classes_in}
-use Rattle.clone_session.specs.Extracting.{numbered, AreChosen, IsAnswered, IsKept, refused, IsKeptFrom, IsTaken, IsTakenFrom, ExtractReply, done, kept, Extracts, good, kept_line, taken_line}
+use Rattle.clone_session.specs.Extracting.{numbered, AreChosen, IsDone, IsHeld, IsKept, refused, IsKeptFrom, IsNotDone, IsTaken, IsTakenFrom}
 
 -- ---- by the numbers of members
 
@@ -42,28 +36,16 @@ of_members classes p class name choice members numbers (Err errors.Memory) there
 
 -- ---- in a session
 
-abbrev pub Classes : Bounds → List FileText → List (List Window) → Type 0
-Classes bounds texts classes = (c : Content) → IsChecked texts c → classes ≡ classes_in bounds c
+abbrev pub Answered : Bounds → List FileText → ℕ → List ℕ → Choice → Result Extracted ExtractError → Type 0
+Answered bounds texts class name choice result = Meets extract_refusal result (λ x. IsDone bounds texts class name choice (extracted_shown x)) (IsNotDone bounds texts class name choice)
 
-pub answered : (bounds : Bounds) (texts : List FileText) (p : PackageView) (classes : List (List Window)) (class : ℕ) (name : List ℕ) (choice : Choice) (result : Result Extracted ExtractError) → IsCheckedPackage p → texts_of p ≡ texts
-    → Classes bounds texts classes → AnsweredOf classes p class name choice result → IsAnswered bounds texts class name choice result
-answered bounds texts p classes class name choice result k t same h =
+pub held : (bounds : Bounds) (texts : List FileText) (p : PackageView) (classes : List (List Window)) → (k : IsCheckedPackage p) → texts_of p ≡ texts → ((c : Content) → IsChecked texts c → classes ≡ classes_in bounds c) → IsHeld bounds texts classes p
+held bounds texts p classes k t same =
     let checked : IsChecked texts k.given = subst (λ ts. IsChecked ts k.given) t k.checked in
-    record {
-      content = k.given;
-      checked = checked;
-      held = p;
-      known = k;
-      texts_are = t;
-      answer = subst (λ cs. AnsweredOf cs p class name choice result) (same k.given checked) h;
-    }
+    record { whole = k.given; checked = checked; known = k; texts_are = t; classes_are = same k.given checked }
 
--- an extraction that was done, and its reply
-pub done_told : (bounds : Bounds) (texts : List FileText) (class : ℕ) (name : List ℕ) (choice : Choice) (x : Extracted) (reply : List ℕ) (after : List FileText) → IsAnswered bounds texts class name choice (Ok x)
-    → reply ≡ taken_line name (counts_shown x) → after ≡ applied texts x.edits → Extracts bounds texts class name choice reply after
-done_told bounds texts class name choice x reply after h e a = good h.content h.held h.checked h.known h.texts_are (done (extracted_shown x) h.answer e a)
-
--- a refused one
-pub refused_told : (bounds : Bounds) (texts : List FileText) (class : ℕ) (name : List ℕ) (choice : Choice) (r : Refusal) (reply : List ℕ) (after : List FileText) (c : Content) (p : PackageView) → IsChecked texts c → IsCheckedPackage p → texts_of p ≡ texts
-    → IsKept (classes_in bounds c) p class name choice r → reply ≡ kept_line (names_of texts) r → after ≡ texts → Extracts bounds texts class name choice reply after
-refused_told bounds texts class name choice r reply after c p k h t why e a = good c p k h t (kept r why e a)
+pub answered : (bounds : Bounds) (texts : List FileText) (p : PackageView) (classes : List (List Window)) (class : ℕ) (name : List ℕ) (choice : Choice) (result : Result Extracted ExtractError) → IsHeld bounds texts classes p
+    → AnsweredOf classes p class name choice result → Answered bounds texts class name choice result
+answered bounds texts p classes class name choice (Ok x) h k = (classes, p, h, k)
+answered bounds texts p classes class name choice (Err (errors.Refused r)) h k = (classes, p, h, k)
+answered bounds texts p classes class name choice (Err errors.Memory) h k = tt

@@ -1,10 +1,9 @@
 -- The members of a class taken out into a function, in a session: what comes of it, and the reply.
-use Rattle.std.specs.Prelude.{◌≡◌, ℕ, ◌-◌, nat_eq, if◌then◌else◌, List, ◌++◌, map, codes, Option, Some, None, unwrap_or, slice_get, Result, Ok, Err}
+use Rattle.std.specs.Prelude.{◌≡◌, ℕ, ◌-◌, nat_eq, if◌then◌else◌, List, ◌++◌, map, codes, Option, Some, None, unwrap_or, slice_get, Ok, Err}
 use Rattle.std.specs.Fmt.{decimal}
 use Rattle.std.specs.List.{filter_map}
 use Rattle.go_base.specs.declared.bytes.FileText.{FileText}
 use Rattle.go_base.specs.declared.fault.Fault.{Fault}
-use Rattle.go_base.specs.Gives.{Meets}
 use Rattle.go_scopes.specs.Views.{failure_of}
 use Rattle.go_tree.specs.Units.{Place}
 use Rattle.go_typed.specs.declared.window.Window.{Window}
@@ -14,11 +13,8 @@ use Rattle.go_package_defs.specs.Checked.{names_of, texts_of, IsChecked, IsCheck
 use Rattle.edit_apply.specs.Applied.{applied}
 use Rattle.escape_check.specs.Places.{Refusal}
 use Rattle.extract_rewrite.specs.Answers.{IsExtraction, IsRefused}
-use Rattle.extract_rewrite.specs.declared.error.ExtractError.{ExtractError}
-use Rattle.extract_rewrite.specs.declared.extracted.Extracted.{Extracted}
 use Rattle.extract_rewrite.specs.Counts.{Counts}
 use Rattle.extract_rewrite.specs.Extraction.{Extraction}
-use Rattle.extract_rewrite.specs.Shown.{extract_refusal, extracted_shown}
 use Rattle.clone_window.specs.declared.bounds.Bounds.{Bounds}
 use Rattle.clone_window.specs.Bodies.{bodies_of}
 use Rattle.clone_classes.specs.declared.choose.Choice.{Choice}
@@ -92,14 +88,23 @@ IsTakenFrom p members numbers name e = IsExtraction (content p) name (members_by
 abbrev pub IsKeptFrom : PackageView → List Window → List ℕ → List ℕ → Refusal → Type 0
 IsKeptFrom p members numbers name r = (x : Refusal) × IsRefused (content p) name (members_by members numbers) x × (r ≡ refusal_by numbers x)
 
--- A session answers so of a package that type-checks and has these texts.
-pub record IsAnswered (bounds : Bounds) (texts : List FileText) (class : ℕ) (name : List ℕ) (choice : Choice) (result : Result Extracted ExtractError) : Type 0 where
-  pub content : Content
-  pub checked : IsChecked texts content
-  pub held : PackageView
-  pub known : IsCheckedPackage held
-  pub texts_are : texts_of held ≡ texts
-  pub answer : Meets extract_refusal result (λ x. IsTaken (classes_in bounds content) held class name choice (extracted_shown x)) (IsKept (classes_in bounds content) held class name choice)
+-- ---- in a session
+
+-- A package that type-checks, under some numbers of its declared types, has these texts, and these are its classes.
+pub record IsHeld (bounds : Bounds) (texts : List FileText) (classes : List (List Window)) (p : PackageView) : Type 0 where
+  pub whole : Content
+  pub checked : IsChecked texts whole
+  pub known : IsCheckedPackage p
+  pub texts_are : texts_of p ≡ texts
+  pub classes_are : classes ≡ classes_in bounds whole
+
+-- The chosen members of a class of its listing are taken out so.
+abbrev pub IsDone : Bounds → List FileText → ℕ → List ℕ → Choice → Extraction → Type 0
+IsDone bounds texts class name choice e = (classes : List (List Window)) × (p : PackageView) × IsHeld bounds texts classes p × IsTaken classes p class name choice e
+
+-- They are not, and so it is told.
+abbrev pub IsNotDone : Bounds → List FileText → ℕ → List ℕ → Choice → Refusal → Type 0
+IsNotDone bounds texts class name choice r = (classes : List (List Window)) × (p : PackageView) × IsHeld bounds texts classes p × IsKept classes p class name choice r
 
 -- ---- the reply
 
@@ -117,13 +122,9 @@ kept_line names r =
     if nat_eq r.code 1 then refusal_head 1 ++ codes "\n"
     else (if nat_eq r.code 2 then refusal_head 2 ++ codes " " ++ decimal r.member ++ codes "\n" else refusal_head r.code ++ refusal_tail names r.member r.span)
 
--- The reply at a package that type-checks, and its files afterwards: the counts and the new texts, or why all is as it was.
-pub data ExtractReply (bounds : Bounds) (texts : List FileText) (c : Content) (p : PackageView) (class : ℕ) (name : List ℕ) (choice : Choice) (reply : List ℕ) (after : List FileText) : Type 0 where
-  done : (e : Extraction) → IsTaken (classes_in bounds c) p class name choice e → reply ≡ taken_line name e.counts → after ≡ applied texts e.edits → ExtractReply bounds texts c p class name choice reply after
-  kept : (r : Refusal) → IsKept (classes_in bounds c) p class name choice r → reply ≡ kept_line (names_of texts) r → after ≡ texts → ExtractReply bounds texts c p class name choice reply after
-
--- A package that type-checks, under any numbers of its types, has such a reply, and leaves such files; any other has the line of the fault
--- that is reported of it, and stays.
+-- At these files: a package that type-checks has the counts as its reply, and leaves the new texts; or the refusal, and stays. Any other has
+-- the line of the fault that is reported of it, and stays.
 pub data Extracts (bounds : Bounds) (texts : List FileText) (class : ℕ) (name : List ℕ) (choice : Choice) (reply : List ℕ) (after : List FileText) : Type 0 where
-  good : (c : Content) (p : PackageView) → IsChecked texts c → IsCheckedPackage p → texts_of p ≡ texts → ExtractReply bounds texts c p class name choice reply after → Extracts bounds texts class name choice reply after
+  done : (e : Extraction) → IsDone bounds texts class name choice e → reply ≡ taken_line name e.counts → after ≡ applied texts e.edits → Extracts bounds texts class name choice reply after
+  kept : (r : Refusal) → IsNotDone bounds texts class name choice r → reply ≡ kept_line (names_of texts) r → after ≡ texts → Extracts bounds texts class name choice reply after
   faulty : (f : Fault) → IsReported texts (failure_of f) → reply ≡ fault_reply (file_name (names_of texts) f.span.file) f → after ≡ texts → Extracts bounds texts class name choice reply after

@@ -2,7 +2,7 @@
 
 ghost use Rattle.std.specs.Prelude.{◌≡◌, List, ◌≤◌, ◌<◌, ◌+◌, ◌-◌, Some, None, IsSome, IsSomeAnd, IfSome, IfNone, IfOk, IfErr, OnOk, OnErr, is_some, length, min, take, drop, slice_get};
 ghost use Rattle.std.specs.Option.{option_map};
-ghost use Rattle.go_base.specs.Gives.{Gives};
+ghost use Rattle.go_base.specs.Gives.{Gives, Meets};
 ghost use Rattle.go_base.specs.Package.{IsPackage};
 ghost use Rattle.edit_apply.specs.Edited.{bytes_under};
 ghost use Rattle.edit_apply.specs.Answers.{edit_refusal, edit_answer, add_answer, remove_answer};
@@ -21,7 +21,8 @@ ghost use Rattle.go_eval.specs.Runs.{outcome_view, refusal};
 ghost use Rattle.clone_replies.specs.ReplyContents.{run_in};
 ghost use Rattle.clone_replies.specs.Numbers.{numbers_in};
 ghost use Rattle.clone_session.specs.After.{after_command};
-ghost use Rattle.clone_session.specs.Extracting.{IsAnswered};
+ghost use Rattle.clone_session.specs.Extracting.{IsDone, IsNotDone};
+ghost use Rattle.extract_rewrite.specs.Shown.{extract_refusal, extracted_shown};
 ghost use Rattle.edit_apply.specs.Applied.{applied};
 ghost use Rattle.clone_session.specs.Maximal.{LiesInOneOf};
 ghost use Rattle.clone_session.specs.Session.{IsGoodVerdict, fault_in, windows_entered};
@@ -331,7 +332,7 @@ impl<C: Check, H: WindowHash + Copy + Drop> Session<C, H> {
         choice: &Choice,
     ) -> Result<Extracted, ExtractError>
         requires { IsGoodVerdict self.old.verdict }
-        ensures answer { IsAnswered self.old.bounds self.old.texts class name.now choice.now result }
+        ensures answer { Meets extract_refusal result (λ x. IsDone self.old.bounds self.old.texts class name.now choice.now (extracted_shown x)) (IsNotDone self.old.bounds self.old.texts class name.now choice.now) }
         ensures texts { IfOk result (λ x. self.new.texts ≡ applied self.old.texts x.edits) }
         ensures stale { OnOk result (self.new ≡ record self.old { texts = self.new.texts; verdict = None }) }
         ensures err { OnErr result (self.new ≡ self.old) }
