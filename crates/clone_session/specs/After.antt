@@ -29,8 +29,3 @@ after_command s (command.Extract class name choice) = s
 after_command s (command.Run turns input) = s
 after_command s command.Save = s
 after_command s command.Quit = s
-
--- What a session holds after a command, where what is known of the texts was known before. An extraction that was done leaves new texts.
-abbrev pub IsAfter : SessionView → Command → SessionView → Type 0
-IsAfter s (command.Extract class name choice) t = AreKeptOrNew s t
-IsAfter s other t = t ≡ after_command s other

@@ -3,8 +3,8 @@
 ghost use Rattle.std.specs.Prelude.{◌≡◌, ◌<◌, ◌≤◌, length, IfOk, IfSome, IsSome, OnOk, OnErr};
 ghost use Rattle.clone_session.specs.Session.{IsGoodVerdict};
 ghost use Rattle.clone_session.specs.Replies.{TextReply};
-ghost use Rattle.clone_session.specs.After.{after_command, IsAfter};
-ghost use Rattle.clone_session.specs.Answers.{fault_line, Answers, IsListing, IsMaximal, IsNumbers, PackageReply, settings_of};
+ghost use Rattle.clone_session.specs.After.{after_command};
+ghost use Rattle.clone_session.specs.Answers.{fault_line, Answers, IsNoExtraction, IsListing, IsMaximal, IsNumbers, PackageReply, settings_of};
 
 use crate::extract_answers::extracted;
 use crate::numbers::numbers_line;
@@ -117,7 +117,7 @@ pub fn answer<C: Check, H: WindowHash + Copy + Drop>(
 ) -> Result<Bytes, Memory>
     ensures reply { IfOk result (λ reply. Answers (settings_of session.old.bounds) session.old.texts command.now reply session.new.texts) }
     ensures bounds { session.new.bounds ≡ session.old.bounds }
-    ensures known { IsSome session.old.verdict → OnOk result (IsAfter session.old command.now session.new) }
+    ensures known { IsSome session.old.verdict → IsNoExtraction command.now → OnOk result (session.new ≡ after_command session.old command.now) }
 {
     match command {
         Command::Classes => classes(alloc, session),
