@@ -29,9 +29,9 @@ AnsweredOf classes p class name choice result = Meets extract_refusal result (λ
 pub of_members : (classes : List (List Window)) (p : PackageView) (class : ℕ) (name : List ℕ) (choice : Choice) (members : List Window) (numbers : List ℕ) (result : Result Extracted ExtractError) → numbered classes class ≡ Some members
     → chosen (map (place_of (bodies_of p.functions)) members) choice ≡ Ok numbers → AnsweredFrom p members numbers name result → AnsweredOf classes p class name choice result
 of_members classes p class name choice members numbers (Ok x) there these h =
-    record { numbers = numbers; members = _; chosen = record { members = members; class = there; chosen = these; taken = refl }; done = h }
+    record { numbers = numbers; members = _; chosen = record { members = members; listed = there; taken_so = these; taken = refl }; done = h }
 of_members classes p class name choice members numbers (Err (errors.Refused r)) there these h =
-    subst (IsKept classes p class name choice) (sym h.2) (refused numbers _ h.0 (record { members = members; class = there; chosen = these; taken = refl }) h.1)
+    subst (IsKept classes p class name choice) (sym h.2) (refused numbers _ h.0 (record { members = members; listed = there; taken_so = these; taken = refl }) h.1)
 of_members classes p class name choice members numbers (Err errors.Memory) there these h = tt
 
 -- ---- in a session

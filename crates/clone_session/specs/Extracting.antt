@@ -64,8 +64,8 @@ refusal_by ns r = record { code = r.code; member = member_for ns r.member r.span
 -- The members that are chosen of the class of some number among these: their numbers, in the order in which they are taken.
 pub record AreChosen (classes : List (List Window)) (p : PackageView) (class : ℕ) (choice : Choice) (numbers : List ℕ) (ws : List Window) : Type 0 where
   pub members : List Window
-  pub class : numbered classes class ≡ Some members
-  pub chosen : chosen (map (place_of (bodies_of p.functions)) members) choice ≡ Ok numbers
+  pub listed : numbered classes class ≡ Some members
+  pub taken_so : chosen (map (place_of (bodies_of p.functions)) members) choice ≡ Ok numbers
   pub taken : ws ≡ members_by members numbers
 
 -- The chosen members of a class, taken out into a function of this name: the edits and what is told of them.
