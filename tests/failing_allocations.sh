@@ -49,7 +49,7 @@ C
 
 mkdir "$room/before" "$room/after"
 printf 'package main\n\nimport "fmt"\n\nfunc f(a int) int {\n\tb := a + 1\n\tb = b * 2\n\treturn b\n}\n\nfunc g(x int) int {\n\ty := x + 5\n\ty = y * 2\n\treturn y\n}\n\nfunc main() {\n\tfmt.Println(f(20), g(20))\n}\n' >"$room/before/a.go"
-printf 'classes\nmaximal\nstat\nrun 9 0\n\nedit a.go 58 59 1\n3\nadd b.go 13\npackage main\n\nshow b.go\ndrop b.go\nclasses\nsave\n' >"$room/script"
+printf 'classes\nmaximal\nstat\nrun 9 0\n\nedit a.go 58 59 1\n3\nadd b.go 13\npackage main\n\nshow b.go\ndrop b.go\nclasses\nextract 1 addmul all\nrun 9 0\n\nsave\n' >"$room/script"
 
 # Runs the session in a new folder; the status is that of the program.
 session() {

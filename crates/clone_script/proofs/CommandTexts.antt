@@ -1,6 +1,8 @@
 -- A command is read from its spelling and from nothing else.
-use Rattle.std.proofs.Common.{◌≡◌, ℕ, zero, suc, ◌≤◌, ◌⊎◌, inl, inr, true, eqb, List, [], ◌∷◌, ◌++◌, length, None, Ok, Err, refl, sym, ap, subst, ◌∙◌, append_assoc, arith}
-use Rattle.std.proofs.lemmas.List.{append-nil}
+use Rattle.std.proofs.Common.{◌≡◌, ℕ, zero, suc, ◌+◌, ◌<◌, ◌≤◌, ◌⊎◌, inl, inr, true, false, eqb, List, [], ◌∷◌, ◌++◌, length, None, Ok, Err, refl, sym, ap, subst, ◌∙◌, append_assoc, arith}
+use Rattle.std.specs.Prelude.{codes}
+use Rattle.std.proofs.lemmas.List.{append-nil, length-append}
+use Rattle.std.proofs.lemmas.Fmt.{length-decimal-le}
 use Rattle.std.proofs.lemmas.Bool.{eqb-true}
 use Rattle.std.specs.Fmt.{decimal}
 use Rattle.go_base.specs.Gives.{◌>>=◌}
@@ -9,11 +11,15 @@ use Rattle.clone_script.specs.declared.command.Command.TheVariants as command
 use Rattle.clone_script.specs.declared.command.Keyword.{Keyword}
 use Rattle.clone_script.specs.declared.command.Keyword.TheVariants as keyword
 use Rattle.clone_script.specs.Reading.{bad, more, Read, first_byte, literal_at, number_at, name_from, name_at, bytes_at}
-use Rattle.clone_script.specs.Commands.{most_number, most_turns, most_length, blank, newline, spelling_of, keywords, keyword_of, behind_keyword, command_at}
-use Rattle.clone_script.specs.Grammar.{IsName, spelling, Spells}
+use Rattle.clone_script.specs.declared.choice.Choice.{Choice}
+use Rattle.clone_script.specs.declared.choice.Choice.TheVariants as choice
+use Rattle.clone_script.specs.Members.{most_number, blank, newline, numbers_at, choice_at}
+use Rattle.clone_script.specs.Commands.{most_turns, most_length, most_line, spelling_of, keywords, keyword_of, room_behind, behind_keyword, command_at}
+use Rattle.clone_script.specs.Grammar.{IsName, AreNumbers, AreChosen, numbers_text, choice_text, extract_line, spelling, Spells}
 use Rattle.clone_script.proofs.Readers.{Reads, reads_as, Then, then, then_reads, Only, only_reads, Either, or_reads, none_reads, none_left, pair_is}
 use Rattle.clone_script.proofs.Numbers.{chosen, IsNumberText, number_reads}
 use Rattle.clone_script.proofs.Names.{IsNameText, name_reads}
+use Rattle.clone_script.proofs.Members.{IsNumbersText, numbers_read, begins_with_digit}
 use Rattle.clone_script.proofs.Texts.{IsBytesText, bytes_read}
 
 -- ---- keywords
@@ -114,26 +120,29 @@ keyword_reads (k ∷ ks) h = reads_as (Either (IsWord k) (IsKeyword ks)) (IsKeyw
 pub all_apart : AreApart keywords
 unfolding literal_at
 all_apart = (
-  (λ rest. refl, (λ rest. refl, (λ rest. refl, (λ rest. refl, (λ rest. refl, (λ rest. refl, (λ rest. refl, (λ rest. refl, (λ rest. refl, tt))))))))),
+  (λ rest. refl, (λ rest. refl, (λ rest. refl, (λ rest. refl, (λ rest. refl, (λ rest. refl, (λ rest. refl, (λ rest. refl, (λ rest. refl, (λ rest. refl, tt)))))))))),
   (
-    (λ rest. refl, (λ rest. refl, (λ rest. refl, (λ rest. refl, (λ rest. refl, (λ rest. refl, (λ rest. refl, (λ rest. refl, tt)))))))),
+    (λ rest. refl, (λ rest. refl, (λ rest. refl, (λ rest. refl, (λ rest. refl, (λ rest. refl, (λ rest. refl, (λ rest. refl, (λ rest. refl, tt))))))))),
     (
-      (λ rest. refl, (λ rest. refl, (λ rest. refl, (λ rest. refl, (λ rest. refl, (λ rest. refl, (λ rest. refl, tt))))))),
+      (λ rest. refl, (λ rest. refl, (λ rest. refl, (λ rest. refl, (λ rest. refl, (λ rest. refl, (λ rest. refl, (λ rest. refl, tt)))))))),
       (
-        (λ rest. refl, (λ rest. refl, (λ rest. refl, (λ rest. refl, (λ rest. refl, (λ rest. refl, tt)))))),
+        (λ rest. refl, (λ rest. refl, (λ rest. refl, (λ rest. refl, (λ rest. refl, (λ rest. refl, (λ rest. refl, tt))))))),
         (
-          (λ rest. refl, (λ rest. refl, (λ rest. refl, (λ rest. refl, (λ rest. refl, tt))))),
+          (λ rest. refl, (λ rest. refl, (λ rest. refl, (λ rest. refl, (λ rest. refl, (λ rest. refl, tt)))))),
           (
-            (λ rest. refl, (λ rest. refl, (λ rest. refl, (λ rest. refl, tt)))),
+            (λ rest. refl, (λ rest. refl, (λ rest. refl, (λ rest. refl, (λ rest. refl, tt))))),
             (
-              (λ rest. refl, (λ rest. refl, (λ rest. refl, tt))),
+              (λ rest. refl, (λ rest. refl, (λ rest. refl, (λ rest. refl, tt)))),
               (
-                (λ rest. refl, (λ rest. refl, tt)),
+                (λ rest. refl, (λ rest. refl, (λ rest. refl, tt))),
                 (
-                  (λ rest. refl, tt),
+                  (λ rest. refl, (λ rest. refl, tt)),
                   (
-                    tt,
-                    tt,
+                    (λ rest. refl, tt),
+                    (
+                      tt,
+                      tt,
+                    ),
                   ),
                 ),
               ),
@@ -152,10 +161,11 @@ is_keyword keyword.Drop = inr (inr (inl refl))
 is_keyword keyword.Classes = inr (inr (inr (inl refl)))
 is_keyword keyword.Maximal = inr (inr (inr (inr (inl refl))))
 is_keyword keyword.Stat = inr (inr (inr (inr (inr (inl refl)))))
-is_keyword keyword.Run = inr (inr (inr (inr (inr (inr (inl refl))))))
-is_keyword keyword.Show = inr (inr (inr (inr (inr (inr (inr (inl refl)))))))
-is_keyword keyword.Save = inr (inr (inr (inr (inr (inr (inr (inr (inl refl))))))))
-is_keyword keyword.Quit = inr (inr (inr (inr (inr (inr (inr (inr (inr (inl refl)))))))))
+is_keyword keyword.Extract = inr (inr (inr (inr (inr (inr (inl refl))))))
+is_keyword keyword.Run = inr (inr (inr (inr (inr (inr (inr (inl refl)))))))
+is_keyword keyword.Show = inr (inr (inr (inr (inr (inr (inr (inr (inl refl))))))))
+is_keyword keyword.Save = inr (inr (inr (inr (inr (inr (inr (inr (inr (inl refl)))))))))
+is_keyword keyword.Quit = inr (inr (inr (inr (inr (inr (inr (inr (inr (inr (inl refl))))))))))
 
 -- ---- what stands behind a keyword
 
@@ -235,6 +245,75 @@ newline_ends : first_byte newline ≡ None
 unfolding first_byte
 newline_ends = refl
 
+-- ---- which members `extract` takes
+
+abbrev IsAll : List ℕ → Choice → Type 0
+IsAll = Then (IsLiteral (codes "all\n")) (λ u. Only choice.All)
+
+abbrev all_at : List ℕ → Read Choice
+all_at bytes = literal_at (codes "all\n") bytes >>= λ x. Ok (choice.All, x.1)
+
+all_reads : Reads IsAll all_at
+all_reads = then_reads (IsLiteral (codes "all\n")) (λ u. Only choice.All) (literal_at (codes "all\n")) (λ u rest. Ok (choice.All, rest)) (literal_reads (codes "all\n")) (λ u. only_reads choice.All) (λ u. ([], choice.All, (refl, refl)))
+
+abbrev AreListed : ℕ → List ℕ → Choice → Type 0
+AreListed room = Then (IsNumbersText room) (λ ns. Only (choice.Members ns))
+
+abbrev listed_at : ℕ → List ℕ → Read Choice
+listed_at room bytes = numbers_at room bytes >>= λ x. Ok (choice.Members x.0, x.1)
+
+listed_reads : (room : ℕ) → Reads (AreListed room) (listed_at room)
+listed_reads room = then_reads (IsNumbersText room) (λ ns. Only (choice.Members ns)) (numbers_at room) (λ ns rest. Ok (choice.Members ns, rest)) (numbers_read room) (λ ns. only_reads (choice.Members ns)) (λ ns. ([], choice.Members ns, (refl, refl)))
+
+not_all : (d : ℕ) (xs : List ℕ) → d ≤ 57 → all_at (d ∷ xs) ≡ Err bad
+unfolding literal_at
+not_all d xs h = let e : eqb d 97 ≡ false = grind arith in rw e refl
+
+listed_not_all : (room : ℕ) (s rest : List ℕ) (c : Choice) → AreListed room s c → all_at (s ++ rest) ≡ Err bad
+listed_not_all room s rest c t =
+    let h = begins_with_digit room t.1 t.0 t.3 in
+    ap (λ (z : List ℕ). all_at (z ++ rest)) (t.5 ∙ ap (λ (z : List ℕ). z ++ t.2) h.2) ∙ not_all h.0 ((h.1 ++ t.2) ++ rest) h.3
+
+abbrev IsChoiceText : ℕ → List ℕ → Choice → Type 0
+IsChoiceText room s choice.All = s ≡ codes "all\n"
+IsChoiceText room s (choice.Members ns) = IsNumbersText room s ns
+
+from_all : (room : ℕ) (s : List ℕ) (c : Choice) → IsAll s c → IsChoiceText room s c
+from_all room s c t = subst (IsChoiceText room s) (sym t.4.1) (t.5 ∙ rw (t.3, t.4.0) refl)
+
+from_listed : (room : ℕ) (s : List ℕ) (c : Choice) → AreListed room s c → IsChoiceText room s c
+from_listed room s c t =
+    let same : t.1 ≡ s = sym (t.5 ∙ ap (λ (z : List ℕ). t.1 ++ z) t.4.0 ∙ append-nil t.1) in
+    subst (IsChoiceText room s) (sym t.4.1) (subst (λ (z : List ℕ). IsNumbersText room z t.0) same t.3)
+
+to_choice : (room : ℕ) (s : List ℕ) (c : Choice) → IsChoiceText room s c → Either IsAll (AreListed room) s c
+to_choice room s choice.All t = inl (tt, s, [], t, (refl, refl), sym (append-nil s))
+to_choice room s (choice.Members ns) t = inr (ns, s, [], t, (refl, refl), sym (append-nil s))
+
+choice_reads : (room : ℕ) → Reads (IsChoiceText room) (choice_at room)
+unfolding choice_at
+choice_reads room = reads_as (Either IsAll (AreListed room)) (IsChoiceText room) (choice_at room)
+    (or_reads IsAll (AreListed room) all_at (listed_at room) all_reads (listed_reads room) (λ s rest c t. listed_not_all room s rest c t))
+    (λ s c t. elim t [ inl w ↦ from_all room s c w | inr w ↦ from_listed room s c w ])
+    (λ s c t. to_choice room s c t)
+
+-- a choice at the end of the line of `extract`
+abbrev Picked : ℕ → List ℕ → List ℕ → Command → Type 0
+Picked class name = Then (IsChoiceText (room_behind class name)) (λ c. Only (command.Extract class name c))
+
+abbrev picked_at : ℕ → List ℕ → List ℕ → Read Command
+picked_at class name = then (choice_at (room_behind class name)) (λ c rest. Ok (command.Extract class name c, rest))
+
+picked_reads : (class : ℕ) (name : List ℕ) → Reads (Picked class name) (picked_at class name)
+picked_reads class name = then_reads (IsChoiceText (room_behind class name)) (λ c. Only (command.Extract class name c)) (choice_at (room_behind class name)) (λ c rest. Ok (command.Extract class name c, rest))
+    (choice_reads (room_behind class name)) (λ c. only_reads (command.Extract class name c)) (λ c. ([], command.Extract class name c, (refl, refl)))
+
+picked_some : (class : ℕ) (name : List ℕ) → (s : List ℕ) × (c : Command) × Picked class name s c
+picked_some class name = (codes "all\n", command.Extract class name choice.All, (choice.All, codes "all\n", [], refl, (refl, refl), refl))
+
+extract_name_reads : (class : ℕ) → Reads (Named blank (λ name. Picked class name)) (named_at blank (λ name. picked_at class name))
+extract_name_reads class = then_reads (IsNameText blank) (λ name. Picked class name) (name_at blank) (λ name. picked_at class name) (name_reads blank blank_ends) (λ name. picked_reads class name) (λ name. picked_some class name)
+
 abbrev Tail : Keyword → List ℕ → Command → Type 0
 Tail keyword.Edit = Named blank (λ name. Counted (λ start. Counted (λ end. Sized (λ text. command.Edit name start end text))))
 Tail keyword.Add = Named blank (λ name. Sized (λ text. command.Add name text))
@@ -242,6 +321,7 @@ Tail keyword.Drop = Named newline (λ name. Only (command.Remove name))
 Tail keyword.Classes = Only command.Classes
 Tail keyword.Maximal = Only command.Maximal
 Tail keyword.Stat = Only command.Stat
+Tail keyword.Extract = Counted (λ class. Named blank (λ name. Picked class name))
 Tail keyword.Run = Then (IsNumberText most_turns blank) (λ turns. Sized (λ text. command.Run turns text))
 Tail keyword.Show = Named newline (λ name. Only (command.Show name))
 Tail keyword.Save = Only command.Save
@@ -262,6 +342,10 @@ add_reads : Reads (Tail keyword.Add) (named_at blank (λ name. sized_at (λ text
 add_reads = then_reads (IsNameText blank) (λ name. Sized (λ text. command.Add name text)) (name_at blank) (λ name. sized_at (λ text. command.Add name text))
     (name_reads blank blank_ends) (λ name. sized_reads (λ text. command.Add name text)) (λ name. sized_some (λ text. command.Add name text))
 
+extract_reads : Reads (Tail keyword.Extract) (counted_at (λ class. named_at blank (λ name. picked_at class name)))
+extract_reads = counted_reads (λ class. Named blank (λ name. Picked class name)) (λ class. named_at blank (λ name. picked_at class name)) extract_name_reads
+    (λ class. named_some blank (λ name. Picked class name) (λ name. picked_at class name) (extract_name_reads class))
+
 run_reads : Reads (Tail keyword.Run) (then (number_at most_turns blank) (λ turns. sized_at (λ text. command.Run turns text)))
 run_reads = then_reads (IsNumberText most_turns blank) (λ turns. Sized (λ text. command.Run turns text)) (number_at most_turns blank) (λ turns. sized_at (λ text. command.Run turns text))
     (number_reads most_turns blank (omega arith) (omega arith)) (λ turns. sized_reads (λ text. command.Run turns text)) (λ turns. sized_some (λ text. command.Run turns text))
@@ -278,6 +362,7 @@ tail_reads keyword.Drop = alone_reads (λ name. command.Remove name)
 tail_reads keyword.Classes = only_reads command.Classes
 tail_reads keyword.Maximal = only_reads command.Maximal
 tail_reads keyword.Stat = only_reads command.Stat
+tail_reads keyword.Extract = extract_reads
 tail_reads keyword.Run = run_reads
 tail_reads keyword.Show = alone_reads (λ name. command.Show name)
 tail_reads keyword.Save = only_reads command.Save
@@ -290,6 +375,7 @@ tail_some keyword.Drop = named_some newline (λ name. Only (command.Remove name)
 tail_some keyword.Classes = ([], command.Classes, (refl, refl))
 tail_some keyword.Maximal = ([], command.Maximal, (refl, refl))
 tail_some keyword.Stat = ([], command.Stat, (refl, refl))
+tail_some keyword.Extract = counted_some (λ class. Named blank (λ name. Picked class name)) (λ class. named_at blank (λ name. picked_at class name)) extract_reads
 tail_some keyword.Run = some_of (Tail keyword.Run) (then (number_at most_turns blank) (λ turns. sized_at (λ text. command.Run turns text))) run_reads
     (then_none (number_at most_turns blank) (λ turns. sized_at (λ text. command.Run turns text)) (number_none most_turns blank))
 tail_some keyword.Show = named_some newline (λ name. Only (command.Show name)) (λ name rest. Ok (command.Show name, rest)) (alone_reads (λ name. command.Show name))
@@ -330,6 +416,24 @@ to_sized make text h = (
   parted (decimal (length text)) (text ++ newline ∷ []) newline,
 )
 
+-- the line is within its limit exactly where the choice is within what is left of it
+line_length : (class : ℕ) (name : List ℕ) (c : Choice) → length (extract_line class name c) ≡ 8 + (length (decimal class) + 1) + (length name + 1) + length (choice_text c)
+line_length class name c =
+    omega (arith, length-append (decimal class) (blank ∷ (name ++ (blank ∷ choice_text c))), length-append name (blank ∷ choice_text c))
+
+pub ten_digits : (n : ℕ) → n ≤ most_number → length (decimal n) ≤ 10
+ten_digits n h = length-decimal-le 10 n (omega arith) (omega (arith, h)) (omega (arith, h))
+
+from_choice : (class : ℕ) (name s : List ℕ) (c : Choice) → class ≤ most_number → IsName name → IsChoiceText (room_behind class name) s c → AreChosen c × (s ≡ choice_text c) × (length (extract_line class name c) ≤ most_line)
+from_choice class name s choice.All h n t = (tt, t, omega (arith, line_length class name choice.All, ten_digits class h, n.few))
+from_choice class name s (choice.Members ns) h n t =
+    let few : length (numbers_text ns) ≤ room_behind class name = subst (λ (z : List ℕ). length z ≤ room_behind class name) t.text t.few in
+    ((t.some, t.small), t.text, omega (arith, line_length class name (choice.Members ns), few, ten_digits class h, n.few))
+
+to_text : (class : ℕ) (name : List ℕ) (c : Choice) → AreChosen c → length (extract_line class name c) ≤ most_line → IsChoiceText (room_behind class name) (choice_text c) c
+to_text class name choice.All h le = refl
+to_text class name (choice.Members ns) h le = record { some = h.0; small = h.1; text = refl; few = omega (arith, line_length class name (choice.Members ns), le) }
+
 from_tail : (k : Keyword) (x y s : List ℕ) (c : Command) → x ≡ spelling_of k → Tail k y c → s ≡ x ++ y → Spells s c
 from_tail keyword.Edit x y s c ex t e =
     let a = t.4 in
@@ -352,6 +456,15 @@ from_tail keyword.Drop x y s c ex t e =
 from_tail keyword.Classes x y s c ex t e = subst (λ (d : Command). Spells s d) (sym t.1) (tt, e ∙ rw (ex, t.0) refl)
 from_tail keyword.Maximal x y s c ex t e = subst (λ (d : Command). Spells s d) (sym t.1) (tt, e ∙ rw (ex, t.0) refl)
 from_tail keyword.Stat x y s c ex t e = subst (λ (d : Command). Spells s d) (sym t.1) (tt, e ∙ rw (ex, t.0) refl)
+from_tail keyword.Extract x y s c ex t e =
+    let a = t.4 in
+    let b = a.4 in
+    let z = from_choice t.0 a.0 b.1 b.0 t.3.0 a.3.0 b.3 in
+    let third : a.2 ≡ choice_text b.0 = b.5 ∙ ap (λ (w : List ℕ). b.1 ++ w) b.4.0 ∙ append-nil b.1 ∙ z.1 in
+    let second : t.2 ≡ a.0 ++ (blank ∷ choice_text b.0) = flat t.2 a.1 a.2 a.0 (choice_text b.0) blank a.3.1 third a.5 in
+    let first : y ≡ decimal t.0 ++ (blank ∷ (a.0 ++ (blank ∷ choice_text b.0))) = flat y t.1 t.2 (decimal t.0) (a.0 ++ (blank ∷ choice_text b.0)) blank t.3.1 second t.5 in
+    let all : s ≡ spelling (command.Extract t.0 a.0 b.0) = e ∙ ap (λ (w : List ℕ). w ++ y) ex ∙ ap (λ (w : List ℕ). spelling_of keyword.Extract ++ w) first in
+    subst (λ (d : Command). Spells s d) (sym b.4.1) ((t.3.0, a.3.0, z.0, z.2), all)
 from_tail keyword.Run x y s c ex t e =
     let z = from_sized (λ text. command.Run t.0 text) t.2 c t.4 in
     let first : y ≡ decimal t.0 ++ (blank ∷ sized_text z.0) = flat y t.1 t.2 (decimal t.0) (sized_text z.0) blank t.3.1 z.3 t.5 in
@@ -403,6 +516,28 @@ to_whole s (command.Remove name) t = (keyword.Drop, spelling_of keyword.Drop, na
 to_whole s command.Classes t = (keyword.Classes, spelling_of keyword.Classes, [], (is_keyword keyword.Classes, refl), (refl, refl), t.1 ∙ sym (append-nil (spelling_of keyword.Classes)))
 to_whole s command.Maximal t = (keyword.Maximal, spelling_of keyword.Maximal, [], (is_keyword keyword.Maximal, refl), (refl, refl), t.1 ∙ sym (append-nil (spelling_of keyword.Maximal)))
 to_whole s command.Stat t = (keyword.Stat, spelling_of keyword.Stat, [], (is_keyword keyword.Stat, refl), (refl, refl), t.1 ∙ sym (append-nil (spelling_of keyword.Stat)))
+to_whole s (command.Extract class name c) t = (
+  keyword.Extract,
+  spelling_of keyword.Extract,
+  decimal class ++ (blank ∷ (name ++ (blank ∷ choice_text c))),
+  (is_keyword keyword.Extract, refl),
+  (
+    class,
+    decimal class ++ blank ∷ [],
+    name ++ (blank ∷ choice_text c),
+    (t.0.0, refl),
+    (
+      name,
+      name ++ blank ∷ [],
+      choice_text c,
+      (t.0.1, refl),
+      (c, choice_text c, [], to_text class name c t.0.2 t.0.3, (refl, refl), sym (append-nil (choice_text c))),
+      parted name (choice_text c) blank,
+    ),
+    parted (decimal class) (name ++ (blank ∷ choice_text c)) blank,
+  ),
+  t.1,
+)
 to_whole s (command.Run turns input) t = (
   keyword.Run,
   spelling_of keyword.Run,

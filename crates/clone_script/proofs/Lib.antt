@@ -2,6 +2,8 @@ pub mod Texts
 pub mod Readers
 pub mod Numbers
 pub mod Names
+pub mod Members
+pub mod Lengths
 pub mod CommandTexts
 pub mod Outcomes
 pub mod Sizes

@@ -264,7 +264,7 @@ unfolding name_at
 at_again end name rest none h =
     ap (taken (name ++ end ∷ rest)) (from_again end 0 (length name) whole name rest none h.text (omega arith) h.some h.few) ∙ rw (take_at name (end ∷ rest) (length name) refl) refl
 
-at_found : (end : ℕ) (bytes rest name : List ℕ) → name_at end bytes ≡ Ok (name, rest) → IsName name × (bytes ≡ name ++ end ∷ rest)
+pub at_found : (end : ℕ) (bytes rest name : List ℕ) → name_at end bytes ≡ Ok (name, rest) → IsName name × (bytes ≡ name ++ end ∷ rest)
 unfolding name_at
 at_found end bytes rest name e =
     let h = bind_ok (name_from end 0 whole bytes) (λ x. Ok (take x.0 bytes, x.1)) (name, rest) e in

@@ -20,24 +20,24 @@ or_bad_more None f e = absurd cc
 or_bad_more (Some x) f e = (x, refl, e)
 
 -- m is n with the digit b behind it
-record Adds (limit n b m : ℕ) : Type 0 where
+pub record Adds (limit n b m : ℕ) : Type 0 where
   pub least : 48 ≤ b
   pub most : b ≤ 57
   pub value : m ≡ n * 10 + (b - 48)
   pub inside : m ≤ limit
 
-adds : (limit n b m : ℕ) → with_digit limit n b ≡ Some m → Adds limit n b m
+pub adds : (limit n b m : ℕ) → with_digit limit n b ≡ Some m → Adds limit n b m
 unfolding with_digit
 adds limit n b m e = record { least = grind arith; most = grind arith; value = grind arith; inside = grind arith }
 
-with_some : (limit n b : ℕ) → 48 ≤ b → b ≤ 57 → n * 10 + (b - 48) ≤ limit → with_digit limit n b ≡ Some (n * 10 + (b - 48))
+pub with_some : (limit n b : ℕ) → 48 ≤ b → b ≤ 57 → n * 10 + (b - 48) ≤ limit → with_digit limit n b ≡ Some (n * 10 + (b - 48))
 unfolding with_digit
 with_some limit n b l h i = grind arith
 
-with_first : (limit d : ℕ) → 48 ≤ d → d ≤ 57 → d - 48 ≤ limit → with_digit limit 0 d ≡ Some (d - 48)
+pub with_first : (limit d : ℕ) → 48 ≤ d → d ≤ 57 → d - 48 ≤ limit → with_digit limit 0 d ≡ Some (d - 48)
 with_first limit d l h i = let e : 0 * 10 + (d - 48) ≡ d - 48 = omega arith in with_some limit 0 d l h (omega (arith, i)) ∙ ap (λ (z : ℕ). Some z) e
 
-next_adds : (limit n b m : ℕ) → next_number limit n b ≡ Some m → (0 < n) × Adds limit n b m
+pub next_adds : (limit n b m : ℕ) → next_number limit n b ≡ Some m → (0 < n) × Adds limit n b m
 unfolding next_number
 next_adds limit n b m e =
     elim (chosen _ (with_digit limit n b) None (Some m) e) [
@@ -45,12 +45,12 @@ next_adds limit n b m e =
       | inr w ↦ absurd cc
     ]
 
-next_some : (limit n b : ℕ) → 0 < n → 48 ≤ b → b ≤ 57 → n * 10 + (b - 48) ≤ limit → next_number limit n b ≡ Some (n * 10 + (b - 48))
+pub next_some : (limit n b : ℕ) → 0 < n → 48 ≤ b → b ≤ 57 → n * 10 + (b - 48) ≤ limit → next_number limit n b ≡ Some (n * 10 + (b - 48))
 unfolding next_number
 next_some limit n b p l h i = let e = with_some limit n b l h i in grind (arith, e)
 
 -- the digits of a number with one more
-one_more : (limit n b m : ℕ) → limit < 2 ^ 64 → 0 < n → Adds limit n b m → decimal m ≡ decimal n ++ b ∷ []
+pub one_more : (limit n b m : ℕ) → limit < 2 ^ 64 → 0 < n → Adds limit n b m → decimal m ≡ decimal n ++ b ∷ []
 one_more limit n b m small p a =
     let front : m / 10 ≡ n = omega (arith, p, a.value, a.least, a.most) in
     let last : 48 + m % 10 ≡ b = omega (arith, p, a.value, a.least, a.most) in
@@ -90,16 +90,16 @@ from_more limit end n (b ∷ bs) small le e =
 
 -- ---- what the digits of a number are
 
-abbrev AreDigits : List ℕ → Type 0
+abbrev pub AreDigits : List ℕ → Type 0
 AreDigits [] = Unit {0}
 AreDigits (d ∷ ds) = (48 ≤ d) × (d ≤ 57) × AreDigits ds
 
 -- the number that digits write behind those of n
-abbrev behind : ℕ → List ℕ → ℕ
+abbrev pub behind : ℕ → List ℕ → ℕ
 behind n [] = n
 behind n (d ∷ ds) = behind (n * 10 + (d - 48)) ds
 
-behind_least : (n : ℕ) (ds : List ℕ) → n ≤ behind n ds
+pub behind_least : (n : ℕ) (ds : List ℕ) → n ≤ behind n ds
 behind_least n [] = omega arith
 behind_least n (d ∷ ds) = omega (arith, behind_least (n * 10 + (d - 48)) ds)
 
@@ -112,7 +112,7 @@ digits_append [] x h l u = (l, u, tt)
 digits_append (d ∷ ds) x h l u = (h.0, h.1, digits_append ds x h.2 l u)
 
 -- `0`, or a digit from 1 to 9 followed by digits
-abbrev Numeral : ℕ → List ℕ → Type 0
+abbrev pub Numeral : ℕ → List ℕ → Type 0
 Numeral n [] = ⊥
 Numeral n (d ∷ ds) = (48 ≤ d) × (d ≤ 57) × AreDigits ds × (behind (d - 48) ds ≡ n) × ((0 < d - 48) ⊎ (ds ≡ []))
 
@@ -122,10 +122,10 @@ longer n (d ∷ ds) h t =
     let first : 0 < d - 48 = elim t.4 [ inl w ↦ w | inr w ↦ let e : d - 48 ≡ n / 10 = subst (λ (z : List ℕ). behind (d - 48) z ≡ n / 10) w t.3 in omega (arith, e, h) ] in
     (t.0, t.1, digits_append ds (48 + n % 10) t.2 (omega arith) (omega arith), behind_append (d - 48) ds (48 + n % 10) ∙ rw t.3 (omega arith), inl first)
 
-numeral : (n : ℕ) → n < 2 ^ 64 → Numeral n (decimal n)
+pub numeral : (n : ℕ) → n < 2 ^ 64 → Numeral n (decimal n)
 numeral n small = decimal_by_steps Numeral (λ n h. (omega arith, omega arith, tt, omega arith, inr refl)) longer n small
 
-not_end : (d end : ℕ) → 48 ≤ d → end < 48 → eqb d end ≡ false
+pub not_end : (d end : ℕ) → 48 ≤ d → end < 48 → eqb d end ≡ false
 not_end d end h e = grind arith
 
 from_again : (limit end m : ℕ) (ds rest : List ℕ) → end < 48 → AreDigits ds → behind m ds ≤ limit → ((0 < m) ⊎ (ds ≡ [])) → number_from limit end m (ds ++ end ∷ rest) ≡ Ok (behind m ds, rest)
@@ -164,10 +164,10 @@ at_short limit end n (d ∷ ds) (b ∷ bs) q c low le h e =
     let t : bs ++ c ∷ q ≡ ds ++ end ∷ [] = cc in
     rw (head, with_first limit d h.0 h.1 inside) (from_short limit end (d - 48) ds bs q c low h.2 (omega (arith, le, h.3)) h.4 t)
 
-first_digit : (limit b m : ℕ) → Adds limit 0 b m → decimal m ≡ b ∷ []
+pub first_digit : (limit b m : ℕ) → Adds limit 0 b m → decimal m ≡ b ∷ []
 first_digit limit b m a = let e : 48 + m ≡ b = omega (arith, a.value, a.least) in decimal_digit m (omega (arith, a.value, a.most)) ∙ rw e refl
 
-at_found : (limit end : ℕ) (bytes rest : List ℕ) (v : ℕ) → limit < 2 ^ 64 → number_at limit end bytes ≡ Ok (v, rest) → (v ≤ limit) × (bytes ≡ decimal v ++ end ∷ rest)
+pub at_found : (limit end : ℕ) (bytes rest : List ℕ) (v : ℕ) → limit < 2 ^ 64 → number_at limit end bytes ≡ Ok (v, rest) → (v ≤ limit) × (bytes ≡ decimal v ++ end ∷ rest)
 unfolding number_at
 at_found limit end [] rest v small e = absurd cc
 at_found limit end (b ∷ bs) rest v small e =

@@ -10,7 +10,8 @@ use Rattle.clone_script.specs.declared.command.Keyword.TheVariants as keyword
 use Rattle.clone_script.specs.declared.error.ScriptError.{ScriptError}
 use Rattle.clone_script.specs.declared.error.ScriptError.TheVariants as errors
 use Rattle.clone_script.specs.Reading.{bad, more, Read, script_refusal, number_at, name_at, bytes_at}
-use Rattle.clone_script.specs.Commands.{most_number, most_turns, most_length, blank, newline, spelling_of, keywords, keyword_of, behind_keyword, command_at}
+use Rattle.clone_script.specs.Members.{most_number, blank, newline}
+use Rattle.clone_script.specs.Commands.{most_turns, most_length, spelling_of, keywords, keyword_of, behind_keyword, command_at}
 use Rattle.clone_script.specs.Grammar.{Fits, IsName, spelling, behind_line, IsBeginning}
 use Rattle.clone_script.specs.Sizes.{size_behind, size_at}
 use Rattle.clone_script.proofs.Readers.{Reads, then, bind_ok, pair_is}
@@ -69,6 +70,7 @@ behind_stays keyword.Drop = bad_stays
 behind_stays keyword.Classes = bad_stays
 behind_stays keyword.Maximal = bad_stays
 behind_stays keyword.Stat = bad_stays
+behind_stays keyword.Extract = bad_stays
 behind_stays keyword.Run = then_stays (number_at most_turns blank) (λ turns. number_at most_length newline) turns_stays (λ turns. length_stays)
 behind_stays keyword.Show = bad_stays
 behind_stays keyword.Save = bad_stays
@@ -114,6 +116,7 @@ behind_made keyword.Drop bytes rest size e = absurd cc
 behind_made keyword.Classes bytes rest size e = absurd cc
 behind_made keyword.Maximal bytes rest size e = absurd cc
 behind_made keyword.Stat bytes rest size e = absurd cc
+behind_made keyword.Extract bytes rest size e = absurd cc
 behind_made keyword.Run bytes rest size e =
     let turns = bind_ok (number_at most_turns blank bytes) _ (size, rest) e in
     ((λ text. command.Run turns.0.0 text), run_made bytes rest size turns.0 turns.1 turns.2)
@@ -255,6 +258,7 @@ told_by_line command.Classes bytes rest h fits e le = absurd (none_behind bytes 
 told_by_line command.Maximal bytes rest h fits e le = absurd (none_behind bytes rest command.Maximal h fits e le)
 told_by_line (command.Run turns input) bytes rest h fits e le =
     told keyword.Run (run_line turns (length input)) input bytes rest (spelling (command.Run turns input)) (λ part. run_size part turns (length input) fits.0 fits.1) e refl le
+told_by_line (command.Extract class name choice) bytes rest h fits e le = absurd (none_behind bytes rest (command.Extract class name choice) h fits e le)
 told_by_line command.Stat bytes rest h fits e le = absurd (none_behind bytes rest command.Stat h fits e le)
 told_by_line (command.Show name) bytes rest h fits e le = absurd (none_behind bytes rest (command.Show name) h fits e le)
 told_by_line command.Save bytes rest h fits e le = absurd (none_behind bytes rest command.Save h fits e le)

@@ -1,5 +1,6 @@
 -- The commands of a script, read from its front.
-use Rattle.std.specs.Prelude.{ℕ, ◌-◌, List, [], ◌∷◌, length, codes, Result, Ok, Err}
+use Rattle.std.specs.Prelude.{ℕ, ◌+◌, ◌-◌, List, [], ◌∷◌, length, codes, Result, Ok, Err}
+use Rattle.std.specs.Fmt.{decimal}
 use Rattle.go_base.specs.Gives.{◌>>=◌, Gives}
 use Rattle.clone_script.specs.declared.command.Command.{Command}
 use Rattle.clone_script.specs.declared.command.Command.TheVariants as command
@@ -7,10 +8,7 @@ use Rattle.clone_script.specs.declared.command.Keyword.{Keyword}
 use Rattle.clone_script.specs.declared.error.ScriptError.{ScriptError}
 use Rattle.clone_script.specs.declared.command.Keyword.TheVariants as keyword
 use Rattle.clone_script.specs.Reading.{Refusal, bad, Read, script_refusal, or_else, literal_at, number_at, name_at, bytes_at}
-
--- the greatest number
-abbrev pub most_number : ℕ
-most_number = 4294967295
+use Rattle.clone_script.specs.Members.{most_number, blank, newline, choice_at}
 
 -- the greatest TURNS
 abbrev pub most_turns : ℕ
@@ -24,16 +22,6 @@ most_length = 1048576
 abbrev pub most_line : ℕ
 most_line = 65536
 
--- how many bytes the longest line of these commands has, with its newline
-abbrev pub longest_line : ℕ
-longest_line = 291
-
-abbrev pub blank : ℕ
-blank = 32
-
-abbrev pub newline : ℕ
-newline = 10
-
 -- the first word of a command, and the blank or newline behind it
 abbrev pub spelling_of : Keyword → List ℕ
 spelling_of keyword.Edit = codes "edit "
@@ -42,18 +30,23 @@ spelling_of keyword.Drop = codes "drop "
 spelling_of keyword.Classes = codes "classes\n"
 spelling_of keyword.Maximal = codes "maximal\n"
 spelling_of keyword.Stat = codes "stat\n"
+spelling_of keyword.Extract = codes "extract "
 spelling_of keyword.Run = codes "run "
 spelling_of keyword.Show = codes "show "
 spelling_of keyword.Save = codes "save\n"
 spelling_of keyword.Quit = codes "quit\n"
 
 abbrev pub keywords : List Keyword
-keywords = keyword.Edit ∷ keyword.Add ∷ keyword.Drop ∷ keyword.Classes ∷ keyword.Maximal ∷ keyword.Stat ∷ keyword.Run ∷ keyword.Show ∷ keyword.Save ∷ keyword.Quit ∷ []
+keywords = keyword.Edit ∷ keyword.Add ∷ keyword.Drop ∷ keyword.Classes ∷ keyword.Maximal ∷ keyword.Stat ∷ keyword.Extract ∷ keyword.Run ∷ keyword.Show ∷ keyword.Save ∷ keyword.Quit ∷ []
 
 -- the first of these keywords that the bytes begin with, or may begin with
 unfoldable pub keyword_of : List Keyword → List ℕ → Read Keyword
 keyword_of [] bytes = Err bad
 keyword_of (k ∷ ks) bytes = or_else (literal_at (spelling_of k) bytes >>= λ x. Ok (k, x.1)) (keyword_of ks bytes)
+
+-- how many bytes of the line of `extract` are left behind the blank that follows the name
+abbrev pub room_behind : ℕ → List ℕ → ℕ
+room_behind class name = most_line - (length (spelling_of keyword.Extract) + (length (decimal class) + 1) + (length name + 1))
 
 -- what stands behind a keyword
 unfoldable pub behind_keyword : Keyword → List ℕ → Read Command
@@ -75,6 +68,11 @@ behind_keyword keyword.Drop bytes = do
 behind_keyword keyword.Classes bytes = Ok (command.Classes, bytes)
 behind_keyword keyword.Maximal bytes = Ok (command.Maximal, bytes)
 behind_keyword keyword.Stat bytes = Ok (command.Stat, bytes)
+behind_keyword keyword.Extract bytes = do
+  class ← number_at most_number blank bytes
+  name ← name_at blank class.1
+  choice ← choice_at (room_behind class.0 name.0) name.1
+  Ok (command.Extract class.0 name.0 choice.0, choice.1)
 behind_keyword keyword.Run bytes = do
   turns ← number_at most_turns blank bytes
   size ← number_at most_length newline turns.1

@@ -4,8 +4,11 @@ use Rattle.std.specs.Fmt.{decimal}
 use Rattle.clone_script.specs.declared.name.Character.{Character}
 use Rattle.clone_script.specs.declared.command.Command.{Command}
 use Rattle.clone_script.specs.declared.command.Command.TheVariants as command
+use Rattle.clone_script.specs.declared.choice.Choice.{Choice}
+use Rattle.clone_script.specs.declared.choice.Choice.TheVariants as choice
 use Rattle.clone_script.specs.Reading.{next_byte, whole}
-use Rattle.clone_script.specs.Commands.{most_number, most_turns, most_length, blank, newline}
+use Rattle.clone_script.specs.Members.{most_number, blank, newline}
+use Rattle.clone_script.specs.Commands.{most_turns, most_length, most_line}
 
 -- there is such a character, and this holds of it
 abbrev pub Continues : Option Character → (Character → Type 0) → Type 0
@@ -23,6 +26,33 @@ pub record IsName (name : List ℕ) : Type 0 where
   pub few : length name ≤ 255
   pub text : AreCharacters whole name
 
+-- each is within the limit on numbers
+abbrev pub AreNumbers : List ℕ → Type 0
+AreNumbers [] = Unit {0}
+AreNumbers (n ∷ ns) = (n ≤ most_number) × AreNumbers ns
+
+-- all members, or one number or more
+abbrev pub AreChosen : Choice → Type 0
+AreChosen choice.All = Unit {0}
+AreChosen (choice.Members ns) = (0 < length ns) × AreNumbers ns
+
+-- what stands behind a member's number: a newline, or a blank and the further numbers
+abbrev pub behind_number : List ℕ → List ℕ
+behind_number [] = newline ∷ []
+behind_number (n ∷ ns) = blank ∷ (decimal n ++ behind_number ns)
+
+-- the numbers, one blank between two, and a newline behind the last
+abbrev pub numbers_text : List ℕ → List ℕ
+numbers_text [] = []
+numbers_text (n ∷ ns) = decimal n ++ behind_number ns
+
+abbrev pub choice_text : Choice → List ℕ
+choice_text choice.All = codes "all\n"
+choice_text (choice.Members ns) = numbers_text ns
+
+abbrev pub extract_line : ℕ → List ℕ → Choice → List ℕ
+extract_line class name choice = codes "extract " ++ (decimal class ++ (blank ∷ (name ++ (blank ∷ choice_text choice))))
+
 -- within the limits
 abbrev pub Fits : Command → Type 0
 Fits (command.Edit name start end text) = IsName name × (start ≤ most_number) × (end ≤ most_number) × (length text ≤ most_length)
@@ -31,6 +61,7 @@ Fits (command.Remove name) = IsName name
 Fits command.Classes = Unit {0}
 Fits command.Maximal = Unit {0}
 Fits command.Stat = Unit {0}
+Fits (command.Extract class name choice) = (class ≤ most_number) × IsName name × AreChosen choice × (length (extract_line class name choice) ≤ most_line)
 Fits (command.Run turns input) = (turns ≤ most_turns) × (length input ≤ most_length)
 Fits (command.Show name) = IsName name
 Fits command.Save = Unit {0}
@@ -45,10 +76,16 @@ spelling (command.Remove name) = codes "drop " ++ (name ++ (newline ∷ []))
 spelling command.Classes = codes "classes\n"
 spelling command.Maximal = codes "maximal\n"
 spelling command.Stat = codes "stat\n"
+spelling (command.Extract class name choice) = extract_line class name choice
 spelling (command.Run turns input) = codes "run " ++ (decimal turns ++ (blank ∷ (decimal (length input) ++ (newline ∷ (input ++ (newline ∷ []))))))
 spelling (command.Show name) = codes "show " ++ (name ++ (newline ∷ []))
 spelling command.Save = codes "save\n"
 spelling command.Quit = codes "quit\n"
+
+-- how many bytes the longest line of such a command has, with its newline
+abbrev pub longest_line : Command → ℕ
+longest_line (command.Extract class name choice) = most_line
+longest_line other = 291
 
 -- how many bytes of a command stand behind its line
 abbrev pub behind_line : Command → ℕ
@@ -58,6 +95,7 @@ behind_line (command.Remove name) = 0
 behind_line command.Classes = 0
 behind_line command.Maximal = 0
 behind_line command.Stat = 0
+behind_line (command.Extract class name choice) = 0
 behind_line (command.Run turns input) = length input + 1
 behind_line (command.Show name) = 0
 behind_line command.Save = 0

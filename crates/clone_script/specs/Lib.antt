@@ -1,9 +1,11 @@
 pub mod Reading
+pub mod Members
 pub mod Commands
 pub mod Grammar
 pub mod Replies
 pub mod Listing
 pub mod Maximal
+pub mod Extracts
 pub mod Sizes
 pub mod Runs
 pub mod Script

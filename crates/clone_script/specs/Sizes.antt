@@ -4,7 +4,8 @@ use Rattle.go_base.specs.Gives.{◌>>=◌}
 use Rattle.clone_script.specs.declared.command.Keyword.{Keyword}
 use Rattle.clone_script.specs.declared.command.Keyword.TheVariants as keyword
 use Rattle.clone_script.specs.Reading.{bad, Read, number_at, name_at}
-use Rattle.clone_script.specs.Commands.{most_number, most_turns, most_length, blank, newline, keywords, keyword_of}
+use Rattle.clone_script.specs.Members.{most_number, blank, newline}
+use Rattle.clone_script.specs.Commands.{most_turns, most_length, keywords, keyword_of}
 use Rattle.clone_script.specs.Grammar.{IsBeginning}
 
 -- LEN at the end of a line whose keyword was read, and the bytes behind the line
@@ -21,6 +22,7 @@ size_behind keyword.Drop bytes = Err bad
 size_behind keyword.Classes bytes = Err bad
 size_behind keyword.Maximal bytes = Err bad
 size_behind keyword.Stat bytes = Err bad
+size_behind keyword.Extract bytes = Err bad
 size_behind keyword.Run bytes = do
   turns ← number_at most_turns blank bytes
   number_at most_length newline turns.1

@@ -1,14 +1,16 @@
-ghost use Rattle.std.specs.Prelude.{◌≡◌, ◌≢◌, ◌≤◌, List, ℕ, length, take, IfOk, IfErr, Ok, Err};
+ghost use Rattle.std.specs.Prelude.{◌≡◌, ◌≢◌, ◌≤◌, ◌+◌, ◌-◌, List, ℕ, length, take, IfOk, IfErr, Ok, Err};
 ghost use Rattle.std.specs.Result.{IsErrOf};
 ghost use Rattle.go_base.specs.Gives.{Gives};
 ghost use Rattle.clone_script.specs.Reading.{bad, more, script_refusal, literal_at, name_at, bytes_at};
-ghost use Rattle.clone_script.specs.Commands.{spelling_of, keywords, keyword_of, behind_keyword, command_at, command_of, Answers};
+ghost use Rattle.clone_script.specs.Commands.{most_line, spelling_of, keywords, keyword_of, behind_keyword, command_at, command_of, Answers};
 ghost use Rattle.clone_script.specs.Grammar.{spelling, Spells, BeginsWith, IsBeginning, IsBad};
 ghost use Rattle.clone_script.specs.declared.command.Command.{Command};
 ghost use Rattle.clone_script.specs.declared.command.Keyword.TheVariants as keyword;
 ghost use Rattle.clone_script.specs.declared.error.ScriptError.TheVariants as errors;
 
+use crate::choice::Choice;
 use crate::error::ScriptError;
+use crate::member_list::choice_at;
 use crate::name::name_at;
 use crate::number::number_at;
 use go_base::{Bytes, Name, NameError};
@@ -19,6 +21,9 @@ pub const MAX_LENGTH: u32 = 1_048_576;
 
 /// The greatest TURNS of a command.
 pub const MAX_TURNS: u32 = 1_000_000_000;
+
+/// The most bytes of a command's line, with its newline.
+pub const MAX_LINE: usize = 65_536;
 
 /// A command of a script.
 #[derive(Debug, Drop)]
@@ -45,6 +50,12 @@ pub enum Command {
     Maximal,
     /// `stat`: the numbers of the package.
     Stat,
+    /// `extract`: members of the class with this number in the listing become calls of a new function of this name.
+    Extract {
+        class: u32,
+        name: Name,
+        choice: Choice,
+    },
     /// `run`: the package is run for so many turns at most, with these bytes as its input.
     Run {
         turns: u32,
@@ -69,6 +80,7 @@ pub enum Keyword {
     Classes,
     Maximal,
     Stat,
+    Extract,
     Run,
     Show,
     Save,
@@ -76,13 +88,14 @@ pub enum Keyword {
 }
 
 /// The first words of all commands.
-pub const KEYWORDS: [Keyword; 10] = [
+pub const KEYWORDS: [Keyword; 11] = [
     Keyword::Edit,
     Keyword::Add,
     Keyword::Drop,
     Keyword::Classes,
     Keyword::Maximal,
     Keyword::Stat,
+    Keyword::Extract,
     Keyword::Run,
     Keyword::Show,
     Keyword::Save,
@@ -101,6 +114,7 @@ impl Keyword {
             Keyword::Classes => b"classes\n",
             Keyword::Maximal => b"maximal\n",
             Keyword::Stat => b"stat\n",
+            Keyword::Extract => b"extract ",
             Keyword::Run => b"run ",
             Keyword::Show => b"show ",
             Keyword::Save => b"save\n",
@@ -111,7 +125,7 @@ impl Keyword {
 
 /// The bytes behind these ones.
 #[tactic(auto, unfolding(crate::specs::Reading::literal_at))]
-fn behind<'a>(bytes: &'a [u8], word: &[u8]) -> Result<&'a [u8], ScriptError>
+pub fn behind<'a>(bytes: &'a [u8], word: &[u8]) -> Result<&'a [u8], ScriptError>
     ensures memory { IfErr result (λ e. e ≢ errors.Memory) }
     ensures value { Gives (λ rest. (tt, rest.now)) script_refusal result (literal_at word.now bytes.now) }
 {
@@ -218,6 +232,31 @@ fn drop_of(alloc: Global, bytes: &[u8]) -> Result<(Command, &[u8]), ScriptError>
     Ok((Command::Remove { name }, rest))
 }
 
+/// How many bytes of the line of `extract` are left behind the blank that follows the name, where these many are read of what stands
+/// behind the keyword.
+fn room_behind(read: usize) -> usize
+    ensures { result ≡ most_line - (length (spelling_of keyword.Extract) + read) }
+{
+    let word = Keyword::Extract.spelling();
+    MAX_LINE.saturating_sub(word.len()).saturating_sub(read)
+}
+
+#[tactic(auto, using(crate::proofs::Lengths::room_is), unfolding(crate::specs::Commands::behind_keyword))]
+fn extract_of(alloc: Global, bytes: &[u8]) -> Result<(Command, &[u8]), ScriptError>
+    ensures { Gives (λ x. (x.0, x.1.now)) script_refusal result (behind_keyword keyword.Extract bytes.now) }
+{
+    let (class, rest) = number_at(bytes, b' ', u32::MAX)?;
+    let (name, rest) = name_of(alloc, rest, b' ')?;
+    let room = room_behind(bytes.len().saturating_sub(rest.len()));
+    let (choice, rest) = choice_at(alloc, rest, room)?;
+    let command = Command::Extract {
+        class,
+        name,
+        choice,
+    };
+    Ok((command, rest))
+}
+
 #[tactic(auto, unfolding(crate::specs::Commands::behind_keyword))]
 fn run_of(alloc: Global, bytes: &[u8]) -> Result<(Command, &[u8]), ScriptError>
     ensures { Gives (λ x. (x.0, x.1.now)) script_refusal result (behind_keyword keyword.Run bytes.now) }
@@ -252,6 +291,7 @@ fn behind_keyword(
         Keyword::Classes => Ok((Command::Classes, bytes)),
         Keyword::Maximal => Ok((Command::Maximal, bytes)),
         Keyword::Stat => Ok((Command::Stat, bytes)),
+        Keyword::Extract => extract_of(alloc, bytes),
         Keyword::Run => run_of(alloc, bytes),
         Keyword::Show => show_of(alloc, bytes),
         Keyword::Save => Ok((Command::Save, bytes)),

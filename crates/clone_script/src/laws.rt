@@ -1,12 +1,13 @@
 //! Laws of the commands' spellings.
-ghost use Rattle.std.specs.Prelude.{◌≡◌, ◌≤◌, ◌+◌, ◌⊎◌, ℕ, List, [], ◌++◌, length, codes};
+ghost use Rattle.std.specs.Prelude.{◌≡◌, ◌≤◌, ◌+◌, ◌⊎◌, ℕ, List, [], ◌∷◌, ◌++◌, length, codes};
 ghost use Rattle.clone_script.specs.declared.command.Command.{Command};
 ghost use Rattle.clone_script.specs.declared.command.Command.TheVariants as command;
+ghost use Rattle.clone_script.specs.declared.choice.Choice.TheVariants as choice;
 ghost use Rattle.clone_script.specs.Reading.{bad, more};
 ghost use Rattle.clone_script.specs.Script.{Outcome, HasOutcome};
 ghost use Rattle.clone_script.specs.Examples.{Takes, TakesNone};
-ghost use Rattle.clone_script.specs.Commands.{most_line, longest_line};
-ghost use Rattle.clone_script.specs.Grammar.{Fits, spelling, behind_line, Spells, BeginsWith, IsBeginning, IsBad};
+ghost use Rattle.clone_script.specs.Commands.{most_line};
+ghost use Rattle.clone_script.specs.Grammar.{Fits, spelling, longest_line, behind_line, Spells, BeginsWith, IsBeginning, IsBad};
 
 /// No spelling of a command is a proper beginning of another one.
 #[tactic(auto, using(crate::proofs::Outcomes::prefix_free))]
@@ -30,11 +31,12 @@ pub fn three_ways()
     ensures apart { (bytes : List ℕ) (c : Command) (rest : List ℕ) → BeginsWith bytes c rest → IsBeginning bytes → ⊥ }
 {}
 
-/// A command's line, its newline included, has 291 bytes at most, and so is within the limit on lines.
-#[tactic(auto, using(crate::proofs::Lines::short_lines))]
+/// A command's line, its newline included, has 291 bytes at most, and that of `extract` as many as the limit on lines says. So all are
+/// within this limit.
+#[tactic(auto, using(crate::proofs::Lines::short_lines, crate::proofs::Lines::lines_within))]
 pub fn short_lines()
-    ensures longest { (c : Command) → Fits c → length (spelling c) ≤ longest_line + behind_line c }
-    ensures within { longest_line ≤ most_line }
+    ensures longest { (c : Command) → Fits c → length (spelling c) ≤ longest_line c + behind_line c }
+    ensures within { (c : Command) → longest_line c ≤ most_line }
 {}
 
 /// A script has exactly one outcome: done, bad at an offset, or too long.
@@ -54,7 +56,13 @@ pub fn examples()
     ensures turns { TakesNone (codes "run 1000000001 0\n\n") bad }
     ensures begun { TakesNone (codes "clas") more }
     ensures cut_off { TakesNone (codes "edit main.go 0 0 10\nabcd") more }
-    ensures other { TakesNone (codes "extract 1 h all\n") bad }
+    ensures extract_all { Takes (codes "extract 1 h all\n") (command.Extract 1 (codes "h") choice.All) 16 }
+    ensures extract_some { Takes (codes "extract 2 addmul 3 1 20\n") (command.Extract 2 (codes "addmul") (choice.Members (3 ∷ 1 ∷ 20 ∷ []))) 24 }
+    ensures extract_none { TakesNone (codes "extract 1 h \n") bad }
+    ensures extract_blanks { TakesNone (codes "extract 1 h 1  2\n") bad }
+    ensures extract_blank_behind { TakesNone (codes "extract 1 h 1 \n") bad }
+    ensures extract_begun { TakesNone (codes "extract 1 h 1 2") more }
+    ensures extract_both { TakesNone (codes "extract 1 h all 1\n") bad }
     ensures begun_too { TakesNone (codes "maxima") more }
     ensures misspelled { TakesNone (codes "clases\n") bad }
     ensures blank { TakesNone (codes "quit \n") bad }

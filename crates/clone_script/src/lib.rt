@@ -5,11 +5,14 @@
 //! come in pieces; each writer of a reply answers its bytes.
 #![tactic(auto)]
 
+mod choice;
 mod command;
 mod error;
+mod extract;
 pub mod laws;
 mod listing;
 mod maximal;
+mod member_list;
 mod name;
 mod number;
 mod reader;
@@ -17,8 +20,10 @@ mod reply;
 mod run;
 mod size;
 
+pub use choice::{Choice, MemberNumbers};
 pub use command::{Command, next_command};
 pub use error::ScriptError;
+pub use extract::{ExtractAnswer, extract_reply};
 pub use listing::{ListedClass, class_reply};
 pub use maximal::{NumberedClass, maximal_reply};
 pub use reader::CommandReader;

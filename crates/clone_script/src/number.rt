@@ -7,7 +7,7 @@ use crate::error::ScriptError;
 
 /// The number with one more digit, if the byte is one and the number is within the limit.
 #[tactic(auto, unfolding(crate::specs::Reading::with_digit))]
-fn with_digit(number: u32, byte: u8, limit: u32) -> Option<u32>
+pub fn with_digit(number: u32, byte: u8, limit: u32) -> Option<u32>
     ensures { result ≡ with_digit limit number byte }
 {
     if !byte.is_ascii_digit() {
@@ -22,7 +22,7 @@ fn with_digit(number: u32, byte: u8, limit: u32) -> Option<u32>
 }
 
 #[tactic(auto, unfolding(crate::specs::Reading::next_number))]
-fn next_number(number: u32, byte: u8, limit: u32) -> Option<u32>
+pub fn next_number(number: u32, byte: u8, limit: u32) -> Option<u32>
     ensures { result ≡ next_number limit number byte }
 {
     if number > 0 {

@@ -16,9 +16,9 @@ use std::marker::Model;
 /// Takes the commands of a script whose bytes come in pieces. Contracts see the pending bytes: those that
 /// came and are in no command that was taken.
 ///
-/// A command's line, of at most 291 bytes, is looked at with each piece until it is whole. The bytes that
-/// follow it are counted, and not looked at again. So the cost is linear in the script's bytes, however they
-/// come.
+/// A command's line is looked at with each piece until it is whole. The bytes that follow it are counted, and not
+/// looked at again. A line has at most 291 bytes, and that of `extract` at most 65,536. So the cost is linear in
+/// the script's bytes, however they come, but for lines of `extract`: these are looked at once for each piece.
 #[derive(Debug, Drop)]
 pub struct CommandReader {
     bytes: Vec<u8>,

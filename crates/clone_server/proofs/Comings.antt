@@ -32,6 +32,7 @@ some_byte (command.Remove name) = omega arith
 some_byte command.Classes = omega arith
 some_byte command.Maximal = omega arith
 some_byte command.Stat = omega arith
+some_byte (command.Extract class name choice) = omega arith
 some_byte (command.Run turns input) = omega arith
 some_byte (command.Show name) = omega arith
 some_byte command.Save = omega arith

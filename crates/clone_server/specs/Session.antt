@@ -28,6 +28,7 @@ is_save (command.Remove name) = false
 is_save command.Classes = false
 is_save command.Maximal = false
 is_save command.Stat = false
+is_save (command.Extract class name choice) = false
 is_save (command.Run turns input) = false
 is_save (command.Show name) = false
 is_save command.Save = true

@@ -6,3 +6,4 @@ mod Runs
 mod Placed
 mod Answering
 mod PackageReplies
+mod Taken

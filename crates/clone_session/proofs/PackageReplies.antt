@@ -28,7 +28,7 @@ use Rattle.clone_replies.specs.Maximal.{maximal_reply}
 use Rattle.clone_replies.specs.Numbers.{numbers_in, numbers_reply}
 use Rattle.clone_replies.specs.ReplyContents.{run_in}
 use Rattle.clone_replies.specs.Replies.{run_words}
-use Rattle.clone_session.specs.Answers.{Answers, OfPackage, PackageReply, good, faulty, IsListing, IsMaximal, IsNumbers, IsRun, bounds_of, fault_line}
+use Rattle.clone_session.specs.Answers.{Answers, IsNoExtraction, OfPackage, PackageReply, good, faulty, IsListing, IsMaximal, IsNumbers, IsRun, bounds_of, fault_line}
 
 pub record Laws : Type 0 where
   pub answer : (texts : List FileText) → HasOneAnswer texts
@@ -84,18 +84,19 @@ numbers-lines law bounds texts c d reply other h k p q = p ∙ ap numbers_reply 
 runs : Laws → (turns : ℕ) (input : List ℕ) (texts : List FileText) (c d : Content) (reply other : List ℕ) → IsChecked texts c → IsChecked texts d → IsRun turns input c reply → IsRun turns input d other → reply ≡ other
 runs law turns input texts c d reply other h k p q = p ∙ ap run_words (law.run texts c d input turns h k) ∙ sym q
 
-pub one : Laws → (s : Settings) (texts : List FileText) (c : Command) (reply other : List ℕ) (after later : List FileText) → Answers s texts c reply after → Answers s texts c other later → Same reply other after later
-one law s texts (command.Edit name start end text) reply other after later h k = changes kinds.Edit texts (edit_answer texts name start end text) reply other after later h k
-one law s texts (command.Add name text) reply other after later h k = changes kinds.Add texts (add_answer texts name text) reply other after later h k
-one law s texts (command.Remove name) reply other after later h k = changes kinds.Drop texts (remove_answer texts name) reply other after later h k
-one law s texts (command.Show name) reply other after later h k = (h.0 ∙ sym k.0, h.1 ∙ sym k.1)
-one law s texts command.Classes reply other after later h k =
+pub one : Laws → (s : Settings) (texts : List FileText) (c : Command) (reply other : List ℕ) (after later : List FileText) → IsNoExtraction c → Answers s texts c reply after → Answers s texts c other later → Same reply other after later
+one law s texts (command.Edit name start end text) reply other after later n h k = changes kinds.Edit texts (edit_answer texts name start end text) reply other after later h k
+one law s texts (command.Add name text) reply other after later n h k = changes kinds.Add texts (add_answer texts name text) reply other after later h k
+one law s texts (command.Remove name) reply other after later n h k = changes kinds.Drop texts (remove_answer texts name) reply other after later h k
+one law s texts (command.Show name) reply other after later n h k = (h.0 ∙ sym k.0, h.1 ∙ sym k.1)
+one law s texts command.Classes reply other after later n h k =
     (package-reply law (IsListing (bounds_of s)) texts (listings law (bounds_of s) texts) reply other h.0 k.0, h.1 ∙ sym k.1)
-one law s texts command.Maximal reply other after later h k =
+one law s texts command.Maximal reply other after later n h k =
     (package-reply law (IsMaximal (bounds_of s)) texts (reports law (bounds_of s) texts) reply other h.0 k.0, h.1 ∙ sym k.1)
-one law s texts command.Stat reply other after later h k =
+one law s texts command.Stat reply other after later n h k =
     (package-reply law (IsNumbers (bounds_of s) texts) texts (numbers-lines law (bounds_of s) texts) reply other h.0 k.0, h.1 ∙ sym k.1)
-one law s texts (command.Run turns input) reply other after later h k =
+one law s texts (command.Run turns input) reply other after later n h k =
     (package-reply law (IsRun turns input) texts (runs law turns input texts) reply other h.0 k.0, h.1 ∙ sym k.1)
-one law s texts command.Save reply other after later h k = absurd h
-one law s texts command.Quit reply other after later h k = absurd h
+one law s texts (command.Extract class name choice) reply other after later n h k = absurd n
+one law s texts command.Save reply other after later n h k = absurd h
+one law s texts command.Quit reply other after later n h k = absurd h

@@ -1,5 +1,5 @@
 -- What a session holds once a command was answered.
-use Rattle.std.specs.Prelude.{List, None, Result, Ok, Err}
+use Rattle.std.specs.Prelude.{◌≡◌, ◌⊎◌, List, None, Result, Ok, Err}
 use Rattle.go_base.specs.declared.bytes.FileText.{FileText}
 use Rattle.edit_apply.specs.declared.texts.EditError.{EditError}
 use Rattle.edit_apply.specs.Answers.{edit_answer, add_answer, remove_answer}
@@ -12,6 +12,10 @@ abbrev pub changed : SessionView → Result (List FileText) EditError → Sessio
 changed s (Ok new) = record s { texts = new; verdict = None }
 changed s (Err e) = s
 
+-- Nothing changed, or there are new texts, of which nothing is known.
+abbrev pub AreKeptOrNew : SessionView → SessionView → Type 0
+AreKeptOrNew s t = (t ≡ s) ⊎ (t ≡ record s { texts = t.texts; verdict = None })
+
 -- after a command that reads or changes the texts. The others take nothing away
 abbrev pub after_command : SessionView → Command → SessionView
 after_command s (command.Edit name start end text) = changed s (edit_answer s.texts name start end text)
@@ -21,6 +25,7 @@ after_command s (command.Show name) = s
 after_command s command.Classes = s
 after_command s command.Maximal = s
 after_command s command.Stat = s
+after_command s (command.Extract class name choice) = s
 after_command s (command.Run turns input) = s
 after_command s command.Save = s
 after_command s command.Quit = s

@@ -10,6 +10,7 @@ use Rattle.clone_script.specs.declared.command.Command.TheVariants as command
 use Rattle.clone_script.specs.Listing.{file_name}
 use Rattle.clone_script.specs.Replies.{fault_reply}
 use Rattle.clone_server.specs.Session.{Settings}
+use Rattle.clone_session.specs.Extracting.{choice_of, Extracts}
 use Rattle.clone_session.specs.Replies.{TextReply}
 use Rattle.clone_window.specs.declared.bounds.Bounds.{Bounds}
 use Rattle.clone_replies.specs.Listing.{listing_reply}
@@ -67,6 +68,12 @@ Answers s texts (command.Show name) reply after = TextReply texts (command.Show 
 Answers s texts command.Classes reply after = PackageReply (IsListing (bounds_of s)) texts reply × (after ≡ texts)
 Answers s texts command.Maximal reply after = PackageReply (IsMaximal (bounds_of s)) texts reply × (after ≡ texts)
 Answers s texts command.Stat reply after = PackageReply (IsNumbers (bounds_of s) texts) texts reply × (after ≡ texts)
+Answers s texts (command.Extract class name choice) reply after = Extracts (bounds_of s) texts class name (choice_of choice) reply after
 Answers s texts (command.Run turns input) reply after = PackageReply (IsRun turns input) texts reply × (after ≡ texts)
 Answers s texts command.Save reply after = ⊥
 Answers s texts command.Quit reply after = ⊥
+
+-- a command but `extract`
+abbrev pub IsNoExtraction : Command → Type 0
+IsNoExtraction (command.Extract class name choice) = ⊥
+IsNoExtraction other = Unit {0}

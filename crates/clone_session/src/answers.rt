@@ -4,8 +4,9 @@ ghost use Rattle.std.specs.Prelude.{◌≡◌, ◌<◌, ◌≤◌, length, IfOk,
 ghost use Rattle.clone_session.specs.Session.{IsGoodVerdict};
 ghost use Rattle.clone_session.specs.Replies.{TextReply};
 ghost use Rattle.clone_session.specs.After.{after_command};
-ghost use Rattle.clone_session.specs.Answers.{fault_line, Answers, IsListing, IsMaximal, IsNumbers, PackageReply, settings_of};
+ghost use Rattle.clone_session.specs.Answers.{fault_line, Answers, IsNoExtraction, IsListing, IsMaximal, IsNumbers, PackageReply, settings_of};
 
+use crate::extract_answers::extracted;
 use crate::numbers::numbers_line;
 use crate::run_answers::ran;
 use crate::{Check, Session};
@@ -116,12 +117,17 @@ pub fn answer<C: Check, H: WindowHash + Copy + Drop>(
 ) -> Result<Bytes, Memory>
     ensures reply { IfOk result (λ reply. Answers (settings_of session.old.bounds) session.old.texts command.now reply session.new.texts) }
     ensures bounds { session.new.bounds ≡ session.old.bounds }
-    ensures known { IsSome session.old.verdict → OnOk result (session.new ≡ after_command session.old command.now) }
+    ensures known { IsSome session.old.verdict → IsNoExtraction command.now → OnOk result (session.new ≡ after_command session.old command.now) }
 {
     match command {
         Command::Classes => classes(alloc, session),
         Command::Maximal => maximal(alloc, session),
         Command::Stat => stat(alloc, session),
+        Command::Extract {
+            class,
+            name,
+            choice,
+        } => extracted(alloc, session, *class, name, choice),
         Command::Run { turns, input } => ran(alloc, session, u64::from(*turns), input.as_slice()),
         Command::Save | Command::Quit => Err(Memory),
         _ => text(session, command),

@@ -18,7 +18,7 @@ ghost use Rattle.go_eval.specs.Runs.{run_package};
 ghost use Rattle.clone_replies.specs.ReplyContents.{run_in};
 ghost use Rattle.clone_script.specs.declared.command.Command.{Command as Line};
 ghost use Rattle.clone_server.specs.Session.{Settings};
-ghost use Rattle.clone_session.specs.Answers.{Answers};
+ghost use Rattle.clone_session.specs.Answers.{Answers, IsNoExtraction};
 
 use clone_replies::laws::{
     listings_are_of_the_types, numbers_follow_from_the_texts, reports_are_of_the_types,
@@ -63,10 +63,10 @@ pub fn runs_follow_from_the_texts()
     one_tree_of_a_file();
 }
 
-/// At given files a command has one reply, and leaves one package.
+/// At given files a command but `extract` has one reply, and leaves one package.
 pub fn one_reply()
     ensures { (settings : Settings) (texts : List Text) (command : Line) (reply other : List ℕ) (after later : List Text)
-        → Answers settings texts command reply after → Answers settings texts command other later → (reply ≡ other) × (after ≡ later) }
+        → IsNoExtraction command → Answers settings texts command reply after → Answers settings texts command other later → (reply ≡ other) × (after ≡ later) }
 {
     listings_follow_from_the_texts();
     reports_follow_from_the_texts();

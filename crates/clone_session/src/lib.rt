@@ -9,7 +9,7 @@
 //!
 //! `PackageWorkspace` answers the commands on a package: each reply is that of the definition at the present texts (`Answers`): of
 //! `classes` the listing of the clone classes of a package that type-checks, of `maximal` its maximal classes and what of each file is
-//! covered, of `stat` its numbers, of `run` what came of its run, and
+//! covered, of `stat` its numbers, of `run` what came of its run, of `extract` what was taken out, with the new texts, or the refusal, and
 //! else the line of the fault that is reported of it. A command has one reply, and leaves one package (`laws`). `answer` gives the
 //! replies to the commands that read or change the texts alone (`edit`, `add`, `drop` and `show`).
 #![tactic(auto)]
@@ -17,6 +17,8 @@
 mod answers;
 mod check;
 mod copy;
+mod extract;
+mod extract_answers;
 mod indexed;
 pub mod laws;
 mod maximal;

@@ -132,6 +132,7 @@ pub fn answer<C: Check, H: WindowHash + Copy + Drop>(
         Command::Classes
         | Command::Maximal
         | Command::Stat
+        | Command::Extract { .. }
         | Command::Run { .. }
         | Command::Save
         | Command::Quit => return Ok(None),

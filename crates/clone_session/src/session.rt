@@ -2,7 +2,7 @@
 
 ghost use Rattle.std.specs.Prelude.{◌≡◌, List, ◌≤◌, ◌<◌, ◌+◌, ◌-◌, Some, None, IsSome, IsSomeAnd, IfSome, IfNone, IfOk, IfErr, OnOk, OnErr, is_some, length, min, take, drop, slice_get};
 ghost use Rattle.std.specs.Option.{option_map};
-ghost use Rattle.go_base.specs.Gives.{Gives};
+ghost use Rattle.go_base.specs.Gives.{Gives, Meets};
 ghost use Rattle.go_base.specs.Package.{IsPackage};
 ghost use Rattle.edit_apply.specs.Edited.{bytes_under};
 ghost use Rattle.edit_apply.specs.Answers.{edit_refusal, edit_answer, add_answer, remove_answer};
@@ -21,11 +21,15 @@ ghost use Rattle.go_eval.specs.Runs.{outcome_view, refusal};
 ghost use Rattle.clone_replies.specs.ReplyContents.{run_in};
 ghost use Rattle.clone_replies.specs.Numbers.{numbers_in};
 ghost use Rattle.clone_session.specs.After.{after_command};
+ghost use Rattle.clone_session.specs.Extracting.{IsDone, IsNotDone};
+ghost use Rattle.extract_rewrite.specs.Shown.{extract_refusal, extracted_shown};
+ghost use Rattle.edit_apply.specs.Applied.{applied};
 ghost use Rattle.clone_session.specs.Maximal.{LiesInOneOf};
 ghost use Rattle.clone_session.specs.Session.{IsGoodVerdict, fault_in, windows_entered};
 ghost use Rattle.clone_session.specs.declared.verdict.Verdict.TheVariants as verdict;
 
 use crate::check::Check;
+use crate::extract::taken;
 use crate::indexed::{classes_of, indexed};
 use crate::laws::listings_follow_from_the_texts;
 use crate::maximal::{covered_of, maximal_of, report_of};
@@ -33,9 +37,12 @@ use crate::run::run_of;
 use crate::verdict::{Verdict, verdict_of};
 use crate::{answer, copy_under, file_at};
 use alpha_hash_defs::window_hash::WindowHash;
+use clone_classes::choose::Choice;
 use clone_replies::{Numbers, class_reply, numbers_of};
 use clone_script::Command;
 use edit_apply::{EditError, Texts};
+use extract_rewrite::error::ExtractError;
+use extract_rewrite::extracted::Extracted;
 use go_base::{Bytes, Fault, FileText, Memory, Name, Steps};
 use go_eval::outcome::{Outcome, RunError};
 use go_typed::checked::Checked;
@@ -309,6 +316,41 @@ impl<C: Check, H: WindowHash + Copy + Drop> Session<C, H> {
     {
         let classes = self.classes()?;
         numbers_of(self.alloc, self.checked(), self.min, self.mass, &classes)
+    }
+
+    /// The chosen members of the class with this number in the listing are taken out into a function of this name: at each stands a
+    /// call, and the function at the end of the first one's file. Then nothing is known of the texts.
+    ///
+    /// # Errors
+    ///
+    /// The refusal of the least code that applies, with the member's number in the class, or with the number that is no member's; or
+    /// want of memory. Then all is as it was.
+    pub fn extract(
+        &mut self,
+        class: u32,
+        name: &[u8],
+        choice: &Choice,
+    ) -> Result<Extracted, ExtractError>
+        requires { IsGoodVerdict self.old.verdict }
+        ensures answer { Meets extract_refusal result (λ x. IsDone self.old.bounds self.old.texts class name.now choice.now (extracted_shown x)) (IsNotDone self.old.bounds self.old.texts class name.now choice.now) }
+        ensures texts { IfOk result (λ x. self.new.texts ≡ applied self.old.texts x.edits) }
+        ensures stale { OnOk result (self.new ≡ record self.old { texts = self.new.texts; verdict = None }) }
+        ensures err { OnErr result (self.new ≡ self.old) }
+    {
+        let classes = self.classes()?;
+        let extracted = taken(
+            self.alloc,
+            self.checked(),
+            &self.texts,
+            &classes,
+            class,
+            name,
+            choice,
+        )?;
+        self.texts.apply(extracted.edits.as_slice())?;
+        self.verdict = None; // It was that of the old texts.
+        self.index = None;
+        Ok(extracted)
     }
 
     /// The reply to a command that reads or changes the texts, and none to a command of another sort. What is known of the texts goes

@@ -1,8 +1,8 @@
 //! Compares whole sessions of the program with tables of cases whose answers come from outside.
 //!
-//! The answers of `typing`, `listings`, `maximal`, `scripts` and `runs` come from another reading of the language and of the commands, made apart
-//! from these crates; so do those of `typing_go122` and `runs_go122`, of `min`, `max` and `range` over integers. The rows of
-//! `worked_typing` and `worked_sessions` were worked out by hand. The packages of `made` have no answers: their clone classes are
+//! The answers of `typing`, `listings`, `maximal`, `scripts`, `extracts` and `runs` come from another reading of the language and of the
+//! commands, made apart from these crates; so do those of `typing_go122` and `runs_go122`, of `min`, `max` and `range` over integers. The
+//! rows of `worked_typing` and `worked_sessions` were worked out by hand. The packages of `made` have no answers: their clone classes are
 //! listed from two indexes and by comparing every window with every other, and so are those of `listings`.
 //!
 //! The tables lie in the folder that the program is run in, each as a file `NAME.tsv`. A table that is not there is passed over.
@@ -50,6 +50,7 @@ fn main(rt: HostRuntime) -> anyhow::Result<()> {
         },
     )?;
     run(&rt, &Scripts { name: "scripts" })?;
+    run(&rt, &Scripts { name: "extracts" })?;
     run(&rt, &Runs { name: "runs" })?;
     run(&rt, &Runs { name: "runs_go122" })
 }

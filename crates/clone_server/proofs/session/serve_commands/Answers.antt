@@ -125,6 +125,40 @@ loop-intake-preserved-in_ok-serve_command-in-Command-5 g c = record {
       (c.in_ok-serve_command-in-Command.ensures.told s.held dir (before ++ s.bytes) s.held_is (c.loop-intake.invariant.chosen ∙ ec) s.written_is));
 }
 
+pub loop-intake-preserved-in_ok-serve_command-in-Command-6 : goal.loop-intake-preserved-in_ok-serve_command-in-Command-6
+loop-intake-preserved-in_ok-serve_command-in-Command-6 g c = record {
+  reading = c.in_ok-serve_command-in-Command.ensures.reading ∙ c.loop-intake.invariant.reading;
+  chosen = c.in_ok-serve_command-in-Command.ensures.chosen ∙ c.loop-intake.invariant.chosen;
+  settings = c.in_ok-serve_command-in-Command.ensures.settings ∙ c.loop-intake.invariant.settings;
+  writing = c.in_ok-serve_command-in-Command.ensures.counts.0 ∙ c.loop-intake.invariant.writing;
+  reads = c.in_ok-command.ensures.count ∙ c.loop-intake.invariant.reads;
+  writes = c.in_ok-serve_command-in-Command.ensures.counts.1 ∙ c.loop-intake.invariant.writes;
+  within = c.next.ensures.within;
+  told = λ held dir before all eh ec ew el.
+      let s = c.loop-intake.invariant.told held dir before all eh ec ew el in
+      stands_more (g.W.Workspace.Answers (g.W.Workspace.settings c.args.workspace.now)) dir (record { files = g.W.Workspace.files c.args.workspace.now; held = held }) all before c.loop-intake.intake (g.W.Workspace.files c.loop-intake.workspace) (g.F.Folder.held c.loop-intake.folder) (g.K.Sink.written c.loop-intake.out) (g.S.Source.left c.loop-intake.script) s c.in-Command.command c.next.new.self (g.S.Source.left c.next.new.script) (g.W.Workspace.files c.serve_command.new.workspace) (g.F.Folder.held c.serve_command.new.folder) (g.K.Sink.written c.serve_command.new.out)
+      (subst (λ x. Comes c.loop-intake.intake s.reached.rest (Ok x) c.next.new.self (g.S.Source.left c.next.new.script)) c.in-Command.is (c.in_ok-command.ensures.told s.reached.rest s.left_is)) c.next.ensures.within.1
+      (subst (λ z. Serves (g.W.Workspace.Answers z) dir (record { files = g.W.Workspace.files c.loop-intake.workspace; held = s.held }) c.in-Command.command (before ++ s.bytes) (Ok tt) (g.W.Workspace.files c.serve_command.new.workspace) (g.F.Folder.held c.serve_command.new.folder) (g.K.Sink.written c.serve_command.new.out)) c.loop-intake.invariant.settings
+      (c.in_ok-serve_command-in-Command.ensures.told s.held dir (before ++ s.bytes) s.held_is (c.loop-intake.invariant.chosen ∙ ec) s.written_is));
+}
+
+pub loop-intake-preserved-in_ok-serve_command-in-Command-7 : goal.loop-intake-preserved-in_ok-serve_command-in-Command-7
+loop-intake-preserved-in_ok-serve_command-in-Command-7 g c = record {
+  reading = c.in_ok-serve_command-in-Command.ensures.reading ∙ c.loop-intake.invariant.reading;
+  chosen = c.in_ok-serve_command-in-Command.ensures.chosen ∙ c.loop-intake.invariant.chosen;
+  settings = c.in_ok-serve_command-in-Command.ensures.settings ∙ c.loop-intake.invariant.settings;
+  writing = c.in_ok-serve_command-in-Command.ensures.counts.0 ∙ c.loop-intake.invariant.writing;
+  reads = c.in_ok-command.ensures.count ∙ c.loop-intake.invariant.reads;
+  writes = c.in_ok-serve_command-in-Command.ensures.counts.1 ∙ c.loop-intake.invariant.writes;
+  within = c.next.ensures.within;
+  told = λ held dir before all eh ec ew el.
+      let s = c.loop-intake.invariant.told held dir before all eh ec ew el in
+      stands_more (g.W.Workspace.Answers (g.W.Workspace.settings c.args.workspace.now)) dir (record { files = g.W.Workspace.files c.args.workspace.now; held = held }) all before c.loop-intake.intake (g.W.Workspace.files c.loop-intake.workspace) (g.F.Folder.held c.loop-intake.folder) (g.K.Sink.written c.loop-intake.out) (g.S.Source.left c.loop-intake.script) s c.in-Command.command c.next.new.self (g.S.Source.left c.next.new.script) (g.W.Workspace.files c.serve_command.new.workspace) (g.F.Folder.held c.serve_command.new.folder) (g.K.Sink.written c.serve_command.new.out)
+      (subst (λ x. Comes c.loop-intake.intake s.reached.rest (Ok x) c.next.new.self (g.S.Source.left c.next.new.script)) c.in-Command.is (c.in_ok-command.ensures.told s.reached.rest s.left_is)) c.next.ensures.within.1
+      (subst (λ z. Serves (g.W.Workspace.Answers z) dir (record { files = g.W.Workspace.files c.loop-intake.workspace; held = s.held }) c.in-Command.command (before ++ s.bytes) (Ok tt) (g.W.Workspace.files c.serve_command.new.workspace) (g.F.Folder.held c.serve_command.new.folder) (g.K.Sink.written c.serve_command.new.out)) c.loop-intake.invariant.settings
+      (c.in_ok-serve_command-in-Command.ensures.told s.held dir (before ++ s.bytes) s.held_is (c.loop-intake.invariant.chosen ∙ ec) s.written_is));
+}
+
 pub loop-intake-preserved : goal.loop-intake-preserved
 loop-intake-preserved g c = record {
   reading = c.in_ok-serve_command-in-Command.ensures.reading ∙ c.loop-intake.invariant.reading;
