@@ -7,3 +7,4 @@ mod Placed
 mod Answering
 mod PackageReplies
 mod Taken
+mod Told

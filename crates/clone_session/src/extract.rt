@@ -1,6 +1,6 @@
 //! The members of a class taken out into a function.
 
-ghost use Rattle.std.specs.Prelude.{◌≡◌, ◌<◌, true, unwrap_or, slice_get, IfOk};
+ghost use Rattle.std.specs.Prelude.{◌≡◌, ◌<◌, true, None, unwrap_or, slice_get, IfOk};
 ghost use Rattle.std.specs.Option.{option_map};
 ghost use Rattle.std.specs.List.{AllByRecursion};
 ghost use Rattle.go_base.specs.Gives.{Meets};
@@ -23,7 +23,9 @@ use go_typed::window::{Class, Window};
 use std::alloc::Global;
 
 /// The refusal where a number of the command is none of the listing.
-fn unlisted(code: u8, member: u32) -> Refusal {
+fn unlisted(code: u8, member: u32) -> Refusal
+    ensures { refusal_view result ≡ record { code = code; member = member; span = None } }
+{
     Refusal {
         code,
         member,
@@ -159,16 +161,20 @@ pub fn taken(
     ensures answer { Meets extract_refusal result (λ x. IsTaken (members_of classes.now) checked.now class name.now choice.now (extracted_shown x)) (IsKept (members_of classes.now) checked.now class name.now choice.now) }
     ensures ready { IfOk result (λ x. AreApplicable texts.now x.edits) }
 {
-    let Some(class) = class_at(classes, class) else {
-        return Err(ExtractError::Refused(unlisted(1, 0)));
-    };
-    let members = class.members.as_slice();
-    if u32::try_from(members.len()).is_err() {
-        return Err(ExtractError::Memory);
-    }
-    match chosen(alloc, checked, class, choice) {
-        Ok(numbers) => taken_by(alloc, checked, texts, members, &numbers, name),
-        Err(ChooseError::NoMember(number)) => Err(ExtractError::Refused(unlisted(2, number))),
-        Err(ChooseError::Memory) => Err(ExtractError::Memory),
+    match class_at(classes, class) {
+        Some(class) => {
+            let members = class.members.as_slice();
+            if u32::try_from(members.len()).is_err() {
+                return Err(ExtractError::Memory);
+            }
+            match chosen(alloc, checked, class, choice) {
+                Ok(numbers) => taken_by(alloc, checked, texts, members, &numbers, name),
+                Err(ChooseError::NoMember(number)) => {
+                    Err(ExtractError::Refused(unlisted(2, number)))
+                }
+                Err(ChooseError::Memory) => Err(ExtractError::Memory),
+            }
+        }
+        None => Err(ExtractError::Refused(unlisted(1, 0))),
     }
 }

@@ -23,7 +23,7 @@ ghost use Rattle.clone_replies.specs.Numbers.{numbers_in};
 ghost use Rattle.clone_session.specs.After.{after_command};
 ghost use Rattle.clone_session.specs.Extracting.{IsDone, IsNotDone};
 ghost use Rattle.extract_rewrite.specs.Shown.{extract_refusal, extracted_shown};
-ghost use Rattle.edit_apply.specs.Applied.{applied};
+ghost use Rattle.edit_apply.specs.Applied.{AreApplicable, applied};
 ghost use Rattle.clone_session.specs.Maximal.{LiesInOneOf};
 ghost use Rattle.clone_session.specs.Session.{IsGoodVerdict, fault_in, windows_entered};
 ghost use Rattle.clone_session.specs.declared.verdict.Verdict.TheVariants as verdict;
@@ -337,8 +337,26 @@ impl<C: Check, H: WindowHash + Copy + Drop> Session<C, H> {
         ensures stale { OnOk result (self.new ≡ record self.old { texts = self.new.texts; verdict = None }) }
         ensures err { OnErr result (self.new ≡ self.old) }
     {
+        let extracted = self.extraction(class, name, choice)?;
+        self.texts.apply(extracted.edits.as_slice())?;
+        self.verdict = None; // It was that of the old texts.
+        self.index = None;
+        Ok(extracted)
+    }
+
+    /// The edits that take the chosen members of a class out, with what is told of them; nothing is changed.
+    fn extraction(
+        &self,
+        class: u32,
+        name: &[u8],
+        choice: &Choice,
+    ) -> Result<Extracted, ExtractError>
+        requires { IsGoodVerdict self.now.verdict }
+        ensures answer { Meets extract_refusal result (λ x. IsDone self.now.bounds self.now.texts class name.now choice.now (extracted_shown x)) (IsNotDone self.now.bounds self.now.texts class name.now choice.now) }
+        ensures ready { IfOk result (λ x. AreApplicable self.now.texts x.edits) }
+    {
         let classes = self.classes()?;
-        let extracted = taken(
+        taken(
             self.alloc,
             self.checked(),
             &self.texts,
@@ -346,11 +364,7 @@ impl<C: Check, H: WindowHash + Copy + Drop> Session<C, H> {
             class,
             name,
             choice,
-        )?;
-        self.texts.apply(extracted.edits.as_slice())?;
-        self.verdict = None; // It was that of the old texts.
-        self.index = None;
-        Ok(extracted)
+        )
     }
 
     /// The reply to a command that reads or changes the texts, and none to a command of another sort. What is known of the texts goes
