@@ -37,7 +37,7 @@ unheld (a_range b n) = refl
 unheld (a_case n) = refl
 unheld a_default = refl
 
-plain_header : (c : Container) (i j : ℕ) (l : Label TypeTree) (ps : Typeds TypeTree) → header_parts (Some (typed (form_in c) i j l ps)) ≡ None ∷ Some (typed (form_in c) i j l ps) ∷ []
+pub plain_header : (c : Container) (i j : ℕ) (l : Label TypeTree) (ps : Typeds TypeTree) → header_parts (Some (typed (form_in c) i j l ps)) ≡ None ∷ Some (typed (form_in c) i j l ps) ∷ []
 plain_header a_block i j l ps = refl
 plain_header an_if i j l ps = refl
 plain_header a_switch i j l ps = refl
@@ -46,7 +46,7 @@ plain_header (a_range b n) i j l ps = refl
 plain_header (a_case n) i j l ps = refl
 plain_header a_default i j l ps = refl
 
-plain_loop : (c : Container) (i j : ℕ) (l : Label TypeTree) (ps : Typeds TypeTree) → loop_header (Some (typed (form_in c) i j l ps)) ≡ None ∷ Some (typed (form_in c) i j l ps) ∷ None ∷ []
+pub plain_loop : (c : Container) (i j : ℕ) (l : Label TypeTree) (ps : Typeds TypeTree) → loop_header (Some (typed (form_in c) i j l ps)) ≡ None ∷ Some (typed (form_in c) i j l ps) ∷ None ∷ []
 plain_loop a_block i j l ps = refl
 plain_loop an_if i j l ps = refl
 plain_loop a_switch i j l ps = refl
@@ -112,7 +112,7 @@ same_length xs ys (next_parts x y os bs p d) = ap suc (same_length os bs d)
 between : (xs ys us vs : Parts) → us ≡ xs → vs ≡ ys → AllSimilar xs ys → AllSimilar us vs
 between xs ys us vs e d w = subst (λ zs. AllSimilar zs vs) (sym e) (subst (λ zs. AllSimilar xs zs) (sym d) w)
 
-held_alone : (c : Container) (i j : ℕ) (l : Label TypeTree) (ps : Typeds TypeTree) → held (Some (typed (form_in c) i j l ps)) ≡ Some (typed (form_in c) i j l ps) ∷ []
+pub held_alone : (c : Container) (i j : ℕ) (l : Label TypeTree) (ps : Typeds TypeTree) → held (Some (typed (form_in c) i j l ps)) ≡ Some (typed (form_in c) i j l ps) ∷ []
 held_alone c i j l ps = ap (λ b. cond b (list_of ps) (Some (typed (form_in c) i j l ps) ∷ [])) (unheld c)
 
 held_similar : (x y : Option Part) → Similar x y → AllSimilar (held x) (held y)
@@ -376,7 +376,7 @@ own_similar s k w f i j xs ys e = ap (λ b. if b then failing s k f i j ys else 
 -- ---- what parts are given
 
 -- types alone, and no part of its own stands for anything
-abbrev OnlyTypes : List Taking → Type 0
+abbrev pub OnlyTypes : List Taking → Type 0
 OnlyTypes [] = Unit {0}
 OnlyTypes (takes k ∷ ks) = OnlyTypes ks
 OnlyTypes (k ∷ ks) = ⊥
@@ -425,26 +425,26 @@ taking_similar s kind.Case w f xs ys e = refl
 taking_similar s kind.For w f xs ys e = loop_takes_similar f xs ys e
 taking_similar s k w f xs ys e = absurd w
 
-both_types : (ks ls : List Taking) → OnlyTypes ks → OnlyTypes ls → OnlyTypes (ks ++ ls)
+pub both_types : (ks ls : List Taking) → OnlyTypes ks → OnlyTypes ls → OnlyTypes (ks ++ ls)
 both_types [] ls e d = d
 both_types (takes k ∷ ks) ls e d = both_types ks ls e d
 both_types (k ∷ ks) ls e d = absurd e
 
-rest_types : (n : ℕ) → OnlyTypes (rest n)
+pub rest_types : (n : ℕ) → OnlyTypes (rest n)
 rest_types zero = tt
 rest_types (suc n) = rest_types n
 
-default_types : (n : ℕ) (t : Option TypeTree) → OnlyTypes (replicate n (type_or_default t))
+pub default_types : (n : ℕ) (t : Option TypeTree) → OnlyTypes (replicate n (type_or_default t))
 default_types zero t = tt
 default_types (suc n) None = default_types n None
 default_types (suc n) (Some t) = default_types n (Some t)
 
-either_types : (b : Bool) (t : Option TypeTree) → OnlyTypes ((if b then type_or_default t else takes default) ∷ [])
+pub either_types : (b : Bool) (t : Option TypeTree) → OnlyTypes ((if b then type_or_default t else takes default) ∷ [])
 either_types true None = tt
 either_types true (Some t) = tt
 either_types false t = tt
 
-loop_types : (f : Form) (ys : Parts) → OnlyTypes (loop_takes f ys)
+pub loop_types : (f : Form) (ys : Parts) → OnlyTypes (loop_takes f ys)
 loop_types (form.Range b n) ys = both_types (rest n) (operand_takes n ys ∷ []) (rest_types n) (either_types (is_first_number (drop n ys)) (target_there n ys))
 loop_types f ys = tt
 

@@ -98,7 +98,7 @@ module _ (m : Moves) where
       ∙ ap (λ ys. cond (is_group f) ys (Some (placed m (typed f i j l ps)) ∷ [])) (list_kept m ps) ∙ branches (parts m) (is_group f) (list_of ps) (Some (typed f i j l ps) ∷ [])
   specifications_kept (Some x ∷ y ∷ ys) = refl
 
-  header_kept : (x : Option Part) → header_parts (optional m x) ≡ parts m (header_parts x)
+  pub header_kept : (x : Option Part) → header_parts (optional m x) ≡ parts m (header_parts x)
   header_kept None = refl
   header_kept (Some (typed (form.Held kind.LateCondition) i j l ps)) = ap (λ xs. None ∷ xs) (list_kept m ps)
   header_kept (Some (typed (form.Held kind.LateTag) i j l ps)) = ap (λ xs. None ∷ xs) (list_kept m ps)
@@ -117,7 +117,7 @@ module _ (m : Moves) where
   switch_kept [] = refl
   switch_kept (h ∷ xs) = joined (header_parts h) xs (header_parts (optional m h)) (parts m xs) (header_kept h) refl
 
-  loop_kept : (x : Option Part) → loop_header (optional m x) ≡ parts m (loop_header x)
+  pub loop_kept : (x : Option Part) → loop_header (optional m x) ≡ parts m (loop_header x)
   loop_kept None = refl
   loop_kept (Some (typed (form.Held kind.ForClause) i j l ps)) = ap (λ xs. None ∷ xs) (list_kept m ps)
   loop_kept (Some (typed (form.Held k) i j l ps)) = list_kept m ps
@@ -284,7 +284,7 @@ module _ (l : ℕ → Bool) where
   specifications_named (Some (typed f i j a ps) ∷ []) e = branch (AllNamed l) (is_group f) (list_of ps) (Some (typed f i j a ps) ∷ []) (list_named l ps e.0.1) e
   specifications_named (Some x ∷ y ∷ ys) e = e
 
-  header_named : (x : Option Part) → AllNamed l (x ∷ []) → AllNamed l (header_parts x)
+  pub header_named : (x : Option Part) → AllNamed l (x ∷ []) → AllNamed l (header_parts x)
   header_named None e = tt
   header_named (Some (typed (form.Held kind.LateCondition) i j a ps)) e = list_named l ps e.0.1
   header_named (Some (typed (form.Held kind.LateTag) i j a ps)) e = list_named l ps e.0.1
@@ -306,7 +306,7 @@ module _ (l : ℕ → Bool) where
   switch_named [] e = tt
   switch_named (h ∷ xs) e = both_named l (header_parts h) xs (header_named h (first_named l h xs e)) (rest_named l h xs e)
 
-  loop_named : (x : Option Part) → AllNamed l (x ∷ []) → AllNamed l (loop_header x)
+  pub loop_named : (x : Option Part) → AllNamed l (x ∷ []) → AllNamed l (loop_header x)
   loop_named None e = tt
   loop_named (Some (typed (form.Held kind.ForClause) i j a ps)) e = list_named l ps e.0.1
   loop_named (Some (typed (form.Held k) i j a ps)) e = list_named l ps e.0.1

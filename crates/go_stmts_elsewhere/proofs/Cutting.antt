@@ -7,7 +7,7 @@ use Rattle.go_stmts_defs.specs.Frames.{Frame}
 use Rattle.go_package_alike.specs.Frames.{SameFrames}
 use Rattle.go_package_alike.specs.Scopes.{Says, said, MeanSame}
 use Rattle.go_exprs_elsewhere.specs.Elsewhere.{Moves, referent_moved}
-use Rattle.go_stmts_elsewhere.specs.Frames.{ObjectAlong}
+use Rattle.go_stmts_elsewhere.specs.Frames.{ObjectAlong, AlongFrames}
 use Rattle.go_stmts_elsewhere.specs.Marked.{AlongAt, RelatedAt}
 
 -- a token that doesn't count means nothing
@@ -56,13 +56,13 @@ cut_along m l u v o q true w = w refl
 cut_along m l u v o q false w = tt
 
 module _ (p q : ℕ → Bool) (m : Moves) (l : ℕ → Bool) (f g : Frame) (c : RelatedAt p q m l f g) where
-  abbrev old : Frame
+  abbrev pub old : Frame
   old = record f { around = record (f.around) { texts = λ i. chosen (p i) (f.around.texts i) (g.around.texts (m.token i)); characters = λ i. chosen (p i) (f.around.characters i) (g.around.characters (m.token i)); objects = λ i. cut (p i) (f.around.objects i) } }
 
-  abbrev new : Frame
+  abbrev pub new : Frame
   new = record g { around = record (g.around) { objects = λ j. cut (q j) (g.around.objects j) } }
 
-  old_same : SameFrames p old f
+  pub old_same : SameFrames p old f
   old_same = record {
     around = record {
       rights = refl;
@@ -83,7 +83,7 @@ module _ (p q : ℕ → Bool) (m : Moves) (l : ℕ → Bool) (f g : Frame) (c : 
     results = refl;
   }
 
-  new_same : SameFrames q new g
+  pub new_same : SameFrames q new g
   new_same = record {
     around = record {
       rights = refl;
@@ -110,27 +110,24 @@ module _ (p q : ℕ → Bool) (m : Moves) (l : ℕ → Bool) (f g : Frame) (c : 
       (cut_along m l old.around new.around (f.around.objects i) (g.around.objects (m.token i)) (p i)
       (λ e. in_scopes m l f.around g.around old.around new.around (λ n o. refl) (λ n. refl) (λ n o. refl) (λ n. refl) (f.around.objects i) (g.around.objects (m.token i)) (c.objects i e)))
 
-  pub related_along : AlongAt p q m l f g
-  related_along = record {
-    old = old;
-    new = new;
-    old_same = old_same;
-    new_same = new_same;
-    along = record {
-      rights = c.rights;
-      iota = c.iota;
-      needed = c.needed;
-      limits = c.limits;
-      texts = λ i s. chosen_same (p i) (f.around.texts i) (g.around.texts (m.token i)) (λ e. c.texts i e s);
-      characters = λ i s. chosen_same (p i) (f.around.characters i) (g.around.characters (m.token i)) (λ e. c.characters i e s);
-      objects = each_object;
-      apart = c.apart;
-      room = c.room;
-      locals = c.locals;
-      types = c.types;
-      source = c.source;
-      repeats = c.repeats;
-      tag = c.tag;
-      results = c.results;
-    };
+  pub frames_along : AlongFrames m l old new
+  frames_along = record {
+    rights = c.rights;
+    iota = c.iota;
+    needed = c.needed;
+    limits = c.limits;
+    texts = λ i s. chosen_same (p i) (f.around.texts i) (g.around.texts (m.token i)) (λ e. c.texts i e s);
+    characters = λ i s. chosen_same (p i) (f.around.characters i) (g.around.characters (m.token i)) (λ e. c.characters i e s);
+    objects = each_object;
+    apart = c.apart;
+    room = c.room;
+    locals = c.locals;
+    types = c.types;
+    source = c.source;
+    repeats = c.repeats;
+    tag = c.tag;
+    results = c.results;
   }
+
+  pub related_along : AlongAt p q m l f g
+  related_along = record { old = old; new = new; old_same = old_same; new_same = new_same; along = frames_along }

@@ -69,7 +69,7 @@ module _ (m : Moves) (l : ℕ → Bool) (f g : Frame) (c : AlongFrames m l f g) 
     results = c.results;
   }
 
-  tag_along : (a b : Stands) → b ≡ a → AlongFrames m l (record f { tag = a }) (record g { tag = b })
+  pub tag_along : (a b : Stands) → b ≡ a → AlongFrames m l (record f { tag = a }) (record g { tag = b })
   tag_along a b e = record {
     rights = c.rights;
     iota = c.iota;
@@ -145,7 +145,7 @@ module _ (m : Moves) where
   header_kept : (ps : Typeds TypeTree) → tag_of (last_of_list (list_of (all_placed m ps))) ≡ tag_of (last_of_list (list_of ps))
   header_kept ps = ap (λ xs. tag_of (last_of_list xs)) (list_kept m ps) ∙ ap tag_of (last_kept (list_of ps)) ∙ tag_of_kept (last_of_list (list_of ps))
 
-  tag_behind_kept : (x : Option Part) → tag_behind (optional m x) ≡ tag_behind x
+  pub tag_behind_kept : (x : Option Part) → tag_behind (optional m x) ≡ tag_behind x
   tag_behind_kept None = refl
   tag_behind_kept (Some (typed (form.Held kind.LateTag) i j l ps)) = header_kept ps
   tag_behind_kept (Some (typed (form.Held kind.InitializedTag) i j l ps)) = header_kept ps
@@ -273,7 +273,7 @@ module _ (m : Moves) (l : ℕ → Bool) where
   results_same f g c None = refl
   results_same f g c (Some t) = let e = c.rights in cc
 
-  signature_along : (f g : Frame) → AlongFrames m l f g → (x : Option Part) → AllNamed l (x ∷ []) → AlongFrames m l (behind_signature x f) (behind_signature (optional m x) g)
+  pub signature_along : (f g : Frame) → AlongFrames m l f g → (x : Option Part) → AllNamed l (x ∷ []) → AlongFrames m l (behind_signature x f) (behind_signature (optional m x) g)
   signature_along f g c x n =
       let inside : Frame = record f { results = signature_results f (part_type x) } in
       let other : Frame = record g { results = signature_results g (part_type (optional m x)) } in

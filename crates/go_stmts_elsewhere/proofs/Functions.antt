@@ -129,7 +129,7 @@ module _ (m : Moves) where
       };
     }
 
-    signature_part_along : (ps : Trees) → AllKeepSpelling m ps → signature_part g.around (signature_in (carries m.token ps)) ≡ optional m (signature_part f.around (signature_in ps))
+    pub signature_part_along : (ps : Trees) → AllKeepSpelling m ps → signature_part g.around (signature_in (carries m.token ps)) ≡ optional m (signature_part f.around (signature_in ps))
     signature_part_along none w = refl
     signature_part_along (skip ps) w = refl
     signature_part_along (more x ps) w = ap (λ y. Some y) (typed_elsewhere m f.around g.around free x around_along w.0).typed

@@ -52,6 +52,15 @@ joined s (more t ts) us =
     (λ x gs u. apart u value none (Some x ∷ []) gs (onto ts us) ∙ ap (fronted (Some x ∷ []) gs) (joined u ts us) ∙ sym (fronted_followed (Some x ∷ []) gs (run u ts) us)
     ∙ ap (λ r. followed r us) (sym (apart u value none (Some x ∷ []) gs ts)))
 
+-- A run of statements in front of others in a list.
+followed_as : (r : Readings) (ts : Trees) → followed r ts ≡ fronted (parts_in r) (found_in r) (run (frame_in r) ts)
+followed_as (all_read xs fs s) ts = refl
+
+pub run_first : (s : Frame) (xs : Parts) (fs : Found) (ts us : Trees)
+    → fronted xs fs (run s (onto ts us)) ≡ fronted (xs ++ parts_in (run s ts)) (fs ++ found_in (run s ts)) (run (behind s ts) us)
+run_first s xs fs ts us =
+    ap (fronted xs fs) (joined s ts us ∙ followed_as (run s ts) us) ∙ sym (fronted_twice xs (parts_in (run s ts)) fs (found_in (run s ts)) (run (behind s ts) us))
+
 -- ---- what is read of a list in three runs
 
 parts_followed : (r : Readings) (ts : Trees) → parts_in (followed r ts) ≡ parts_in r ++ parts_in (run (frame_in r) ts)

@@ -18,3 +18,10 @@ mod Alone
 mod Ends
 mod Worked
 mod Above
+mod Free
+mod FramesAt
+mod Hollow
+mod ChangedNodes
+mod ChangedCases
+mod Replacing
+mod ReplacedFunctions

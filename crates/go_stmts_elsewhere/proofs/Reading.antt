@@ -33,7 +33,7 @@ module _ (m : Moves) (l : ℕ → Bool) where
   -- ---- a node over its parts
 
   module _ (k : Kind) (i j : ℕ) (ps : Trees) (place : PlaceKept m k i j) (keeps : AllKeepSpelling m ps) where
-    own_along : (f g : Frame) → AlongFrames m l f g → (xs : Parts) → AllNamed l xs
+    pub own_along : (f g : Frame) → AlongFrames m l f g → (xs : Parts) → AllNamed l xs
         → own_faults g k (form_by k (parts m xs)) (m.token i) (m.token j) (layout g k (m.token i) (parts m xs)) ≡ fails m (own_faults f k (form_by k xs) i j (layout f k i xs))
     own_along f g c xs n =
         ap (λ r. own_faults g k r (m.token i) (m.token j) (layout g k (m.token i) (parts m xs))) (form_kept m k xs)

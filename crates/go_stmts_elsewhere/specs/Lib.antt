@@ -5,3 +5,4 @@ pub mod Marked
 pub mod Ends
 pub mod Worked
 pub mod Above
+pub mod Replaced

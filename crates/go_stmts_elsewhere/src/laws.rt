@@ -1,9 +1,10 @@
 //! Laws of statements and functions elsewhere, for the crates above. These functions do nothing: their contracts are what holds.
 
-ghost use Rattle.std.specs.Prelude.{ℕ, Bool};
+ghost use Rattle.std.specs.Prelude.{ℕ, Bool, List};
 ghost use Rattle.go_exprs_elsewhere.specs.Elsewhere.{Moves, KeepsSpelling};
 ghost use Rattle.go_exprs_rules.specs.Scopes.{Hint, Scope};
-ghost use Rattle.go_grammar.specs.Trees.{Tree, Trees, last};
+ghost use Rattle.go_grammar.specs.Trees.{Tree, Trees, last, node};
+ghost use Rattle.go_grammar.specs.declared.kind.Kind.TheVariants as kind;
 ghost use Rattle.go_package_defs.specs.Bodies.{function_in};
 ghost use Rattle.go_package_alike.specs.Scopes.{AllTokens};
 ghost use Rattle.go_rewriting.specs.Places.{carry};
@@ -16,9 +17,10 @@ ghost use Rattle.go_stmts_elsewhere.specs.Frames.{AlongFrames, AlongReadings, Ke
 ghost use Rattle.go_stmts_elsewhere.specs.Functions.{AlongFunctions, LocalsStand, Numbered, NumberedFunctions, only_objects, stays};
 ghost use Rattle.go_stmts_elsewhere.specs.Gaps.{GapRead, ListsAreReadAlone, behind};
 ghost use Rattle.go_stmts_elsewhere.specs.Marked.{AlongAt, AlongReadingsAt, AllKeepAt, KeepAt, RelatedAt, SameReadingsAt};
+ghost use Rattle.go_stmts_elsewhere.specs.Replaced.{Changed, ChangedFunctions, ChangedReadings, EachTakesItsPlace, Gap, OldsRead, StaysTerminating, function_tree, inside_function};
 ghost use Rattle.go_stmts_elsewhere.specs.Worked.{WorkedGaps};
 
-use go_package_alike::laws::statements_follow_from_their_tokens;
+use go_package_alike::laws::{expressions_follow_from_their_tokens, statements_follow_from_their_tokens};
 use go_renumbering::laws::renumbered_functions_are_typed_the_same;
 
 /// Statements, declarations and bodies whose tokens stand elsewhere are read the same in frames that are related, under the new numbers; the
@@ -106,3 +108,27 @@ pub fn functions_end()
     ensures terminating { FunctionsEnd }
     ensures returning { ReturnsEnd }
 {}
+
+/// A statement in which other statements take the place of some, in lists of any depth, is read as what it was with these in their place:
+/// no rule fails that didn't, and the frames behind it are related again, given that each run leads from related frames to related frames.
+pub fn statements_are_read_around_gaps()
+    ensures { (p q : ℕ → Bool) (m : Moves) (l : ℕ → Bool) (gaps : List Gap) (f g : Frame) (h : Hint) (x y : Tree) (d : Changed p q m gaps x y) →
+        EachTakesItsPlace p q m l gaps → AlongAt p q m l f g → OldsRead p q m gaps f x y d → ChangedReadings p q m l gaps (reading f h x) (reading g h y) }
+{
+    statements_follow_from_their_tokens();
+}
+
+/// A function without faults, in whose block other statements take the place of some, in lists of any depth, has no fault there, and is with
+/// its types what it was with these in their place; where it has results, its block has to be terminating still.
+pub fn functions_are_typed_around_gaps()
+    ensures { (p q : ℕ → Bool) (m : Moves) (l : ℕ → Bool) (gaps : List Gap) (s t : Scope) (count other : ℕ) (types others : ℕ → ℕ) (old number a b i j n k : ℕ) (gs ts us : Trees)
+        (d : Changed p q m gaps (node kind.Block n k ts) (node kind.Block (m.token n) (m.token k) us)) →
+        EachTakesItsPlace p q m l gaps → RelatedAt p q m l (start s count types) (start t other others) → LocalsStand s t → KeepAt p q m (node kind.Signature a b gs) →
+        OldsRead p q m gaps (inside_function s count types (node kind.Signature a b gs)) (node kind.Block n k ts) (node kind.Block (m.token n) (m.token k) us) d →
+        StaysTerminating m l gaps (inside_function s count types (node kind.Signature a b gs)) (node kind.Block n k ts) →
+        ChangedFunctions p q m l gaps j number (function_in s old count types (function_tree i j (node kind.Signature a b gs) (node kind.Block n k ts)))
+            (function_in t number other others (function_tree (m.token i) (m.token j) (carry m.token (node kind.Signature a b gs)) (node kind.Block (m.token n) (m.token k) us))) }
+{
+    expressions_follow_from_their_tokens();
+    statements_follow_from_their_tokens();
+}
