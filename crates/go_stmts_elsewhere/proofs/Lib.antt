@@ -19,6 +19,7 @@ mod Ends
 mod Worked
 mod Above
 mod Free
+mod Around
 mod FramesAt
 mod Hollow
 mod ChangedNodes

@@ -29,7 +29,8 @@ use Rattle.go_exprs_elsewhere.proofs.Public.{optional, type_kept}
 use Rattle.go_stmts_elsewhere.specs.Above.{quiet}
 use Rattle.go_stmts_elsewhere.specs.Functions.{LocalsStand, numbers_moved}
 use Rattle.go_stmts_elsewhere.specs.Marked.{AlongAt, AlongReadingsAt, RelatedAt, KeepAt}
-use Rattle.go_stmts_elsewhere.specs.Replaced.{AreFree, Gap, EachTakesItsPlace, Changed, OldsRead, ChangedPart, FunctionChanged, ChangedFunctions, ChangedReadings, inside_function, tree_in, StaysTerminating, function_tree}
+use Rattle.go_stmts_elsewhere.specs.Replaced.{AreFree, Gap, SaysAs, EachTakesItsPlace, Changed, OldsRead, ChangedPart, FunctionChanged, ChangedFunctions, ChangedReadings, inside_function, tree_in, StaysTerminating, function_tree}
+use Rattle.go_stmts_elsewhere.proofs.Around.{signature_kept}
 use Rattle.go_stmts_elsewhere.proofs.Cutting.{frames_along, old_same, new_same, related_along}
 use Rattle.go_stmts_elsewhere.proofs.Cutting as cut
 use Rattle.go_stmts_elsewhere.proofs.Entering.{entry_names_kept, first_parts_kept}
@@ -37,7 +38,7 @@ use Rattle.go_stmts_elsewhere.proofs.FramesAt.{rights_at, results_at, back_at, s
 use Rattle.go_stmts_elsewhere.proofs.Free.{free_both, free_front, free_rest, nothing_found, found_nothing, free_placed, free_if_none, none_if_free}
 use Rattle.go_stmts_elsewhere.proofs.Functions.{signature_part_along, locals_along}
 use Rattle.go_stmts_elsewhere.proofs.Marked.{StatementsFollow, reading_at}
-use Rattle.go_stmts_elsewhere.proofs.Replacing.{changed_read}
+use Rattle.go_stmts_elsewhere.proofs.Replacing.{changed_read, forgotten}
 
 -- the law on expressions in scopes that say the same at their tokens
 abbrev pub ExpressionsFollow : Type 0
@@ -78,6 +79,9 @@ block_results f h i j ps = by (readings f kind.Block h ps [] [] ps)
     by : (r : Readings) → KeepsResults f (closed f kind.Block i j ps r)
     by (all_read xs fs s) = refl
 
+says_start : (s : Scope) (n : ℕ) (types : ℕ → ℕ) → SaysAs s (start s n types)
+says_start s n types = record { texts = λ i. refl; characters = λ i. refl; objects = λ i. refl; sorts = λ n o. refl; referents = λ n. refl; needed = refl; limits = refl }
+
 -- it stands for nothing, so it is judged
 built_quiet : (f : Frame) (i j : ℕ) (xs : Parts) (es : List TypeFault) → is_judged (Some (built_by f kind.Block form.Block i j xs es) ∷ []) ≡ true
 built_quiet f i j xs [] = refl
@@ -89,10 +93,10 @@ block_judged f h i j ps = by (readings f kind.Block h ps [] [] ps)
     by : (r : Readings) → is_judged (Some (tree_in (closed f kind.Block i j ps r)) ∷ []) ≡ true
     by (all_read xs fs s) = built_quiet s i j xs (own_faults s kind.Block form.Block i j xs)
 
-module _ (same : StatementsFollow) (typed_same : ExpressionsFollow) (p q : ℕ → Bool) (m : Moves) (l : ℕ → Bool) (gaps : List Gap) (each : EachTakesItsPlace p q m l gaps) where
+module _ (same : StatementsFollow) (typed_same : ExpressionsFollow) (p q : ℕ → Bool) (m : Moves) (l : ℕ → Bool) (s t : Scope) (gaps : List Gap) (each : EachTakesItsPlace p q m l s t gaps) where
   -- ---- the reading of a function
 
-  module _ (f g : Frame) (c : AlongAt p q m l f g) (a b : ℕ) (gs : Trees) (keep : KeepAt p q m (node kind.Signature a b gs)) (i j n k : ℕ) (ts us : Trees)
+  module _ (f g : Frame) (c : AlongAt p q m l f g) (says : SaysAs s f) (says_new : SaysAs t g) (a b : ℕ) (gs : Trees) (keep : KeepAt p q m (node kind.Signature a b gs)) (i j n k : ℕ) (ts us : Trees)
       (d : Changed p q m gaps (node kind.Block n k ts) (node kind.Block (m.token n) (m.token k) us)) where
     abbrev header : Tree
     header = node kind.Signature a b gs
@@ -137,19 +141,19 @@ module _ (same : StatementsFollow) (typed_same : ExpressionsFollow) (p q : ℕ �
     whole_function : (z : Part) (fs hs : Found) → (AreFree fs → AreFree hs) → (r s : Reading) → KeepsResults within r → is_judged (Some (tree_in r) ∷ []) ≡ true → ChangedReadings p q m l gaps r s
         → (has_results within.results ≡ true → (y : Part) → ChangedPart m l gaps (Some (tree_in r)) (Some y) → terminates (tree_in r) ≡ true → terminates y ≡ true)
         → Functions (over f i j header old_block signature fs r) (over g (m.token i) (m.token j) moved new_block z hs s)
-    whole_function z fs hs e (read x xs u) (read y ys v) results judges t ends = λ free.
+    whole_function z fs hs e (read x xs u) (read y ys v) results judges w ends = λ free.
         let body = fs ++ xs in
         let own = own_faults u kind.FunctionDeclaration form.Function i j (Some x ∷ []) in
         let new = own_faults v kind.FunctionDeclaration form.Function (m.token i) (m.token j) (Some y ∷ []) in
         let front = free_front body (own ∷ []) free in
-        let o = t (free_rest fs xs front) in
+        let o = w (free_rest fs xs front) in
         let none : own ≡ [] = nothing_found own (free_rest body (own ∷ []) free) in
         let same_results : v.results ≡ within.results = results_at p q m l u v o.2 ∙ results in
         let none_new : new ≡ [] =
             ap (λ rs. if is_judged (Some y ∷ []) then function_failing rs (m.token j) y else []) same_results
             ∙ none_missing (is_judged (Some x ∷ [])) (is_judged (Some y ∷ [])) (has_results within.results) (terminates x) (terminates y) (fault_at code.MissingReturn (j - 1) j)
-              (fault_at code.MissingReturn (m.token j - 1) (m.token j)) (λ w. let h = w in cc) judges
-              (sym (ap (λ rs. if is_judged (Some x ∷ []) then function_failing rs j x else []) results) ∙ none) (λ r w. ends r y o.0 w) in
+              (fault_at code.MissingReturn (m.token j - 1) (m.token j)) (λ z. let h = z in cc) judges
+              (sym (ap (λ rs. if is_judged (Some x ∷ []) then function_failing rs j x else []) results) ∙ none) (λ r z. ends r y o.0 z) in
         let old_label = label form.Function sort.Nothing (Some x ∷ []) in
         let new_label = label form.Function sort.Nothing (Some y ∷ []) in (
           record {
@@ -179,11 +183,12 @@ module _ (same : StatementsFollow) (typed_same : ExpressionsFollow) (p q : ℕ �
           subst (λ z. Functions (over f i j header old_block signature fs (reading within value old_block)) (over g (m.token i) (m.token j) moved new_block z hs (reading (behind_signature (Some z) g) value new_block))) (sym header_at.0)
           (whole_function (placed m signature) fs hs (λ a. subst AreFree (sym header_at.1) (free_placed m fs a)) (reading within value old_block) (reading (behind_signature (Some (placed m signature)) g) value new_block)
           (block_results within value n k ts) (block_judged within value n k ts)
-          (changed_read same p q m l gaps each within (behind_signature (Some (placed m signature)) g) within_at value old_block new_block d olds) ends)
+          (forgotten same p q m l s t gaps each (reading within value old_block) (reading (behind_signature (Some (placed m signature)) g) value new_block)
+          (changed_read same p q m l s t gaps each within (behind_signature (Some (placed m signature)) g) (within_at, signature_kept s (Some signature) f says, signature_kept t (Some (placed m signature)) g says_new) value old_block new_block d olds)) ends)
 
   -- ---- functions of two packages
 
-  module _ (s t : Scope) (count other : ℕ) (types others : ℕ → ℕ) (c : RelatedAt p q m l (start s count types) (start t other others)) (ls : LocalsStand s t) (old number : ℕ)
+  module _ (count other : ℕ) (types others : ℕ → ℕ) (c : RelatedAt p q m l (start s count types) (start t other others)) (ls : LocalsStand s t) (old number : ℕ)
       (a b : ℕ) (gs : Trees) (keep : KeepAt p q m (node kind.Signature a b gs)) (i j n k : ℕ) (ts us : Trees) (d : Changed p q m gaps (node kind.Block n k ts) (node kind.Block (m.token n) (m.token k) us)) where
     abbrev before : Frame
     before = start s count types
@@ -216,7 +221,7 @@ module _ (same : StatementsFollow) (typed_same : ExpressionsFollow) (p q : ℕ �
         ∙ locals_along m l w.old w.new w.along k e
         ∙ ap (λ ns. slice_get (map (local_stands ns) (numbers_from 0 (length ns))) k) (sym w.old_same.locals)
 
-    content : (v w : Part) (f g : Frame) → BothRead before behind along a b gs keep i j n k ts us d v w → AlongAt p q m l f g
+    content : (v w : Part) (f g : Frame) → BothRead before behind along (says_start s count types) (says_start t other others) a b gs keep i j n k ts us d v w → AlongAt p q m l f g
         → FunctionChanged p q m l gaps (last x) number (function_read s old (last x) (signature_of s x) v f) (function_read t number (last y) (signature_of t y) w g)
     content v w f g r e = record {
       number = refl;
@@ -244,7 +249,7 @@ module _ (same : StatementsFollow) (typed_same : ExpressionsFollow) (p q : ℕ �
       abbrev new_function : Part → Frame → Behind
       new_function w g = record { function = function_read t number (last y) (signature_of t y) w g; rights = g.around.rights }
 
-      free_of_both : (v w : Part) (fs hs : Found) (f g : Frame) → Functions before behind along a b gs keep i j n k ts us d (read v fs f) (read w hs g) → reported fs ≡ None
+      free_of_both : (v w : Part) (fs hs : Found) (f g : Frame) → Functions before behind along (says_start s count types) (says_start t other others) a b gs keep i j n k ts us d (read v fs f) (read w hs g) → reported fs ≡ None
           → ChangedFunctions p q m l gaps (last x) number (judged (reported fs) (old_function v f)) (judged (reported hs) (new_function w g))
       free_of_both v w fs hs f g e h =
           let o = e (free_if_none fs h) in
@@ -252,14 +257,14 @@ module _ (same : StatementsFollow) (typed_same : ExpressionsFollow) (p q : ℕ �
           (subst (λ z. ChangedFunctions p q m l gaps (last x) number (Ok (old_function v f)) (judged z (new_function w g))) (sym (none_if_free hs o.1))
           (content v w f g o.0 o.2, rights_at p q m l f g o.2))
 
-      by_fault : (v w : Part) (fs hs : Found) (f g : Frame) → Functions before behind along a b gs keep i j n k ts us d (read v fs f) (read w hs g) → (o : Option TypeFault) → reported fs ≡ o
+      by_fault : (v w : Part) (fs hs : Found) (f g : Frame) → Functions before behind along (says_start s count types) (says_start t other others) a b gs keep i j n k ts us d (read v fs f) (read w hs g) → (o : Option TypeFault) → reported fs ≡ o
           → ChangedFunctions p q m l gaps (last x) number (judged (reported fs) (old_function v f)) (judged (reported hs) (new_function w g))
       by_fault v w fs hs f g e None h = free_of_both v w fs hs f g e h
       by_fault v w fs hs f g e (Some z) h = subst (λ o. ChangedFunctions p q m l gaps (last x) number (judged o (old_function v f)) (judged (reported hs) (new_function w g))) (sym h) tt
 
-      of_readings : (r w : Reading) → Functions before behind along a b gs keep i j n k ts us d r w → ChangedFunctions p q m l gaps (last x) number (behind_read s old x r) (behind_read t number y w)
+      of_readings : (r w : Reading) → Functions before behind along (says_start s count types) (says_start t other others) a b gs keep i j n k ts us d r w → ChangedFunctions p q m l gaps (last x) number (behind_read s old x r) (behind_read t number y w)
       of_readings (read v fs f) (read w hs g) e = by_fault v w fs hs f g e (reported fs) refl
 
       pub functions_changed : ChangedFunctions p q m l gaps (last x) number (function_in s old count types x) (function_in t number other others y)
       functions_changed =
-          of_readings (reading before free x) (reading behind free y) (function_changed before behind along a b gs keep i j n k ts us d olds ends free)
+          of_readings (reading before free x) (reading behind free y) (function_changed before behind along (says_start s count types) (says_start t other others) a b gs keep i j n k ts us d olds ends free)

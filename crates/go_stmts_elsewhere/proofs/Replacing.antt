@@ -11,7 +11,7 @@ use Rattle.go_typed.specs.declared.form.Form.TheVariants as form
 use Rattle.go_typed.specs.Trees.{typed, row}
 use Rattle.go_typed.specs.Trees as sort
 use Rattle.go_exprs_rules.specs.declared.fault.TypeFault.{TypeFault}
-use Rattle.go_exprs_rules.specs.Scopes.{Hint, value}
+use Rattle.go_exprs_rules.specs.Scopes.{Hint, Scope, value}
 use Rattle.go_exprs_rules.specs.Settling.{Part}
 use Rattle.go_exprs_rules.specs.Tables.{Parts, held, label, is_judged}
 use Rattle.go_stmts_defs.specs.Frames.{Frame}
@@ -22,8 +22,9 @@ use Rattle.go_exprs_elsewhere.specs.Elsewhere.{Moves, placed}
 use Rattle.go_stmts_elsewhere.specs.Above.{Container, a_block, an_if, a_switch, a_default, form_in, quiet, IsAbove}
 use Rattle.go_stmts_elsewhere.specs.Gaps.{IsList, run, parts_in, found_in, behind, fronted}
 use Rattle.go_stmts_elsewhere.specs.Marked.{AlongAt, AlongReadingsAt, KeepAt}
-use Rattle.go_stmts_elsewhere.specs.Replaced.{AreFree, AreStatementParts, Gap, EachTakesItsPlace, HasInside, has_list, AreWhole, Changed, whole, inside, in_else, in_case, AllChanged, ended, next, left, others, Behindhand, OldsRead, AllOldsRead, ChangedPart, absent, stays, around, around_else, ChangedParts, no_more, one_more, in_place}
+use Rattle.go_stmts_elsewhere.specs.Replaced.{AreFree, AreStatementParts, Gap, SaysAs, Related, ChangedReadings, EachTakesItsPlace, HasInside, has_list, AreWhole, Changed, whole, inside, in_else, in_case, AllChanged, ended, next, left, others, Behindhand, OldsRead, AllOldsRead, ChangedPart, absent, stays, around, around_else, ChangedParts, no_more, one_more, in_place}
 use Rattle.go_stmts_elsewhere.proofs.Above.{loop_types}
+use Rattle.go_stmts_elsewhere.proofs.Around.{Keeps, back_kept, switch_kept, reading_kept, behind_kept}
 use Rattle.go_stmts_elsewhere.proofs.ChangedCases.{AllThere, values_there, none_fails_in_case, case_built}
 use Rattle.go_stmts_elsewhere.proofs.ChangedNodes.{both_changed, one_changed, if_changed, switch_changed, for_changed, all_given_changed, loop_takes_changed, tag_changed, of_first_loop}
 use Rattle.go_stmts_elsewhere.proofs.Clauses.{list_read}
@@ -122,22 +123,28 @@ either_way : (b : Bool) (fs : List TypeFault) → fs ≡ [] → (if b then fs el
 either_way true fs e = e
 either_way false fs e = refl
 
-module _ (same : StatementsFollow) (p q : ℕ → Bool) (m : Moves) (l : ℕ → Bool) (gaps : List Gap) (each : EachTakesItsPlace p q m l gaps) where
+module _ (same : StatementsFollow) (p q : ℕ → Bool) (m : Moves) (l : ℕ → Bool) (s t : Scope) (gaps : List Gap) (each : EachTakesItsPlace p q m l s t gaps) where
+  abbrev pub At : Frame → Frame → Type 0
+  At f g = Related p q m l s t f g
+
+  at_back : (a b f g : Frame) → At a b → At f g → At (back a f) (back b g)
+  at_back a b f g d c = (back_at p q m l a b f g d.0 c.0, back_kept s a f c.1, back_kept t b g c.2)
+
   -- what is known of parts, of the rules that fail in the new ones, and of the frames behind both
   abbrev State : Bool → Parts → Parts → Found → Frame → Frame → Type 0
-  State b xs ys gs f g = ChangedParts m l gaps b xs ys × AreFree gs × AlongAt p q m l f g
+  State b xs ys gs f g = ChangedParts m l gaps b xs ys × AreFree gs × At f g
 
   abbrev Then : Bool → Readings → Readings → Type 0
   Then b (all_read xs fs f) (all_read ys gs g) = AreFree fs → State b xs ys gs f g
 
-  abbrev Reads : Reading → Reading → Type 0
-  Reads (read x fs f) (read y gs g) = AreFree fs → ChangedPart m l gaps (Some x) (Some y) × AreFree gs × AlongAt p q m l f g
+  abbrev pub Reads : Reading → Reading → Type 0
+  Reads (read x fs f) (read y gs g) = AreFree fs → ChangedPart m l gaps (Some x) (Some y) × AreFree gs × At f g
 
-  whole_read : (r s : Reading) → AlongReadingsAt p q m l r s → Reads r s
-  whole_read (read x fs f) (read y gs g) e = λ free. (
+  whole_read : (r w : Reading) → Keeps s r → Keeps t w → AlongReadingsAt p q m l r w → Reads r w
+  whole_read (read x fs f) (read y gs g) c d e = λ free. (
     subst (λ z. ChangedPart m l gaps (Some x) (Some z)) (sym e.0) (stays x e.3),
     subst AreFree (sym e.1) (free_placed m fs free),
-    e.2,
+    (e.2, c, d),
   )
 
   vacuous : (b : Bool) (r s : Readings) → (AreFree (found_in r) → ⊥) → Then b r s
@@ -150,12 +157,13 @@ module _ (same : StatementsFollow) (p q : ℕ → Bool) (m : Moves) (l : ℕ →
   switch_entering f g c xs ys (one_more z x y us vs d (no_more t)) = under_tag p q m l f g c (tag_behind x) (tag_behind y) (tag_changed m l gaps x y d)
   switch_entering f g c xs ys (one_more z x y us vs d (one_more t a b os bs e w)) = c
 
-  entering_changed : (k : Kind) → IsRow k → (b : Bool) → has_list k ≡ b → (f g : Frame) → AlongAt p q m l f g → (xs ys : Parts) → ChangedParts m l gaps b xs ys → AlongAt p q m l (entering k xs f) (entering k ys g)
+  entering_changed : (k : Kind) → IsRow k → (b : Bool) → has_list k ≡ b → (f g : Frame) → At f g → (xs ys : Parts) → ChangedParts m l gaps b xs ys → At (entering k xs f) (entering k ys g)
   entering_changed kind.Block w b e f g c xs ys d = c
   entering_changed kind.Default w b e f g c xs ys d = c
   entering_changed kind.Case w b e f g c xs ys d = c
   entering_changed kind.If w b e f g c xs ys d = c
-  entering_changed kind.Switch w b e f g c xs ys d = switch_entering f g c xs ys (subst (λ z. ChangedParts m l gaps z xs ys) (sym e) d)
+  entering_changed kind.Switch w b e f g c xs ys d =
+      (switch_entering f g c.0 xs ys (subst (λ z. ChangedParts m l gaps z xs ys) (sym e) d), switch_kept s xs f c.1, switch_kept t ys g c.2)
   entering_changed kind.For w b e f g c xs ys d = c
   entering_changed k w b e f g c xs ys d = absurd w
 
@@ -189,12 +197,12 @@ module _ (same : StatementsFollow) (p q : ℕ → Bool) (m : Moves) (l : ℕ →
   -- ---- what follows a part
 
   after_changed : (b : Bool) (r s : Reading) (P : Part → Frame → Type 0) → Behindhand r P → (n o : Part → Found → Frame → Readings) → Reads r s
-      → ((x : Part) (gs : Found) (u : Frame) (y : Part) (hs : Found) (v : Frame) → P x u → (AreFree gs → ChangedPart m l gaps (Some x) (Some y) × AreFree hs × AlongAt p q m l u v) → Then b (n x gs u) (o y hs v))
+      → ((x : Part) (gs : Found) (u : Frame) (y : Part) (hs : Found) (v : Frame) → P x u → (AreFree gs → ChangedPart m l gaps (Some x) (Some y) × AreFree hs × At u v) → Then b (n x gs u) (o y hs v))
       → Then b (after r n) (after s o)
   after_changed b (read x gs u) (read y hs v) P t n o e k = k x gs u y hs v t e
 
   one_further : (b : Bool) (xs ys : Parts) (fs gs : Found) (x y : Part) (hs is : Found) (f g u v : Frame) → (AreFree fs → State b xs ys gs f g)
-      → (AreFree hs → ChangedPart m l gaps (Some x) (Some y) × AreFree is × AlongAt p q m l u v) → AreFree (fs ++ hs) → State b (xs ++ Some x ∷ []) (ys ++ Some y ∷ []) (gs ++ is) u v
+      → (AreFree hs → ChangedPart m l gaps (Some x) (Some y) × AreFree is × At u v) → AreFree (fs ++ hs) → State b (xs ++ Some x ∷ []) (ys ++ Some y ∷ []) (gs ++ is) u v
   one_further b xs ys fs gs x y hs is f g u v st k a =
       let s = st (free_front fs hs a) in
       let o = k (free_rest fs hs a) in
@@ -215,19 +223,22 @@ module _ (same : StatementsFollow) (p q : ℕ → Bool) (m : Moves) (l : ℕ →
   gap_further : (n : ℕ) (gap : Gap) → slice_get gaps n ≡ Some gap → (xs ys : Parts) (fs gs : Found) (f g : Frame) → parts_in (run f gap.old) ≡ gap.olds → (AreFree fs → State true xs ys gs f g)
       → AreFree (fs ++ found_in (run f gap.old))
       → State true (xs ++ parts_in (run f gap.old)) (ys ++ parts_in (run g gap.new)) (gs ++ found_in (run g gap.new)) (behind f gap.old) (behind g gap.new)
-  gap_further n gap t xs ys fs gs f g o st a =
+  gap_further n gap e xs ys fs gs f g o st a =
+      let before = (st (free_front fs (found_in (run f gap.old)) a)).2 in
+      let of_old : SaysAs s (behind f gap.old) = behind_kept s f before.1 gap.old in
+      let of_new : SaysAs t (behind g gap.new) = behind_kept t g before.2 gap.new in
       let s = st (free_front fs (found_in (run f gap.old)) a) in
-      let r = (each n gap t).reads f g s.2 o (free_rest fs (found_in (run f gap.old)) a) in
+      let r = (each n gap e).reads f g s.2 o (free_rest fs (found_in (run f gap.old)) a) in
       let ends : (zs : Parts) → zs ++ [] ≡ zs = λ zs. append-nil zs in
       let placed_in : ChangedParts m l gaps true gap.olds gap.news =
-          subst (λ zs. ChangedParts m l gaps true zs gap.news) (ends gap.olds) (subst (λ zs. ChangedParts m l gaps true (gap.olds ++ []) zs) (ends gap.news) (in_place n gap t [] [] (no_more true))) in
+          subst (λ zs. ChangedParts m l gaps true zs gap.news) (ends gap.olds) (subst (λ zs. ChangedParts m l gaps true (gap.olds ++ []) zs) (ends gap.news) (in_place n gap e [] [] (no_more true))) in
       let both : ChangedParts m l gaps true (parts_in (run f gap.old)) (parts_in (run g gap.new)) =
           subst (λ zs. ChangedParts m l gaps true zs (parts_in (run g gap.new))) (sym o) (subst (λ zs. ChangedParts m l gaps true gap.olds zs) (sym r.0) placed_in) in
-      (both_changed m l gaps true xs ys (parts_in (run f gap.old)) (parts_in (run g gap.new)) s.0 both, free_both gs (found_in (run g gap.new)) s.1 r.1, r.2)
+      (both_changed m l gaps true xs ys (parts_in (run f gap.old)) (parts_in (run g gap.new)) s.0 both, free_both gs (found_in (run g gap.new)) s.1 r.1, (r.2, of_old, of_new))
 
   -- ---- nodes over their parts
 
-  closed_reads : (k : Kind) → IsAbove k → (f g : Frame) → AlongAt p q m l f g → (i j : ℕ) (ps qs : Trees) (xs ys : Parts) (fs gs : Found) (u v : Frame) → (AreFree fs → AreFree gs × AlongAt p q m l u v)
+  closed_reads : (k : Kind) → IsAbove k → (f g : Frame) → At f g → (i j : ℕ) (ps qs : Trees) (xs ys : Parts) (fs gs : Found) (u v : Frame) → (AreFree fs → AreFree gs × At u v)
       → (AreFree fs → own_faults u k (form_by k xs) i j (layout u k i xs) ≡ []
           → (own_faults v k (form_by k ys) (m.token i) (m.token j) (layout v k (m.token i) ys) ≡ [])
           × ChangedPart m l gaps (Some (built_by u k (form_by k xs) i j (layout u k i xs) [])) (Some (built_by v k (form_by k ys) (m.token i) (m.token j) (layout v k (m.token i) ys) [])))
@@ -243,8 +254,8 @@ module _ (same : StatementsFollow) (p q : ℕ → Bool) (m : Moves) (l : ℕ →
       let d = core a e in (
         subst (λ es. ChangedPart m l gaps (Some (x es)) (Some (y new))) (sym e) (subst (λ es. ChangedPart m l gaps (Some (x [])) (Some (y es))) (sym d.0) d.1),
         free_both gs (new ∷ []) s.0 (found_nothing new d.0),
-        subst (λ t. AlongAt p q m l t (leaving k (m.token i) qs (y new) (back g v))) (sym (nothing_left k w i ps (x own) (back f u)))
-        (subst (λ t. AlongAt p q m l (back f u) t) (sym (nothing_left k w (m.token i) qs (y new) (back g v))) (back_at p q m l f g u v c s.1)),
+        subst (λ t. At t (leaving k (m.token i) qs (y new) (back g v))) (sym (nothing_left k w i ps (x own) (back f u)))
+        (subst (λ t. At (back f u) t) (sym (nothing_left k w (m.token i) qs (y new) (back g v))) (at_back f g u v c s.1)),
       )
 
   -- ---- nodes with statements in them
@@ -272,13 +283,13 @@ module _ (same : StatementsFollow) (p q : ℕ → Bool) (m : Moves) (l : ℕ →
       (around a.container a.from a.upto a.names a.calls a.new_names a.new_calls a.lists a.olds a.news a.changed))
 
   abbrev ReadsAround : Reading → Reading → Type 0
-  ReadsAround (read x fs f) (read y gs g) = AreFree fs → IsAround x y × AreFree gs × AlongAt p q m l f g
+  ReadsAround (read x fs f) (read y gs g) = AreFree fs → IsAround x y × AreFree gs × At f g
 
   as_read : (r s : Reading) → ReadsAround r s → Reads r s
   as_read (read x fs f) (read y gs g) k = λ free. let o = k free in (around_part x y o.0, o.1, o.2)
 
   -- the same as closed_reads of such nodes
-  closed_around : (k : Kind) → IsAbove k → (f g : Frame) → AlongAt p q m l f g → (i j : ℕ) (ps qs : Trees) (xs ys : Parts) (fs gs : Found) (u v : Frame) → (AreFree fs → AreFree gs × AlongAt p q m l u v)
+  closed_around : (k : Kind) → IsAbove k → (f g : Frame) → At f g → (i j : ℕ) (ps qs : Trees) (xs ys : Parts) (fs gs : Found) (u v : Frame) → (AreFree fs → AreFree gs × At u v)
       → (AreFree fs → own_faults u k (form_by k xs) i j (layout u k i xs) ≡ []
           → (own_faults v k (form_by k ys) (m.token i) (m.token j) (layout v k (m.token i) ys) ≡ [])
           × IsAround (built_by u k (form_by k xs) i j (layout u k i xs) []) (built_by v k (form_by k ys) (m.token i) (m.token j) (layout v k (m.token i) ys) []))
@@ -294,11 +305,11 @@ module _ (same : StatementsFollow) (p q : ℕ → Bool) (m : Moves) (l : ℕ →
       let d = core a e in (
         subst (λ es. IsAround (x es) (y new)) (sym e) (subst (λ es. IsAround (x []) (y es)) (sym d.0) d.1),
         free_both gs (new ∷ []) s.0 (found_nothing new d.0),
-        subst (λ t. AlongAt p q m l t (leaving k (m.token i) qs (y new) (back g v))) (sym (nothing_left k w i ps (x own) (back f u)))
-        (subst (λ t. AlongAt p q m l (back f u) t) (sym (nothing_left k w (m.token i) qs (y new) (back g v))) (back_at p q m l f g u v c s.1)),
+        subst (λ t. At t (leaving k (m.token i) qs (y new) (back g v))) (sym (nothing_left k w i ps (x own) (back f u)))
+        (subst (λ t. At (back f u) t) (sym (nothing_left k w (m.token i) qs (y new) (back g v))) (at_back f g u v c s.1)),
       )
 
-  module _ (u v : Frame) (c : AlongAt p q m l u v) (i j : ℕ) (xs ys : Parts) where
+  module _ (u v : Frame) (c : At u v) (i j : ℕ) (xs ys : Parts) where
     -- of an `if` or a switch, what it gives
     fixed_around : (k : Container) (f : Form) → f ≡ form_in k → (a b d e : Bool) (zs ws : Parts) → ChangedParts m l gaps false zs ws
         → IsAround (typed f i j (quiet a b) (row zs)) (typed f (m.token i) (m.token j) (quiet d e) (row ws))
@@ -345,7 +356,7 @@ module _ (same : StatementsFollow) (p q : ℕ → Bool) (m : Moves) (l : ℕ →
         let o = of_first_loop xs in
         let f = label r sort.Nothing us in
         let ks = loop_takes r us in
-        let start : first_loop_form ys ≡ r = same_form p q m l u v c kind.For tt i j xs ys (hollow m l gaps xs ys w) in
+        let start : first_loop_form ys ≡ r = same_form p q m l u v c.0 kind.For tt i j xs ys (hollow m l gaps xs ys w) in
         subst (λ z. IsAround (built_by u kind.For r i j us []) (built_by v kind.For z (m.token i) (m.token j) vs [])) (sym start)
         (let g = label r sort.Nothing vs in
         subst (λ ls. IsAround (built_by u kind.For r i j us []) (typed r (m.token i) (m.token j) g (row (all_given ls vs)))) (sym (loop_takes_changed m l gaps r us vs d))
@@ -384,12 +395,12 @@ module _ (same : StatementsFollow) (p q : ℕ → Bool) (m : Moves) (l : ℕ →
         let f = label form.Default sort.Nothing xs in
         let g = label form.Default sort.Nothing ys in
         (either_way (is_judged ys) [] refl, list_built a_default form.Default refl true f.varies f.calls g.varies g.calls w)
-    one_node kind.If h w e = (none_fails p q m l u v c kind.If tt i j xs ys (hollow m l gaps xs ys w) e, if_built w)
-    one_node kind.Switch h w e = (none_fails p q m l u v c kind.Switch tt i j xs ys (hollow m l gaps xs ys w) e, switch_built w)
-    one_node kind.For h w e = (none_fails p q m l u v c kind.For tt i j xs ys (hollow m l gaps xs ys w) e, for_built w)
+    one_node kind.If h w e = (none_fails p q m l u v c.0 kind.If tt i j xs ys (hollow m l gaps xs ys w) e, if_built w)
+    one_node kind.Switch h w e = (none_fails p q m l u v c.0 kind.Switch tt i j xs ys (hollow m l gaps xs ys w) e, switch_built w)
+    one_node kind.For h w e = (none_fails p q m l u v c.0 kind.For tt i j xs ys (hollow m l gaps xs ys w) e, for_built w)
     one_node k h w e = absurd h
 
-  node_around : (k : Kind) → HasInside k → (f g : Frame) → AlongAt p q m l f g → (i j : ℕ) (ps qs : Trees) (r s : Readings) → Then (has_list k) r s
+  node_around : (k : Kind) → HasInside k → (f g : Frame) → At f g → (i j : ℕ) (ps qs : Trees) (r s : Readings) → Then (has_list k) r s
       → ReadsAround (closed f k i j ps r) (closed g k (m.token i) (m.token j) qs s)
   node_around k w f g c i j ps qs (all_read xs fs u) (all_read ys gs v) t =
       closed_around k (above_inside k w) f g c i j ps qs xs ys fs gs u v (λ a. let s = t a in (s.1, s.2)) (λ a. let s = t a in one_node u v s.2 i j xs ys k w s.0)
@@ -407,7 +418,7 @@ module _ (same : StatementsFollow) (p q : ℕ → Bool) (m : Moves) (l : ℕ →
   abbrev over : Frame → ℕ → ℕ → Tree → Reading → Reading
   over s n k t r = closed s kind.Else n k (more t none) (after r (λ z gs u. all_read (Some z ∷ []) gs u))
 
-  else_reads : (f g : Frame) → AlongAt p q m l f g → (h : Hint) (i j : ℕ) (x y : Tree) → ReadsAround (reading f value x) (reading g value y)
+  else_reads : (f g : Frame) → At f g → (h : Hint) (i j : ℕ) (x y : Tree) → ReadsAround (reading f value x) (reading g value y)
       → Reads (reading f h (node kind.Else i j (more x none))) (reading g h (node kind.Else (m.token i) (m.token j) (more y none)))
   else_reads f g c h i j x y = by (reading f value x) (reading g value y)
     where
@@ -423,7 +434,7 @@ module _ (same : StatementsFollow) (p q : ℕ → Bool) (m : Moves) (l : ℕ →
   stand : (n : ℕ) (gap : Gap) → slice_get gaps n ≡ Some gap → AreStatementParts gap.olds × AreStatementParts gap.news
   stand n gap e = ((each n gap e).olds_stand, (each n gap e).news_stand)
 
-  case_reads : (f g : Frame) → AlongAt p q m l f g → (i j a b : ℕ) (vs : Trees) → AreWhole vs → KeepAt p q m (node kind.ExpressionList a b vs) → (h : Hint) (ps qs : Trees) → Then true (run f ps) (run g qs)
+  case_reads : (f g : Frame) → At f g → (i j a b : ℕ) (vs : Trees) → AreWhole vs → KeepAt p q m (node kind.ExpressionList a b vs) → (h : Hint) (ps qs : Trees) → Then true (run f ps) (run g qs)
       → Reads (reading f h (node kind.Case i j (more (node kind.ExpressionList a b vs) ps))) (reading g h (node kind.Case (m.token i) (m.token j) (more (carry m.token (node kind.ExpressionList a b vs)) qs)))
   case_reads f g c i j a b vs there keep h ps qs t =
       let list = node kind.ExpressionList a b vs in
@@ -434,7 +445,7 @@ module _ (same : StatementsFollow) (p q : ℕ → Bool) (m : Moves) (l : ℕ →
       let ys = held_faults g value moved in
       let all = more list ps in
       let new = more moved qs in
-      let read_at : AlongReadingsAt p q m l (read x xs f) (read y ys g) = reading_at same p q m l f g c value list keep in
+      let read_at : AlongReadingsAt p q m l (read x xs f) (read y ys g) = reading_at same p q m l f g c.0 value list keep in
       subst (λ r. Reads (closed f kind.Case i j all r) (reading g h (node kind.Case (m.token i) (m.token j) new))) (sym (list_read kind.Case tt f h all (Some x ∷ []) xs ps))
       (subst (λ s. Reads (closed f kind.Case i j all (fronted (Some x ∷ []) xs (run f ps))) (closed g kind.Case (m.token i) (m.token j) new s)) (sym (list_read kind.Case tt g h new (Some y ∷ []) ys qs))
       (by (run f ps) (run g qs) t x xs y ys read_at (values_there f a b vs there)))
@@ -447,15 +458,15 @@ module _ (same : StatementsFollow) (p q : ℕ → Bool) (m : Moves) (l : ℕ →
           (closed_reads kind.Case tt f g c i j (more (node kind.ExpressionList a b vs) ps) (more (carry m.token (node kind.ExpressionList a b vs)) qs) (Some x ∷ rs) (Some (placed m x) ∷ ss) (xs ++ fs) (ys ++ gs) u v
           (λ free. let o = t (free_rest xs fs free) in (free_both ys gs (subst AreFree (sym e.1) (free_placed m xs (free_front xs fs free))) o.1, o.2))
           (λ free d. let o = t (free_rest xs fs free) in (
-            none_fails_in_case m l gaps stand p q u v o.2 i j x e.3 there rs ss o.0 d,
-            case_built m l gaps stand p q u v o.2 i j x e.3 there rs ss o.0,
+            none_fails_in_case m l gaps stand p q u v o.2.0 i j x e.3 there rs ss o.0 d,
+            case_built m l gaps stand p q u v o.2.0 i j x e.3 there rs ss o.0,
           )))
 
   -- ---- a part of a row, and what is left
 
   next_read : (k : Kind) (w : IsRow k) (z : Bool) (e : has_list k ≡ z) (f g : Frame) (h : Hint) (all new : Trees) (xs ys : Parts) (fs gs : Found) (st : AreFree fs → State z xs ys gs f g) (x y : Tree) (os bs : Trees)
-      (P : Part → Frame → Type 0) → Behindhand (reading (entering k xs f) value x) P → (AlongAt p q m l (entering k xs f) (entering k ys g) → Reads (reading (entering k xs f) value x) (reading (entering k ys g) value y))
-      → ((r : Part) (hs : Found) (u : Frame) (v : Part) (js : Found) (t : Frame) → P r u → (AreFree hs → ChangedPart m l gaps (Some r) (Some v) × AreFree js × AlongAt p q m l u t)
+      (P : Part → Frame → Type 0) → Behindhand (reading (entering k xs f) value x) P → (At (entering k xs f) (entering k ys g) → Reads (reading (entering k xs f) value x) (reading (entering k ys g) value y))
+      → ((r : Part) (hs : Found) (u : Frame) (v : Part) (js : Found) (t : Frame) → P r u → (AreFree hs → ChangedPart m l gaps (Some r) (Some v) × AreFree js × At u t)
           → Then z (readings u k h all (xs ++ Some r ∷ []) (fs ++ hs) os) (readings t k h new (ys ++ Some v ∷ []) (gs ++ js) bs))
       → AreFree fs ⊎ (AreFree fs → ⊥) → Then z (readings f k h all xs fs (more x os)) (readings g k h new ys gs (more y bs))
   next_read k w z e f g h all new xs ys fs gs st x y os bs P past here follows (inr never) =
@@ -472,7 +483,7 @@ module _ (same : StatementsFollow) (p q : ℕ → Bool) (m : Moves) (l : ℕ →
 
   -- ---- trees
 
-  inside_read : (f g : Frame) → AlongAt p q m l f g → (h : Hint) (k : Kind) (w : HasInside k) (i j : ℕ) (ps qs : Trees) → Then (has_list k) (readings f k h ps [] [] ps) (readings g k h qs [] [] qs)
+  inside_read : (f g : Frame) → At f g → (h : Hint) (k : Kind) (w : HasInside k) (i j : ℕ) (ps qs : Trees) → Then (has_list k) (readings f k h ps [] [] ps) (readings g k h qs [] [] qs)
       → ReadsAround (reading f h (node k i j ps)) (reading g h (node k (m.token i) (m.token j) qs))
   inside_read f g c h k w i j ps qs t =
       subst (λ r. ReadsAround r (reading g h (node k (m.token i) (m.token j) qs))) (sym (opened k w f h i j ps))
@@ -480,8 +491,9 @@ module _ (same : StatementsFollow) (p q : ℕ → Bool) (m : Moves) (l : ℕ →
       (node_around k w f g c i j ps qs (readings f k h ps [] [] ps) (readings g k h qs [] [] qs) t))
 
   mutual
-    pub changed_read : (f g : Frame) → AlongAt p q m l f g → (h : Hint) (x y : Tree) (d : Changed p q m gaps x y) → OldsRead p q m gaps f x y d → Reads (reading f h x) (reading g h y)
-    changed_read f g c h x y (whole z keep) o = whole_read (reading f h z) (reading g h (carry m.token z)) (reading_at same p q m l f g c h z keep)
+    pub changed_read : (f g : Frame) → At f g → (h : Hint) (x y : Tree) (d : Changed p q m gaps x y) → OldsRead p q m gaps f x y d → Reads (reading f h x) (reading g h y)
+    changed_read f g c h x y (whole z keep) o = 
+        whole_read (reading f h z) (reading g h (carry m.token z)) (reading_kept s f c.1 h z) (reading_kept t g c.2 h (carry m.token z)) (reading_at same p q m l f g c.0 h z keep)
     changed_read f g c h x y (inside k w i j ps qs d) o =
         as_read (reading f h (node k i j ps)) (reading g h (node k (m.token i) (m.token j) qs)) (inside_read f g c h k w i j ps qs
         (all_changed k (row_inside k w) (has_list k) refl f g h ps qs [] [] [] [] (λ free. (no_more (has_list k), tt, c)) ps qs d o))
@@ -506,3 +518,7 @@ module _ (same : StatementsFollow) (p q : ℕ → Bool) (m : Moves) (l : ℕ →
         next_read k w z e f g h all new xs ys fs gs st x y os bs (λ r t. AllOldsRead p q m gaps t k (xs ++ Some r ∷ []) z os bs d) o.1
         (λ at. changed_read (entering k xs f) (entering k ys g) at value x y c o.0)
         (λ r hs u v js t past i. all_changed k w z e u t h all new (xs ++ Some r ∷ []) (ys ++ Some v ∷ []) (fs ++ hs) (gs ++ js) (one_further z xs ys fs gs r v hs js f g u t st i) os bs d past) (free_or_not fs)
+
+  -- what frames say around the function aside
+  pub forgotten : (r w : Reading) → Reads r w → ChangedReadings p q m l gaps r w
+  forgotten (read x fs f) (read y gs g) k = λ free. let o = k free in (o.0, o.1, o.2.0)

@@ -11,7 +11,8 @@ use Rattle.go_typed.specs.Contents.{FuncContent}
 use Rattle.go_typed.specs.Trees.{typed, Typeds, row, form_of, sort_of}
 use Rattle.go_typed.specs.Trees as sort
 use Rattle.go_exprs_rules.specs.declared.fault.TypeFault.{TypeFault}
-use Rattle.go_exprs_rules.specs.Scopes.{Scope, value}
+use Rattle.go_tree.specs.declared.object.Object.{Object}
+use Rattle.go_exprs_rules.specs.Scopes.{Needed, Scope, value}
 use Rattle.go_exprs_rules.specs.Settling.{Part}
 use Rattle.go_exprs_rules.specs.Sorts.{is_unknown}
 use Rattle.go_exprs_rules.specs.Tables.{Parts, is_held}
@@ -52,16 +53,30 @@ pub record Gap : Type 0 where
   pub olds : Parts
   pub news : Parts
 
+-- The tokens and the objects of a frame say and mean what they do around the function.
+pub record SaysAs (s : Scope) (f : Frame) : Type 0 where
+  pub texts : (i : ℕ) → f.around.texts i ≡ s.texts i
+  pub characters : (i : ℕ) → f.around.characters i ≡ s.characters i
+  pub objects : (i : ℕ) → f.around.objects i ≡ s.objects i
+  pub sorts : (n : Needed) (o : Object) → f.around.sorts n o ≡ s.sorts n o
+  pub referents : (n : ℕ) → f.around.referents n ≡ s.referents n
+  pub needed : f.around.needed ≡ s.needed
+  pub limits : f.around.limits ≡ s.limits
+
+-- Frames of the function in the scope s and of the one in the scope t, related at their tokens.
+abbrev pub Related : (ℕ → Bool) → (ℕ → Bool) → Moves → (ℕ → Bool) → Scope → Scope → Frame → Frame → Type 0
+Related p q m l s t f g = AlongAt p q m l f g × SaysAs s f × SaysAs t g
+
 -- Where the old statements are read to be what the gap says and no rule fails in them, so are the new ones in each related frame, and
 -- behind them the frames are related again.
-pub record TakesThePlace (p q : ℕ → Bool) (m : Moves) (l : ℕ → Bool) (gap : Gap) : Type 0 where
-  pub reads : (f g : Frame) → AlongAt p q m l f g → parts_in (run f gap.old) ≡ gap.olds → AreFree (found_in (run f gap.old)) →
+pub record TakesThePlace (p q : ℕ → Bool) (m : Moves) (l : ℕ → Bool) (s t : Scope) (gap : Gap) : Type 0 where
+  pub reads : (f g : Frame) → Related p q m l s t f g → parts_in (run f gap.old) ≡ gap.olds → AreFree (found_in (run f gap.old)) →
       (parts_in (run g gap.new) ≡ gap.news) × AreFree (found_in (run g gap.new)) × AlongAt p q m l (behind f gap.old) (behind g gap.new)
   pub olds_stand : AreStatementParts gap.olds
   pub news_stand : AreStatementParts gap.news
 
-abbrev pub EachTakesItsPlace : (ℕ → Bool) → (ℕ → Bool) → Moves → (ℕ → Bool) → List Gap → Type 0
-EachTakesItsPlace p q m l gaps = (n : ℕ) (gap : Gap) → slice_get gaps n ≡ Some gap → TakesThePlace p q m l gap
+abbrev pub EachTakesItsPlace : (ℕ → Bool) → (ℕ → Bool) → Moves → (ℕ → Bool) → Scope → Scope → List Gap → Type 0
+EachTakesItsPlace p q m l s t gaps = (n : ℕ) (gap : Gap) → slice_get gaps n ≡ Some gap → TakesThePlace p q m l s t gap
 
 -- ---- trees
 

@@ -17,7 +17,7 @@ ghost use Rattle.go_stmts_elsewhere.specs.Frames.{AlongFrames, AlongReadings, Ke
 ghost use Rattle.go_stmts_elsewhere.specs.Functions.{AlongFunctions, LocalsStand, Numbered, NumberedFunctions, only_objects, stays};
 ghost use Rattle.go_stmts_elsewhere.specs.Gaps.{GapRead, ListsAreReadAlone, behind};
 ghost use Rattle.go_stmts_elsewhere.specs.Marked.{AlongAt, AlongReadingsAt, AllKeepAt, KeepAt, RelatedAt, SameReadingsAt};
-ghost use Rattle.go_stmts_elsewhere.specs.Replaced.{Changed, ChangedFunctions, ChangedReadings, EachTakesItsPlace, Gap, OldsRead, StaysTerminating, function_tree, inside_function};
+ghost use Rattle.go_stmts_elsewhere.specs.Replaced.{Changed, ChangedFunctions, ChangedReadings, EachTakesItsPlace, Gap, OldsRead, Related, StaysTerminating, function_tree, inside_function};
 ghost use Rattle.go_stmts_elsewhere.specs.Worked.{WorkedGaps};
 
 use go_package_alike::laws::{expressions_follow_from_their_tokens, statements_follow_from_their_tokens};
@@ -112,8 +112,8 @@ pub fn functions_end()
 /// A statement in which other statements take the place of some, in lists of any depth, is read as what it was with these in their place:
 /// no rule fails that didn't, and the frames behind it are related again, given that each run leads from related frames to related frames.
 pub fn statements_are_read_around_gaps()
-    ensures { (p q : ℕ → Bool) (m : Moves) (l : ℕ → Bool) (gaps : List Gap) (f g : Frame) (h : Hint) (x y : Tree) (d : Changed p q m gaps x y) →
-        EachTakesItsPlace p q m l gaps → AlongAt p q m l f g → OldsRead p q m gaps f x y d → ChangedReadings p q m l gaps (reading f h x) (reading g h y) }
+    ensures { (p q : ℕ → Bool) (m : Moves) (l : ℕ → Bool) (s t : Scope) (gaps : List Gap) (f g : Frame) (h : Hint) (x y : Tree) (d : Changed p q m gaps x y) →
+        EachTakesItsPlace p q m l s t gaps → Related p q m l s t f g → OldsRead p q m gaps f x y d → ChangedReadings p q m l gaps (reading f h x) (reading g h y) }
 {
     statements_follow_from_their_tokens();
 }
@@ -123,7 +123,7 @@ pub fn statements_are_read_around_gaps()
 pub fn functions_are_typed_around_gaps()
     ensures { (p q : ℕ → Bool) (m : Moves) (l : ℕ → Bool) (gaps : List Gap) (s t : Scope) (count other : ℕ) (types others : ℕ → ℕ) (old number a b i j n k : ℕ) (gs ts us : Trees)
         (d : Changed p q m gaps (node kind.Block n k ts) (node kind.Block (m.token n) (m.token k) us)) →
-        EachTakesItsPlace p q m l gaps → RelatedAt p q m l (start s count types) (start t other others) → LocalsStand s t → KeepAt p q m (node kind.Signature a b gs) →
+        EachTakesItsPlace p q m l s t gaps → RelatedAt p q m l (start s count types) (start t other others) → LocalsStand s t → KeepAt p q m (node kind.Signature a b gs) →
         OldsRead p q m gaps (inside_function s count types (node kind.Signature a b gs)) (node kind.Block n k ts) (node kind.Block (m.token n) (m.token k) us) d →
         StaysTerminating m l gaps (inside_function s count types (node kind.Signature a b gs)) (node kind.Block n k ts) →
         ChangedFunctions p q m l gaps j number (function_in s old count types (function_tree i j (node kind.Signature a b gs) (node kind.Block n k ts)))
