@@ -1,0 +1,6 @@
+mod Itself
+mod Named
+mod Arguments
+mod Called
+mod Assigned
+mod Declared
