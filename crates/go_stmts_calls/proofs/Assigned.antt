@@ -203,7 +203,7 @@ module _ (itself : (t : TypeTree) → is_identical t t ≡ true) (literals : Lit
   results_given i j ps t (more u us) xs c e n k =
       ap (λ z. assignment_by (rights_of g) i j (map target_type xs) (c ∷ []) (called_results (rights_of g) z)) e
       ∙ ap (λ b. if b then results_unassigned (rights_of g) c (map target_type xs) (types_in (more t (more u us))) else fault_at code.Count i j)
-          (eq-eqb (length (map target_type xs)) (length (types_in (more t (more u us)))) (wanted_many xs ∙ n))
+      (eq-eqb (length (map target_type xs)) (length (types_in (more t (more u us)))) (wanted_many xs ∙ n))
       ∙ k c
 
   abbrev somes : List Part → Parts
@@ -353,10 +353,10 @@ module _ (itself : (t : TypeTree) → is_identical t t ≡ true) (literals : Lit
     all_clear =
         free_both (held_faults g free targets ++ held_faults g several values) (own_of held_targets before ∷ [])
         (free_both (held_faults g free targets) (held_faults g several values)
-          (free_both (held_faults g target list) []
-            (free_both (faults (scope_of g) target (name_at i)) (all_held_faults g kind.ExpressionList target names (Some (typing (scope_of g) target (name_at i)) ∷ []) (names_behind (suc i) xs))
-              (targets_free g i t w.0) (names_clear target names (suc i) xs ts w.1 (Some (typing (scope_of g) target (name_at i)) ∷ []))) tt)
-          (free_both (faults (scope_of g) several call) [] (call_clear itself literals g several (suc m) number gs ps (more t ts) w.2 w.3 (placed_well ts)) tt))
+        (free_both (held_faults g target list) []
+        (free_both (faults (scope_of g) target (name_at i)) (all_held_faults g kind.ExpressionList target names (Some (typing (scope_of g) target (name_at i)) ∷ []) (names_behind (suc i) xs))
+        (targets_free g i t w.0) (names_clear target names (suc i) xs ts w.1 (Some (typing (scope_of g) target (name_at i)) ∷ []))) tt)
+        (free_both (faults (scope_of g) several call) [] (call_clear itself literals g several (suc m) number gs ps (more t ts) w.2 w.3 (placed_well ts)) tt))
         (one_free (own_of held_targets before) own_none_there)
 
     pub assignment_read : IsStatement g (statement_tree i (x ∷ xs) gs) (statement_part g i (x ∷ xs) number gs ps (more t ts) w)

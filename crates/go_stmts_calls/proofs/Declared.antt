@@ -147,9 +147,9 @@ module _ (g : Frame) (i n : ℕ) (t : TypeTree) where
       ap (λ zs. laid (Some (name sort.Nothing) ∷ first_cut zs) fs) (one_type f a b l ps e)
       ∙ ap (λ z. laid (Some (name sort.Nothing) ∷ (if is_type z then Some rest else Some (typed f a b l ps)) ∷ []) fs) d
       ∙ ap (λ es. let x : Part = built_by g (kind.Specification declaring.Variable) (form.Specified 1) (suc i) j ys es in
-          read x (fs ++ es ∷ []) (leaving (kind.Specification declaring.Variable) (suc i) (trees.more (names_at (suc i)) (trees.more written trees.none)) x (back g g))) none
+      read x (fs ++ es ∷ []) (leaving (kind.Specification declaring.Variable) (suc i) (trees.more (names_at (suc i)) (trees.more written trees.none)) x (back g g))) none
       ∙ ap (λ o. let x : Part = made (form.Specified 1) (suc i) j sort.Nothing ys (Some (name (variable o)) ∷ Some rest ∷ []) in
-          read x (fs ++ [] ∷ []) (leaving (kind.Specification declaring.Variable) (suc i) (trees.more (names_at (suc i)) (trees.more written trees.none)) x (back g g))) (ap named_type d)
+      read x (fs ++ [] ∷ []) (leaving (kind.Specification declaring.Variable) (suc i) (trees.more (names_at (suc i)) (trees.more written trees.none)) x (back g g))) (ap named_type d)
 
   -- ---- the declaration
 
@@ -179,7 +179,7 @@ module _ (g : Frame) (i n : ℕ) (t : TypeTree) where
     declaration_read h =
         ap (λ r. closed g (kind.Declaration declaring.Variable) i j (trees.more specification trees.none) (after r (λ x gs u. all_read (Some x ∷ []) gs u))) (specification_read value)
         ∙ ap (λ es. read (built_by (with_local n (sort.Value t) g) (kind.Declaration declaring.Variable) form.Variables i j (Some (of_specification (leaf of_type)) ∷ []) es) ((fs ++ [] ∷ []) ++ declaration_own ∷ []) (with_local n (sort.Value t) g))
-          (either_way (is_judged (Some (of_specification (leaf of_type)) ∷ [])) [] refl)
+        (either_way (is_judged (Some (of_specification (leaf of_type)) ∷ [])) [] refl)
 
     pub declaration_clear : AreFree all_found
     declaration_clear =

@@ -24,7 +24,7 @@ use Rattle.go_stmts_elsewhere.proofs.Numbered.{carried, spelling, keeps_places}
 
 -- ---- nothing is moved
 
-referent_stays : (r : Referent) → referent_moved stays r ≡ r
+pub referent_stays : (r : Referent) → referent_moved stays r ≡ r
 referent_stays (referent.Constant n) = refl
 referent_stays r = refl
 

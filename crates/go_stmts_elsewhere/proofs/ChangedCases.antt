@@ -159,8 +159,8 @@ module _ (m : Moves) (l : ℕ → Bool) (gaps : List Gap) (stand : (n : ℕ) (g 
         own_case v (m.token i) (m.token j) y there ss
         ∙ ap (λ b. either b (of_case v (held_count (Some y)) (m.token i) (m.token j) (Some y ∷ []))) lost
         ∙ by_lost (list_any is_lost (all_held rs)) (of_case u (held_count (Some x)) i j (Some x ∷ [])) (of_case v (held_count (Some y)) (m.token i) (m.token j) (Some y ∷ []))
-          (none_fails p q m l u v c kind.Case tt i j (Some x ∷ []) (Some y ∷ []) (hollow m l gaps (Some x ∷ []) (Some y ∷ []) (one_changed m l gaps false (Some x) (Some y) (stays x named))))
-          (sym (own_case u i j x a rs) ∙ e)
+        (none_fails p q m l u v c kind.Case tt i j (Some x ∷ []) (Some y ∷ []) (hollow m l gaps (Some x ∷ []) (Some y ∷ []) (one_changed m l gaps false (Some x) (Some y) (stays x named))))
+        (sym (own_case u i j x a rs) ∙ e)
 
     abbrev taken : Frame → Taking
     taken s = type_or_default (own_type s.tag)

@@ -155,8 +155,8 @@ module _ (p q : ℕ → Bool) (m : Moves) (l : ℕ → Bool) (a b : Frame) (c : 
   pub none_fails : own_faults a k (form_by k xs) i j (layout a k i xs) ≡ [] → own_faults b k (form_by k ys) (m.token i) (m.token j) (layout b k (m.token i) ys) ≡ []
   none_fails e =
       let start : of_frame c.old (form_by k h.middle) i j h.middle ≡ [] =
-          other_frame a c.old (sym c.old_same.around.rights) (sym c.old_same.tag) (form_by k h.middle) i j h.middle
-          ∙ ap (λ f. of_frame a f i j h.middle) old_side.formed ∙ old_side.failing ∙ e in
+      other_frame a c.old (sym c.old_same.around.rights) (sym c.old_same.tag) (form_by k h.middle) i j h.middle
+      ∙ ap (λ f. of_frame a f i j h.middle) old_side.formed ∙ old_side.failing ∙ e in
       ap (λ f. of_frame b f (m.token i) (m.token j) ys) new_side.formed
       ∙ new_side.failing
       ∙ other_frame c.new b c.new_same.around.rights c.new_same.tag (form_by k (parts m h.middle)) (m.token i) (m.token j) (parts m h.middle)

@@ -15,6 +15,7 @@ mod Marked
 mod Cutting
 mod Clauses
 mod Alone
+mod Reached
 mod Ends
 mod Worked
 mod Above

@@ -150,10 +150,10 @@ module _ (same : StatementsFollow) (typed_same : ExpressionsFollow) (p q : ℕ �
         let none : own ≡ [] = nothing_found own (free_rest body (own ∷ []) free) in
         let same_results : v.results ≡ within.results = results_at p q m l u v o.2 ∙ results in
         let none_new : new ≡ [] =
-            ap (λ rs. if is_judged (Some y ∷ []) then function_failing rs (m.token j) y else []) same_results
-            ∙ none_missing (is_judged (Some x ∷ [])) (is_judged (Some y ∷ [])) (has_results within.results) (terminates x) (terminates y) (fault_at code.MissingReturn (j - 1) j)
-              (fault_at code.MissingReturn (m.token j - 1) (m.token j)) (λ z. let h = z in cc) judges
-              (sym (ap (λ rs. if is_judged (Some x ∷ []) then function_failing rs j x else []) results) ∙ none) (λ r z. ends r y o.0 z) in
+        ap (λ rs. if is_judged (Some y ∷ []) then function_failing rs (m.token j) y else []) same_results
+        ∙ none_missing (is_judged (Some x ∷ [])) (is_judged (Some y ∷ [])) (has_results within.results) (terminates x) (terminates y) (fault_at code.MissingReturn (j - 1) j)
+        (fault_at code.MissingReturn (m.token j - 1) (m.token j)) (λ z. let h = z in cc) judges
+        (sym (ap (λ rs. if is_judged (Some x ∷ []) then function_failing rs j x else []) results) ∙ none) (λ r z. ends r y o.0 z) in
         let old_label = label form.Function sort.Nothing (Some x ∷ []) in
         let new_label = label form.Function sort.Nothing (Some y ∷ []) in (
           record {

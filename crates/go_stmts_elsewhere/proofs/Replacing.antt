@@ -231,17 +231,17 @@ module _ (same : StatementsFollow) (p q : ℕ → Bool) (m : Moves) (l : ℕ →
       let r = (each n gap e).reads f g s.2 o (free_rest fs (found_in (run f gap.old)) a) in
       let ends : (zs : Parts) → zs ++ [] ≡ zs = λ zs. append-nil zs in
       let placed_in : ChangedParts m l gaps true gap.olds gap.news =
-          subst (λ zs. ChangedParts m l gaps true zs gap.news) (ends gap.olds) (subst (λ zs. ChangedParts m l gaps true (gap.olds ++ []) zs) (ends gap.news) (in_place n gap e [] [] (no_more true))) in
+      subst (λ zs. ChangedParts m l gaps true zs gap.news) (ends gap.olds) (subst (λ zs. ChangedParts m l gaps true (gap.olds ++ []) zs) (ends gap.news) (in_place n gap e [] [] (no_more true))) in
       let both : ChangedParts m l gaps true (parts_in (run f gap.old)) (parts_in (run g gap.new)) =
-          subst (λ zs. ChangedParts m l gaps true zs (parts_in (run g gap.new))) (sym o) (subst (λ zs. ChangedParts m l gaps true gap.olds zs) (sym r.0) placed_in) in
+      subst (λ zs. ChangedParts m l gaps true zs (parts_in (run g gap.new))) (sym o) (subst (λ zs. ChangedParts m l gaps true gap.olds zs) (sym r.0) placed_in) in
       (both_changed m l gaps true xs ys (parts_in (run f gap.old)) (parts_in (run g gap.new)) s.0 both, free_both gs (found_in (run g gap.new)) s.1 r.1, (r.2, of_old, of_new))
 
   -- ---- nodes over their parts
 
   closed_reads : (k : Kind) → IsAbove k → (f g : Frame) → At f g → (i j : ℕ) (ps qs : Trees) (xs ys : Parts) (fs gs : Found) (u v : Frame) → (AreFree fs → AreFree gs × At u v)
       → (AreFree fs → own_faults u k (form_by k xs) i j (layout u k i xs) ≡ []
-          → (own_faults v k (form_by k ys) (m.token i) (m.token j) (layout v k (m.token i) ys) ≡ [])
-          × ChangedPart m l gaps (Some (built_by u k (form_by k xs) i j (layout u k i xs) [])) (Some (built_by v k (form_by k ys) (m.token i) (m.token j) (layout v k (m.token i) ys) [])))
+      → (own_faults v k (form_by k ys) (m.token i) (m.token j) (layout v k (m.token i) ys) ≡ [])
+      × ChangedPart m l gaps (Some (built_by u k (form_by k xs) i j (layout u k i xs) [])) (Some (built_by v k (form_by k ys) (m.token i) (m.token j) (layout v k (m.token i) ys) [])))
       → Reads (closed f k i j ps (all_read xs fs u)) (closed g k (m.token i) (m.token j) qs (all_read ys gs v))
   closed_reads k w f g c i j ps qs xs ys fs gs u v st core free =
       let own = own_faults u k (form_by k xs) i j (layout u k i xs) in
@@ -255,7 +255,7 @@ module _ (same : StatementsFollow) (p q : ℕ → Bool) (m : Moves) (l : ℕ →
         subst (λ es. ChangedPart m l gaps (Some (x es)) (Some (y new))) (sym e) (subst (λ es. ChangedPart m l gaps (Some (x [])) (Some (y es))) (sym d.0) d.1),
         free_both gs (new ∷ []) s.0 (found_nothing new d.0),
         subst (λ t. At t (leaving k (m.token i) qs (y new) (back g v))) (sym (nothing_left k w i ps (x own) (back f u)))
-        (subst (λ t. At (back f u) t) (sym (nothing_left k w (m.token i) qs (y new) (back g v))) (at_back f g u v c s.1)),
+            (subst (λ t. At (back f u) t) (sym (nothing_left k w (m.token i) qs (y new) (back g v))) (at_back f g u v c s.1)),
       )
 
   -- ---- nodes with statements in them
@@ -291,8 +291,8 @@ module _ (same : StatementsFollow) (p q : ℕ → Bool) (m : Moves) (l : ℕ →
   -- the same as closed_reads of such nodes
   closed_around : (k : Kind) → IsAbove k → (f g : Frame) → At f g → (i j : ℕ) (ps qs : Trees) (xs ys : Parts) (fs gs : Found) (u v : Frame) → (AreFree fs → AreFree gs × At u v)
       → (AreFree fs → own_faults u k (form_by k xs) i j (layout u k i xs) ≡ []
-          → (own_faults v k (form_by k ys) (m.token i) (m.token j) (layout v k (m.token i) ys) ≡ [])
-          × IsAround (built_by u k (form_by k xs) i j (layout u k i xs) []) (built_by v k (form_by k ys) (m.token i) (m.token j) (layout v k (m.token i) ys) []))
+      → (own_faults v k (form_by k ys) (m.token i) (m.token j) (layout v k (m.token i) ys) ≡ [])
+      × IsAround (built_by u k (form_by k xs) i j (layout u k i xs) []) (built_by v k (form_by k ys) (m.token i) (m.token j) (layout v k (m.token i) ys) []))
       → ReadsAround (closed f k i j ps (all_read xs fs u)) (closed g k (m.token i) (m.token j) qs (all_read ys gs v))
   closed_around k w f g c i j ps qs xs ys fs gs u v st core free =
       let own = own_faults u k (form_by k xs) i j (layout u k i xs) in
@@ -306,7 +306,7 @@ module _ (same : StatementsFollow) (p q : ℕ → Bool) (m : Moves) (l : ℕ →
         subst (λ es. IsAround (x es) (y new)) (sym e) (subst (λ es. IsAround (x []) (y es)) (sym d.0) d.1),
         free_both gs (new ∷ []) s.0 (found_nothing new d.0),
         subst (λ t. At t (leaving k (m.token i) qs (y new) (back g v))) (sym (nothing_left k w i ps (x own) (back f u)))
-        (subst (λ t. At (back f u) t) (sym (nothing_left k w (m.token i) qs (y new) (back g v))) (at_back f g u v c s.1)),
+            (subst (λ t. At (back f u) t) (sym (nothing_left k w (m.token i) qs (y new) (back g v))) (at_back f g u v c s.1)),
       )
 
   module _ (u v : Frame) (c : At u v) (i j : ℕ) (xs ys : Parts) where
@@ -412,7 +412,7 @@ module _ (same : StatementsFollow) (p q : ℕ → Bool) (m : Moves) (l : ℕ →
   else_part i j a b d e x y o =
       subst (λ z. ChangedPart m l gaps (Some (typed (form.Held kind.Else) i j (quiet a b) (sort.more z sort.none))) (Some (typed (form.Held kind.Else) (m.token i) (m.token j) (quiet d e) (sort.more y sort.none)))) (sym o.old_is)
       (subst (λ z. ChangedPart m l gaps (Some (typed (form.Held kind.Else) i j (quiet a b) (sort.more (typed (form_in o.container) o.from o.upto (quiet o.names o.calls) (row o.olds)) sort.none)))
-          (Some (typed (form.Held kind.Else) (m.token i) (m.token j) (quiet d e) (sort.more z sort.none)))) (sym o.new_is)
+      (Some (typed (form.Held kind.Else) (m.token i) (m.token j) (quiet d e) (sort.more z sort.none)))) (sym o.new_is)
       (around_else o.container i j o.from o.upto a b o.names o.calls d e o.new_names o.new_calls o.lists o.olds o.news o.changed))
 
   abbrev over : Frame → ℕ → ℕ → Tree → Reading → Reading
@@ -454,7 +454,7 @@ module _ (same : StatementsFollow) (p q : ℕ → Bool) (m : Moves) (l : ℕ →
           → Reads (closed f kind.Case i j (more (node kind.ExpressionList a b vs) ps) (fronted (Some x ∷ []) xs r)) (closed g kind.Case (m.token i) (m.token j) (more (carry m.token (node kind.ExpressionList a b vs)) qs) (fronted (Some y ∷ []) ys s))
       by (all_read rs fs u) (all_read ss gs v) t x xs y ys e there =
           subst (λ z. Reads (closed f kind.Case i j (more (node kind.ExpressionList a b vs) ps) (all_read (Some x ∷ rs) (xs ++ fs) u))
-              (closed g kind.Case (m.token i) (m.token j) (more (carry m.token (node kind.ExpressionList a b vs)) qs) (all_read (Some z ∷ ss) (ys ++ gs) v))) (sym e.0)
+          (closed g kind.Case (m.token i) (m.token j) (more (carry m.token (node kind.ExpressionList a b vs)) qs) (all_read (Some z ∷ ss) (ys ++ gs) v))) (sym e.0)
           (closed_reads kind.Case tt f g c i j (more (node kind.ExpressionList a b vs) ps) (more (carry m.token (node kind.ExpressionList a b vs)) qs) (Some x ∷ rs) (Some (placed m x) ∷ ss) (xs ++ fs) (ys ++ gs) u v
           (λ free. let o = t (free_rest xs fs free) in (free_both ys gs (subst AreFree (sym e.1) (free_placed m xs (free_front xs fs free))) o.1, o.2))
           (λ free d. let o = t (free_rest xs fs free) in (
@@ -467,7 +467,7 @@ module _ (same : StatementsFollow) (p q : ℕ → Bool) (m : Moves) (l : ℕ →
   next_read : (k : Kind) (w : IsRow k) (z : Bool) (e : has_list k ≡ z) (f g : Frame) (h : Hint) (all new : Trees) (xs ys : Parts) (fs gs : Found) (st : AreFree fs → State z xs ys gs f g) (x y : Tree) (os bs : Trees)
       (P : Part → Frame → Type 0) → Behindhand (reading (entering k xs f) value x) P → (At (entering k xs f) (entering k ys g) → Reads (reading (entering k xs f) value x) (reading (entering k ys g) value y))
       → ((r : Part) (hs : Found) (u : Frame) (v : Part) (js : Found) (t : Frame) → P r u → (AreFree hs → ChangedPart m l gaps (Some r) (Some v) × AreFree js × At u t)
-          → Then z (readings u k h all (xs ++ Some r ∷ []) (fs ++ hs) os) (readings t k h new (ys ++ Some v ∷ []) (gs ++ js) bs))
+      → Then z (readings u k h all (xs ++ Some r ∷ []) (fs ++ hs) os) (readings t k h new (ys ++ Some v ∷ []) (gs ++ js) bs))
       → AreFree fs ⊎ (AreFree fs → ⊥) → Then z (readings f k h all xs fs (more x os)) (readings g k h new ys gs (more y bs))
   next_read k w z e f g h all new xs ys fs gs st x y os bs P past here follows (inr never) =
       vacuous z (readings f k h all xs fs (more x os)) (readings g k h new ys gs (more y bs)) (λ a. never (free_before k h all (more x os) f xs fs a))
@@ -492,7 +492,7 @@ module _ (same : StatementsFollow) (p q : ℕ → Bool) (m : Moves) (l : ℕ →
 
   mutual
     pub changed_read : (f g : Frame) → At f g → (h : Hint) (x y : Tree) (d : Changed p q m gaps x y) → OldsRead p q m gaps f x y d → Reads (reading f h x) (reading g h y)
-    changed_read f g c h x y (whole z keep) o = 
+    changed_read f g c h x y (whole z keep) o =
         whole_read (reading f h z) (reading g h (carry m.token z)) (reading_kept s f c.1 h z) (reading_kept t g c.2 h (carry m.token z)) (reading_at same p q m l f g c.0 h z keep)
     changed_read f g c h x y (inside k w i j ps qs d) o =
         as_read (reading f h (node k i j ps)) (reading g h (node k (m.token i) (m.token j) qs)) (inside_read f g c h k w i j ps qs

@@ -6,3 +6,4 @@ pub mod Ends
 pub mod Worked
 pub mod Above
 pub mod Replaced
+pub mod Reached

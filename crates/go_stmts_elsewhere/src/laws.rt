@@ -7,6 +7,7 @@ ghost use Rattle.go_grammar.specs.Trees.{Tree, Trees, last, node};
 ghost use Rattle.go_grammar.specs.declared.kind.Kind.TheVariants as kind;
 ghost use Rattle.go_package_defs.specs.Bodies.{function_in};
 ghost use Rattle.go_package_alike.specs.Scopes.{AllTokens};
+ghost use Rattle.go_package_laws.specs.Reach.{HintWithin};
 ghost use Rattle.go_rewriting.specs.Places.{carry};
 ghost use Rattle.go_stmts_defs.specs.Bodies.{start};
 ghost use Rattle.go_stmts_defs.specs.Frames.{Frame};
@@ -17,11 +18,14 @@ ghost use Rattle.go_stmts_elsewhere.specs.Frames.{AlongFrames, AlongReadings, Ke
 ghost use Rattle.go_stmts_elsewhere.specs.Functions.{AlongFunctions, LocalsStand, Numbered, NumberedFunctions, only_objects, stays};
 ghost use Rattle.go_stmts_elsewhere.specs.Gaps.{GapRead, ListsAreReadAlone, behind};
 ghost use Rattle.go_stmts_elsewhere.specs.Marked.{AlongAt, AlongReadingsAt, AllKeepAt, KeepAt, RelatedAt, SameReadingsAt};
+ghost use Rattle.go_stmts_elsewhere.specs.Reached.{AgreeFrames, ReadAlike, Reaches};
 ghost use Rattle.go_stmts_elsewhere.specs.Replaced.{Changed, ChangedFunctions, ChangedReadings, EachTakesItsPlace, Gap, OldsRead, Related, StaysTerminating, function_tree, inside_function};
 ghost use Rattle.go_stmts_elsewhere.specs.Worked.{WorkedGaps};
 
-use go_package_alike::laws::{expressions_follow_from_their_tokens, statements_follow_from_their_tokens};
-use go_renumbering::laws::renumbered_functions_are_typed_the_same;
+use go_package_alike::laws::{
+    expressions_follow_from_their_tokens, statements_follow_from_their_tokens,
+};
+use go_renumbering::laws::{renumbered_functions_are_typed_the_same, renumbered_statements_are_read_the_same};
 
 /// Statements, declarations and bodies whose tokens stand elsewhere are read the same in frames that are related, under the new numbers; the
 /// same rules fail in them at the new places, and what is known behind them is related again.
@@ -80,6 +84,16 @@ pub fn statements_are_read_by_what_they_name()
     statements_follow_from_their_tokens();
 }
 
+/// Statements depend on the right sides of the declared types that they reach, through what their tokens, their locals, the tag and the results
+/// stand for, and on no other right sides, tokens or locals.
+pub fn statements_are_read_by_what_they_reach()
+    ensures { (p l r : ℕ → Bool) (bound : ℕ) (f g : Frame) (h : Hint) (x : Tree) →
+        Reaches p l r bound f → AgreeFrames p l r f g → HintWithin r h → AllTokens p x → ReadAlike l (reading f h x) (reading g h x) }
+{
+    renumbered_statements_are_read_the_same();
+    statements_follow_from_their_tokens();
+}
+
 /// The statements of a block or of a clause are read by themselves, so the law on lists with a gap holds of each.
 pub fn lists_are_read_alone()
     ensures { ListsAreReadAlone }
@@ -127,7 +141,7 @@ pub fn functions_are_typed_around_gaps()
         OldsRead p q m gaps (inside_function s count types (node kind.Signature a b gs)) (node kind.Block n k ts) (node kind.Block (m.token n) (m.token k) us) d →
         StaysTerminating m l gaps (inside_function s count types (node kind.Signature a b gs)) (node kind.Block n k ts) →
         ChangedFunctions p q m l gaps j number (function_in s old count types (function_tree i j (node kind.Signature a b gs) (node kind.Block n k ts)))
-            (function_in t number other others (function_tree (m.token i) (m.token j) (carry m.token (node kind.Signature a b gs)) (node kind.Block (m.token n) (m.token k) us))) }
+        (function_in t number other others (function_tree (m.token i) (m.token j) (carry m.token (node kind.Signature a b gs)) (node kind.Block (m.token n) (m.token k) us))) }
 {
     expressions_follow_from_their_tokens();
     statements_follow_from_their_tokens();
