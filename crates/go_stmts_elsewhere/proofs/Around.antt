@@ -1,5 +1,5 @@
 -- What surrounds a function stays what it is behind each of its statements, but for right sides and `iota`.
-use Rattle.std.proofs.Common.{◌≡◌, ℕ, Bool, true, false, List, [], ◌∷◌, ◌++◌, Option, Some, None, refl, cond}
+use Rattle.std.proofs.Common.{ℕ, Bool, true, false, List, [], ◌∷◌, ◌++◌, Option, Some, None, cond}
 use Rattle.go_grammar.specs.declared.kind.Kind.{Kind}
 use Rattle.go_grammar.specs.declared.kind.Kind.TheVariants as kind
 use Rattle.go_grammar.specs.declared.kind.Sort.TheVariants as declaring
@@ -15,7 +15,7 @@ use Rattle.go_exprs_rules.specs.TypeNodes.{part_type, entry_types}
 use Rattle.go_stmts_defs.specs.Frames.{Frame, with_own_right}
 use Rattle.go_stmts_defs.specs.Laying.{told, layout, form_by, local_named, type_number}
 use Rattle.go_stmts_defs.specs.Reading.{Found, holding, held_faults, is_new, declares_sort, declares_name, declares_all, part_source, right_side, with_type, with_parameter, with_parameters, behind_signature, signature_results, first_parts, entry_names}
-use Rattle.go_stmts_defs.specs.Reading.{in_function, in_switch, source_kept, in_constants, entering, beginning, back, leaving, Reading, read, Readings, all_read, left_out, left_out_faults, is_statement, closed, after, reading, readings}
+use Rattle.go_stmts_defs.specs.Reading.{in_function, in_switch, in_constants, entering, beginning, back, leaving, Reading, read, Readings, all_read, left_out, left_out_faults, is_statement, closed, after, reading, readings}
 use Rattle.go_stmts_defs.specs.Rules.{own_faults, built_by}
 use Rattle.go_stmts_elsewhere.specs.Gaps.{run, behind, frame_in}
 use Rattle.go_stmts_elsewhere.specs.Replaced.{SaysAs}

@@ -1,14 +1,13 @@
 -- Clauses with values in whose statements some are replaced: the rules and what is given look at the values alone.
-use Rattle.std.proofs.Common.{◌≡◌, ◌∙◌, ℕ, zero, suc, Bool, true, false, List, [], ◌∷◌, ◌++◌, length, Option, Some, None, refl, sym, ap, subst, cond}
+use Rattle.std.proofs.Common.{◌≡◌, ◌∙◌, ℕ, Bool, true, false, List, [], ◌∷◌, ◌++◌, length, Option, Some, None, refl, sym, ap, subst, cond}
 use Rattle.std.specs.Prelude.{◌||◌, not, if◌then◌else◌, take, replicate, slice_get}
 use Rattle.std.specs.List.{list_any}
 use Rattle.std.proofs.lemmas.List.Folds.{list_any-append}
 use Rattle.go_grammar.specs.declared.kind.Kind.TheVariants as kind
-use Rattle.go_grammar.specs.Trees.{Tree, node, Trees, none, more, skip, kind_of}
+use Rattle.go_grammar.specs.Trees.{node, Trees, none, more, skip, kind_of}
 use Rattle.go_typed.specs.declared.form.Form.TheVariants as form
 use Rattle.go_typed.specs.Trees.{Typeds, typed, row, list_of, parts_of}
 use Rattle.go_typed.specs.Trees as sort
-use Rattle.go_types.specs.Trees.{TypeTree}
 use Rattle.go_exprs_rules.specs.declared.fault.TypeFault.{TypeFault}
 use Rattle.go_exprs_rules.specs.Scopes.{Hint, value}
 use Rattle.go_exprs_rules.specs.Settling.{Part}
@@ -16,7 +15,7 @@ use Rattle.go_exprs_rules.specs.Sorts.{own_type}
 use Rattle.go_exprs_rules.specs.Tables.{Parts, held, all_held, is_lost, present, label}
 use Rattle.go_stmts_defs.specs.Assigning.{Taking, type_or_default}
 use Rattle.go_stmts_defs.specs.Frames.{Frame, rights_of}
-use Rattle.go_stmts_defs.specs.Laying.{told, held_count, layout, form_by}
+use Rattle.go_stmts_defs.specs.Laying.{told, held_count}
 use Rattle.go_stmts_defs.specs.Reading.{holding, holdings}
 use Rattle.go_stmts_defs.specs.Rules.{each, case_failing, own_faults, built_by, given_optional, all_given}
 use Rattle.go_exprs_elsewhere.specs.Elsewhere.{Moves, placed}

@@ -1,9 +1,7 @@
 -- Nodes whose parts are changed: how they are laid out, what they take, and what is built of them.
-use Rattle.std.proofs.Common.{◌≡◌, ◌∙◌, ℕ, zero, suc, Bool, true, false, List, [], ◌∷◌, ◌++◌, Option, Some, None, refl, sym, ap, subst, cond}
+use Rattle.std.proofs.Common.{◌≡◌, ◌∙◌, ℕ, zero, suc, Bool, true, false, List, [], ◌∷◌, ◌++◌, Option, Some, None, refl, sym, ap, subst}
 use Rattle.std.specs.Prelude.{if◌then◌else◌, nat_lt, drop}
-use Rattle.std.specs.List.{list_any}
 use Rattle.std.proofs.lemmas.List.{append_assoc}
-use Rattle.go_grammar.specs.declared.kind.Kind.{Kind}
 use Rattle.go_grammar.specs.declared.kind.Kind.TheVariants as kind
 use Rattle.go_types.specs.Trees.{TypeTree}
 use Rattle.go_typed.specs.declared.form.Form.{Form}
@@ -11,16 +9,14 @@ use Rattle.go_typed.specs.declared.form.Form.TheVariants as form
 use Rattle.go_typed.specs.Trees.{Label, typed, Typeds, row, list_of}
 use Rattle.go_typed.specs.Trees as sort
 use Rattle.go_exprs_rules.specs.Settling.{Part, Take, stay, default, as_type, given}
-use Rattle.go_exprs_rules.specs.Tables.{Parts, held, label}
+use Rattle.go_exprs_rules.specs.Tables.{Parts, held}
 use Rattle.go_stmts_defs.specs.Assigning.{Taking, takes, type_or_default}
-use Rattle.go_stmts_defs.specs.Frames.{Frame}
 use Rattle.go_stmts_defs.specs.Laying.{header_parts, if_parts, switch_parts, loop_header, for_parts, target_count, loop_form, first_loop_form}
 use Rattle.go_stmts_defs.specs.Reading.{tag_behind}
 use Rattle.go_stmts_defs.specs.Rules.{rest, is_first_number, first_type, target_there, operand_takes, loop_takes, given_optional, all_given}
 use Rattle.go_exprs_elsewhere.specs.Elsewhere.{Moves, placed}
-use Rattle.go_exprs_elsewhere.proofs.Public.{optional, parts, held_kept, given_kept}
+use Rattle.go_exprs_elsewhere.proofs.Public.{parts, held_kept, given_kept}
 use Rattle.go_stmts_elsewhere.specs.Above.{Container, a_block, an_if, a_switch, a_for, a_range, a_case, a_default, form_in, quiet}
-use Rattle.go_stmts_elsewhere.specs.Frames.{Named}
 use Rattle.go_stmts_elsewhere.specs.Replaced.{Gap, ChangedPart, absent, stays, around, around_else, ChangedParts, no_more, one_more, in_place}
 use Rattle.go_stmts_elsewhere.proofs.Above.{OnlyTypes, plain_header, plain_loop, held_alone}
 use Rattle.go_stmts_elsewhere.proofs.Arranging.{header_kept, loop_kept, header_named, loop_named}

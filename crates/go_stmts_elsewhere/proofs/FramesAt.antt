@@ -1,5 +1,5 @@
 -- Frames that are related at some tokens: what they share, and that they stay related inside of statements and behind them.
-use Rattle.std.proofs.Common.{◌≡◌, ◌∙◌, ℕ, Bool, true, List, [], ◌∷◌, Option, Some, None, refl, sym, ap}
+use Rattle.std.proofs.Common.{◌≡◌, ◌∙◌, ℕ, Bool, List, [], ◌∷◌, Option, Some, None, refl, sym, ap}
 use Rattle.go_types.specs.Trees.{TypeTree}
 use Rattle.go_typed.specs.Trees as sort
 use Rattle.go_exprs_rules.specs.Settling.{Part}

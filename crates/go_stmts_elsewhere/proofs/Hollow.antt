@@ -1,10 +1,9 @@
 -- The rules of nodes in which statements are replaced at some depth: none reads what stands in blocks and clauses.
-use Rattle.std.proofs.Common.{◌≡◌, ◌∙◌, ℕ, Bool, true, false, List, [], ◌∷◌, Option, Some, None, refl, sym, ap, subst}
+use Rattle.std.proofs.Common.{◌≡◌, ◌∙◌, ℕ, Bool, false, List, [], ◌∷◌, Option, Some, None, refl, sym, ap, subst}
 use Rattle.std.specs.Prelude.{if◌then◌else◌, take}
 use Rattle.go_grammar.specs.declared.kind.Kind.{Kind}
 use Rattle.go_grammar.specs.declared.kind.Kind.TheVariants as kind
 use Rattle.go_grammar.specs.Trees as tree
-use Rattle.go_types.specs.Trees.{TypeTree}
 use Rattle.go_typed.specs.declared.form.Form.{Form}
 use Rattle.go_typed.specs.declared.form.Form.TheVariants as form
 use Rattle.go_typed.specs.Trees.{typed, row}
@@ -15,15 +14,14 @@ use Rattle.go_exprs_rules.specs.Tables.{Parts, present}
 use Rattle.go_stmts_defs.specs.Frames.{Frame, rights_of}
 use Rattle.go_stmts_defs.specs.Laying.{layout, form_by}
 use Rattle.go_stmts_defs.specs.Rules.{each, case_failing, second_condition, second_tag, loop_failing, names_in, judges, own_faults}
-use Rattle.go_exprs_elsewhere.specs.Elsewhere.{Moves, form_moved, placed, all_placed}
+use Rattle.go_exprs_elsewhere.specs.Elsewhere.{Moves, form_moved, placed}
 use Rattle.go_exprs_elsewhere.proofs.Public.{optional, parts, fails}
 use Rattle.go_stmts_elsewhere.specs.Above.{Container, a_block, an_if, a_switch, a_for, a_range, a_case, a_default, form_in, quiet, Similar, same, loose, elsed, AllSimilar, no_parts, next_parts, IsAbove, NodeAbove}
-use Rattle.go_stmts_elsewhere.specs.Frames.{PlaceKept, form_named, Named}
+use Rattle.go_stmts_elsewhere.specs.Frames.{PlaceKept, form_named}
 use Rattle.go_stmts_elsewhere.specs.Marked.{AlongAt}
 use Rattle.go_stmts_elsewhere.specs.Replaced.{Gap, ChangedPart, absent, stays, around, around_else, ChangedParts, no_more, one_more}
 use Rattle.go_stmts_elsewhere.proofs.Above.{nodes_above}
 use Rattle.go_stmts_elsewhere.proofs.Arranging.{form_kept}
-use Rattle.go_stmts_elsewhere.proofs.FramesAt.{rights_at, tag_at}
 use Rattle.go_stmts_elsewhere.proofs.Naming.{AllNamed}
 use Rattle.go_stmts_elsewhere.proofs.Reading.{own_along}
 

@@ -1,6 +1,6 @@
 -- Statements in frames that agree on the right sides that they reach: in both the other right sides, and what stands for other types, are
 -- left out, and the numbers of those types are put behind all right sides.
-use Rattle.std.proofs.Common.{◌≡◌, ◌∙◌, ℕ, zero, suc, ◌+◌, ◌<◌, ◌≤◌, Bool, true, false, List, [], ◌∷◌, length, map, Option, Some, None, refl, sym, ap, subst, cond, is_some, slice_get, arith}
+use Rattle.std.proofs.Common.{◌≡◌, ◌∙◌, ℕ, zero, suc, ◌+◌, ◌<◌, ◌≤◌, Bool, true, false, List, [], ◌∷◌, length, map, Option, Some, None, refl, sym, ap, subst, cond, arith}
 use Rattle.std.specs.Prelude.{◌&&◌}
 use Rattle.std.specs.Option.{option_map}
 use Rattle.go_grammar.specs.Trees.{Tree}
@@ -13,7 +13,6 @@ use Rattle.go_types_relations.specs.Questions.{entry}
 use Rattle.go_types_relations.specs.Renaming.{renamed, renamed_row, IsOneToOne, AreRenamed}
 use Rattle.go_typed.specs.Trees as sort
 use Rattle.go_exprs_rules.specs.Scopes.{Needed, Hint, Scope, element, member}
-use Rattle.go_exprs_rules.specs.Settling.{Part}
 use Rattle.go_exprs_rules.specs.Sorts.{Stands}
 use Rattle.go_package_alike.specs.Frames.{MaybeTokens}
 use Rattle.go_package_alike.specs.Scopes.{AllTokens}
@@ -22,8 +21,8 @@ use Rattle.go_package_laws.specs.Reach.{Within, RowWithin, MaybeWithin, StandsWi
 use Rattle.go_renumbering.specs.Frames.{locals_renamed, has_place, RenamedFrames, RenamedReadings}
 use Rattle.go_renumbering.specs.Reached.{kept_right, kept, IsClosed}
 use Rattle.go_renumbering.specs.Renumbered.{stands_renamed, part_renamed, hint_renamed}
-use Rattle.go_stmts_defs.specs.Frames.{Frame, Locals, known, local_stands}
-use Rattle.go_stmts_defs.specs.Reading.{Found, Reading, read, reading}
+use Rattle.go_stmts_defs.specs.Frames.{Frame, Locals, local_stands}
+use Rattle.go_stmts_defs.specs.Reading.{Reading, read, reading}
 use Rattle.go_stmts_elsewhere.specs.Frames.{ObjectAlong, has_room, MaybeKeeps}
 use Rattle.go_stmts_elsewhere.specs.Functions.{stays}
 use Rattle.go_stmts_elsewhere.specs.Marked.{AlongAt, RelatedAt, SameReadingsAt}

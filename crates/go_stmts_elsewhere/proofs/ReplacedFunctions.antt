@@ -1,7 +1,7 @@
 -- Functions in whose blocks other statements take the place of some.
-use Rattle.std.proofs.Common.{◌≡◌, ◌∙◌, ℕ, ◌<◌, ◌-◌, Bool, true, false, List, [], ◌∷◌, ◌++◌, map, length, Option, Some, None, refl, sym, ap, subst, slice_get, Result, Ok, Err}
+use Rattle.std.proofs.Common.{◌≡◌, ◌∙◌, ℕ, ◌-◌, Bool, true, false, List, [], ◌∷◌, ◌++◌, map, length, Option, Some, None, refl, sym, ap, subst, slice_get, Ok}
 use Rattle.std.specs.Prelude.{◌||◌, not, if◌then◌else◌}
-use Rattle.std.specs.Option.{option_map, unwrap_or}
+use Rattle.std.specs.Option.{unwrap_or}
 use Rattle.go_grammar.specs.declared.kind.Kind.TheVariants as kind
 use Rattle.go_grammar.specs.Trees.{Tree, node, Trees, none, more, last}
 use Rattle.go_rewriting.specs.Places.{carry}
@@ -16,18 +16,17 @@ use Rattle.go_exprs_rules.specs.Scopes.{Hint, Scope, value, free}
 use Rattle.go_exprs_rules.specs.Settling.{Part}
 use Rattle.go_exprs_rules.specs.Tables.{Parts, is_judged, label}
 use Rattle.go_exprs_rules.specs.TypeNodes.{part_type}
-use Rattle.go_exprs_rules.specs.Typing.{typing}
 use Rattle.go_package_alike.specs.Scopes.{AllTokens, SaySame, IsTypedSame}
 use Rattle.go_package_defs.specs.Bodies.{Behind, behind_read, function_in}
 use Rattle.go_stmts_defs.specs.Bodies.{numbers_from, start, signature_of, no_function, function_read}
 use Rattle.go_stmts_defs.specs.Ending.{terminates}
 use Rattle.go_stmts_defs.specs.Frames.{Frame, local_stands}
-use Rattle.go_stmts_defs.specs.Reading.{Found, holding, held_faults, Reading, read, Readings, all_read, first_parts, entry_names, with_parameter, with_parameters, behind_signature, back, closed, after, reading, readings}
+use Rattle.go_stmts_defs.specs.Reading.{Found, holding, held_faults, Reading, read, Readings, all_read, first_parts, entry_names, with_parameter, with_parameters, behind_signature, closed, after, reading, readings}
 use Rattle.go_stmts_defs.specs.Rules.{has_results, function_failing, own_faults, built_by}
 use Rattle.go_exprs_elsewhere.specs.Elsewhere.{Moves, placed}
 use Rattle.go_exprs_elsewhere.proofs.Public.{optional, type_kept}
 use Rattle.go_stmts_elsewhere.specs.Above.{quiet}
-use Rattle.go_stmts_elsewhere.specs.Functions.{LocalsStand, numbers_moved}
+use Rattle.go_stmts_elsewhere.specs.Functions.{LocalsStand}
 use Rattle.go_stmts_elsewhere.specs.Marked.{AlongAt, AlongReadingsAt, RelatedAt, KeepAt}
 use Rattle.go_stmts_elsewhere.specs.Replaced.{AreFree, Gap, SaysAs, EachTakesItsPlace, Changed, OldsRead, ChangedPart, FunctionChanged, ChangedFunctions, ChangedReadings, inside_function, tree_in, StaysTerminating, function_tree}
 use Rattle.go_stmts_elsewhere.proofs.Around.{signature_kept}

@@ -1,5 +1,5 @@
 -- Functions with other statements in place of some: the induction over their trees.
-use Rattle.std.proofs.Common.{◌≡◌, ◌∙◌, ℕ, ◌⊎◌, inl, inr, Bool, true, false, List, [], ◌∷◌, ◌++◌, Option, Some, None, refl, sym, ap, subst}
+use Rattle.std.proofs.Common.{◌≡◌, ◌∙◌, ℕ, ◌⊎◌, inl, inr, Bool, true, false, List, [], ◌∷◌, ◌++◌, Some, None, refl, sym, ap, subst}
 use Rattle.std.specs.Prelude.{if◌then◌else◌, slice_get}
 use Rattle.std.proofs.lemmas.List.{append-nil}
 use Rattle.go_grammar.specs.declared.kind.Kind.{Kind}
@@ -15,7 +15,7 @@ use Rattle.go_exprs_rules.specs.Scopes.{Hint, Scope, value}
 use Rattle.go_exprs_rules.specs.Settling.{Part}
 use Rattle.go_exprs_rules.specs.Tables.{Parts, held, label, is_judged}
 use Rattle.go_stmts_defs.specs.Frames.{Frame}
-use Rattle.go_stmts_defs.specs.Laying.{told, held_count, layout, form_by, if_parts, switch_parts, for_parts, first_loop_form}
+use Rattle.go_stmts_defs.specs.Laying.{told, layout, form_by, if_parts, switch_parts, for_parts, first_loop_form}
 use Rattle.go_stmts_defs.specs.Reading.{Found, holding, held_faults, Reading, read, Readings, all_read, tag_behind, entering, in_switch, back, leaving, left_out, left_out_faults, closed, after, reading, readings}
 use Rattle.go_stmts_defs.specs.Rules.{loop_takes, taking, own_faults, built_by, all_given}
 use Rattle.go_exprs_elsewhere.specs.Elsewhere.{Moves, placed}

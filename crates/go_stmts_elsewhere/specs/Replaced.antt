@@ -1,11 +1,9 @@
 -- Functions in which other statements take the place of some: in lists of any depth, and in as many of them as there are.
 use Rattle.std.specs.Prelude.{◌≡◌, ℕ, Bool, true, false, List, [], ◌∷◌, ◌++◌, Option, Some, None, slice_get, Result, Ok, Err}
-use Rattle.std.specs.Option.{option_map}
 use Rattle.go_grammar.specs.declared.kind.Kind.{Kind}
 use Rattle.go_grammar.specs.declared.kind.Kind.TheVariants as kind
 use Rattle.go_grammar.specs.Trees.{Tree, node, Trees, none, more, skip, onto}
-use Rattle.go_rewriting.specs.Places.{carry, carries}
-use Rattle.go_types.specs.Trees.{TypeTree}
+use Rattle.go_rewriting.specs.Places.{carry}
 use Rattle.go_typed.specs.declared.form.Form.TheVariants as form
 use Rattle.go_typed.specs.Contents.{FuncContent}
 use Rattle.go_typed.specs.Trees.{typed, Typeds, row, form_of, sort_of}
