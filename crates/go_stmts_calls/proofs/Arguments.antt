@@ -1,30 +1,29 @@
 -- Arguments that have, or take, the types of the parameters.
-use Rattle.std.proofs.Common.{◌≡◌, ◌∙◌, ℕ, suc, Bool, true, false, List, [], ◌∷◌, ◌++◌, length, Option, Some, None, refl, sym, ap, subst, cond}
-use Rattle.std.specs.Prelude.{◌||◌, ◌&&◌, not, if◌then◌else◌, ◌==◌}
+use Rattle.std.proofs.Common.{◌≡◌, ◌∙◌, ℕ, suc, true, false, List, [], ◌∷◌, ◌++◌, length, Some, refl, sym, ap, subst, cond}
+use Rattle.std.specs.Prelude.{◌||◌, ◌&&◌, not, if◌then◌else◌}
 use Rattle.std.specs.List.{list_any}
 use Rattle.std.proofs.lemmas.List.{append_assoc, append-nil}
 use Rattle.go_grammar.specs.declared.kind.Kind.TheVariants as kind
-use Rattle.go_grammar.specs.Trees.{Tree, Trees, node, last, kind_of}
+use Rattle.go_grammar.specs.Trees.{Tree, Trees, last}
 use Rattle.go_base.specs.declared.fault.FaultCode.TheVariants as code
-use Rattle.go_types.specs.Trees.{TypeTree, is_named, TypeRow, none, more, function}
+use Rattle.go_types.specs.Trees.{TypeTree, is_named, TypeRow, none, more}
 use Rattle.go_types.specs.Relations.{Rights}
 use Rattle.go_types_relations.specs.Identity.{is_identical}
 use Rattle.go_types_relations.specs.Tests.{underlying_of, both_identical, is_assignable}
 use Rattle.go_constants.specs.declared.values.Const.{Const}
-use Rattle.go_typed.specs.declared.form.Form.TheVariants as form
 use Rattle.go_typed.specs.Trees.{typed, sort_of}
 use Rattle.go_typed.specs.Trees as sort
 use Rattle.go_exprs_rules.specs.declared.fault.TypeFault.{TypeFault}
 use Rattle.go_exprs_rules.specs.Faults.{fault_at}
 use Rattle.go_exprs_rules.specs.Calls.{row_length, all_unassignable}
-use Rattle.go_exprs_rules.specs.Scopes.{Hint, Scope, value, type_place}
-use Rattle.go_exprs_rules.specs.Settling.{Part, at_part, unrepresented, unrepresented_constant, all_unrepresented, untyped_unassignable, unassignable_by, unassignable}
-use Rattle.go_exprs_rules.specs.Sorts.{Stands, kind_of_const, is_unknown, constant_of, is_constant, is_open, suits, represents}
-use Rattle.go_exprs_rules.specs.Tables.{Parts, is_lost, present, is_make, made, hint, call_told}
+use Rattle.go_exprs_rules.specs.Scopes.{Hint, value, type_place}
+use Rattle.go_exprs_rules.specs.Settling.{Part, at_part, unrepresented, unrepresented_constant, all_unrepresented, unassignable_by, unassignable}
+use Rattle.go_exprs_rules.specs.Sorts.{kind_of_const, is_unknown, constant_of, is_constant, is_open, suits, represents}
+use Rattle.go_exprs_rules.specs.Tables.{Parts, is_lost, present, is_make, call_told}
 use Rattle.go_exprs_rules.specs.Typing.{typing, typings, faults, faults_of_parts}
 use Rattle.go_print_laws.specs.Calls.{Argument, variable, constant, argument_tree, further_trees, arguments_trees}
 use Rattle.go_print_laws.specs.Literals.{literal_tree}
-use Rattle.go_print_laws.specs.Reading.{unmarked, IsTypedAs, LiteralsReadBack}
+use Rattle.go_print_laws.specs.Reading.{unmarked, LiteralsReadBack}
 use Rattle.go_stmts_defs.specs.Frames.{Frame, rights_of, scope_of}
 use Rattle.go_stmts_elsewhere.specs.Replaced.{AreFree}
 use Rattle.go_stmts_calls.specs.Calls.{ArgumentFits, FurtherFit, ArgumentsFit, further_parts, argument_parts}

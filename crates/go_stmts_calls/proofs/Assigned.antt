@@ -1,6 +1,6 @@
 -- The statement of a call, read: alone, or as an assignment of its results.
-use Rattle.std.proofs.Common.{◌≡◌, ◌∙◌, ℕ, suc, Bool, true, false, List, [], ◌∷◌, ◌++◌, map, length, Option, Some, None, refl, sym, ap, subst, cond, arith}
-use Rattle.std.specs.Prelude.{◌||◌, ◌&&◌, not, if◌then◌else◌, ◌==◌, take, drop}
+use Rattle.std.proofs.Common.{◌≡◌, ◌∙◌, ℕ, suc, Bool, true, false, List, [], ◌∷◌, ◌++◌, map, length, Option, Some, None, refl, sym, ap, cond, arith}
+use Rattle.std.specs.Prelude.{if◌then◌else◌, take, drop}
 use Rattle.std.specs.List.{list_any}
 use Rattle.std.proofs.lemmas.Bool.{eq-eqb}
 use Rattle.std.proofs.lemmas.List.{append_assoc, append-nil}
@@ -9,9 +9,7 @@ use Rattle.go_grammar.specs.declared.kind.Kind.TheVariants as kind
 use Rattle.go_grammar.specs.Trees.{Tree, Trees, node, last}
 use Rattle.go_grammar.specs.Trees as trees
 use Rattle.go_types.specs.Trees.{TypeTree, TypeRow, none, more, function}
-use Rattle.go_types.specs.Relations.{Rights}
 use Rattle.go_types_relations.specs.Identity.{is_identical}
-use Rattle.go_types_relations.specs.Tests.{is_assignable}
 use Rattle.go_typed.specs.declared.form.Form.TheVariants as form
 use Rattle.go_typed.specs.Trees.{typed, Typeds, row, list_of, sort_of}
 use Rattle.go_typed.specs.Trees as sort
@@ -19,17 +17,17 @@ use Rattle.go_exprs_rules.specs.declared.fault.TypeFault.{TypeFault}
 use Rattle.go_exprs_rules.specs.Calls.{called}
 use Rattle.go_exprs_rules.specs.Faults.{fault_at}
 use Rattle.go_exprs_rules.specs.Names.{place_failing}
-use Rattle.go_exprs_rules.specs.Scopes.{Hint, Scope, value, several, statement, free, target}
+use Rattle.go_exprs_rules.specs.Scopes.{Hint, value, several, statement, free, target}
 use Rattle.go_exprs_rules.specs.Settling.{Part, at_part, settled, all_settled, default, defaulted, undefaulted_by, unassignable_by}
-use Rattle.go_exprs_rules.specs.Sorts.{Stands, open_kind, is_unknown, is_nil, takes_type, retyped}
+use Rattle.go_exprs_rules.specs.Sorts.{open_kind, is_unknown, is_nil, takes_type, retyped}
 use Rattle.go_exprs_rules.specs.Tables.{Parts, is_lost, present, is_judged, made}
 use Rattle.go_exprs_rules.specs.Typing.{typing, faults}
-use Rattle.go_print_laws.specs.Calls.{Argument, call_tree, names_behind, names_end, assignment_at, statement_tree}
+use Rattle.go_print_laws.specs.Calls.{Argument, call_tree, names_behind, names_end, statement_tree}
 use Rattle.go_print_laws.specs.Reading.{LiteralsReadBack}
 use Rattle.go_print_laws.specs.Trees.{name_at}
 use Rattle.go_stmts_defs.specs.Assigning.{types_in, called_results, unassigned, result_unassigned, results_unassigned, assignment_by, assignment_failing, Taking, takes, type_or_default, values_take}
 use Rattle.go_stmts_defs.specs.Frames.{Frame, rights_of, scope_of}
-use Rattle.go_stmts_defs.specs.Reading.{Found, holding, holdings, held_faults, all_held_faults, Reading, read, Readings, all_read, closed, reading}
+use Rattle.go_stmts_defs.specs.Reading.{Found, holdings, held_faults, all_held_faults, read, reading}
 use Rattle.go_stmts_defs.specs.Rules.{each, not_a_target, target_type, assign_failing, rest, assign_takes, own_faults, given_part, all_given, built_by}
 use Rattle.go_stmts_elsewhere.specs.Replaced.{AreFree}
 use Rattle.go_stmts_calls.specs.Calls.{IsTarget, blank, given as given_to, FurtherTargets, MeansFunction, ArgumentsFit, StatementReads, call_part, target_at, targets_at, assignment_part, statement_part}

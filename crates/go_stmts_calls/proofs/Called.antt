@@ -1,23 +1,21 @@
 -- A call of a function of the package, typed.
-use Rattle.std.proofs.Common.{◌≡◌, ◌∙◌, ℕ, suc, Bool, true, false, List, [], ◌∷◌, ◌++◌, length, Option, Some, None, refl, sym, ap, subst, cond}
-use Rattle.std.specs.Prelude.{◌||◌, ◌&&◌, not, if◌then◌else◌, ◌==◌}
-use Rattle.std.specs.List.{list_any}
+use Rattle.std.proofs.Common.{◌≡◌, ◌∙◌, ℕ, suc, true, List, [], ◌∷◌, length, Some, refl, sym, ap, subst}
+use Rattle.std.specs.Prelude.{◌&&◌, not, if◌then◌else◌, ◌==◌}
 use Rattle.std.proofs.lemmas.Bool.{eq-eqb}
 use Rattle.go_base.specs.declared.fault.FaultCode.TheVariants as code
 use Rattle.go_grammar.specs.declared.kind.Kind.TheVariants as kind
 use Rattle.go_grammar.specs.Trees.{Tree, Trees, node, last}
 use Rattle.go_grammar.specs.Trees as trees
-use Rattle.go_types.specs.Trees.{TypeTree, TypeRow, none, more, function}
+use Rattle.go_types.specs.Trees.{TypeTree, TypeRow, function}
 use Rattle.go_types_relations.specs.Identity.{is_identical}
 use Rattle.go_typed.specs.declared.form.Form.TheVariants as form
 use Rattle.go_typed.specs.Trees as sort
-use Rattle.go_exprs_rules.specs.declared.fault.TypeFault.{TypeFault}
-use Rattle.go_exprs_rules.specs.Calls.{called, all_as, row_length, all_unassignable}
+use Rattle.go_exprs_rules.specs.Calls.{called, row_length, all_unassignable}
 use Rattle.go_exprs_rules.specs.Faults.{fault_at, or_else}
 use Rattle.go_exprs_rules.specs.Names.{place_failing}
 use Rattle.go_exprs_rules.specs.Scopes.{Hint, Scope, callee}
 use Rattle.go_exprs_rules.specs.Settling.{Part}
-use Rattle.go_exprs_rules.specs.Tables.{Parts, is_lost, present, no_faults, is_judged, is_sound, made, own_faults, built_by, built, found}
+use Rattle.go_exprs_rules.specs.Tables.{Parts, present, no_faults, is_sound, made, own_faults, built_by, built, found}
 use Rattle.go_exprs_rules.specs.Typing.{typing, typings, faults, faults_of_parts}
 use Rattle.go_print_laws.specs.Calls.{Argument, arguments_trees, call_tree}
 use Rattle.go_print_laws.specs.Reading.{LiteralsReadBack}

@@ -1,6 +1,6 @@
 -- A variable that is declared in front of a call, read; and the whole run.
-use Rattle.std.proofs.Common.{◌≡◌, ◌∙◌, ℕ, suc, Bool, true, false, List, [], ◌∷◌, ◌++◌, Option, Some, None, refl, sym, ap, subst, cond}
-use Rattle.std.specs.Prelude.{◌&&◌, not, if◌then◌else◌}
+use Rattle.std.proofs.Common.{◌≡◌, ◌∙◌, ℕ, suc, Bool, true, false, List, [], ◌∷◌, ◌++◌, Option, Some, None, refl, sym, ap, subst}
+use Rattle.std.specs.Prelude.{if◌then◌else◌}
 use Rattle.go_grammar.specs.declared.kind.Kind.{Kind}
 use Rattle.go_grammar.specs.declared.kind.Kind.TheVariants as kind
 use Rattle.go_grammar.specs.declared.kind.Sort.TheVariants as declaring
@@ -15,7 +15,7 @@ use Rattle.go_typed.specs.declared.form.Form.TheVariants as form
 use Rattle.go_typed.specs.Trees.{Label, typed, Typeds, row, list_of, parts_of, form_of, sort_of}
 use Rattle.go_typed.specs.Trees as sort
 use Rattle.go_exprs_rules.specs.declared.fault.TypeFault.{TypeFault}
-use Rattle.go_exprs_rules.specs.Names.{name_sort, object_form, declared_form, form_or_type, name_form}
+use Rattle.go_exprs_rules.specs.Names.{name_sort, object_form, declared_form, form_or_type}
 use Rattle.go_exprs_rules.specs.Scopes.{Hint, Scope, value, type_place, several}
 use Rattle.go_exprs_rules.specs.Settling.{Part}
 use Rattle.go_exprs_rules.specs.Sorts.{Stands, named_type}
@@ -25,16 +25,16 @@ use Rattle.go_exprs_rules.specs.Typing.{typing, typings, faults}
 use Rattle.go_print_laws.specs.Calls.{Argument, declaration_at, statement_tree, statement_trees}
 use Rattle.go_print_laws.specs.Reading.{IsTypedAs, at_place, LiteralsReadBack, TypesReadBack}
 use Rattle.go_print_laws.specs.Trees.{name_at, names_at, type_tree}
-use Rattle.go_stmts_defs.specs.Assigning.{variable, stands}
+use Rattle.go_stmts_defs.specs.Assigning.{variable}
 use Rattle.go_stmts_defs.specs.Frames.{Frame, scope_of, with_local}
-use Rattle.go_stmts_defs.specs.Laying.{behind_names, typed_or_not, specification_parts}
-use Rattle.go_stmts_defs.specs.Reading.{Found, holding, held_faults, Reading, read, Readings, all_read, back, leaving, closed, after, reading, readings}
-use Rattle.go_stmts_defs.specs.Rules.{own_faults, built_by, all_given, taking}
-use Rattle.go_stmts_elsewhere.specs.Gaps.{ListsAreReadAlone, run, parts_in, found_in, frame_in, behind, fronted}
+use Rattle.go_stmts_defs.specs.Laying.{behind_names, typed_or_not}
+use Rattle.go_stmts_defs.specs.Reading.{Found, Reading, read, Readings, all_read, back, leaving, closed, after, reading, readings}
+use Rattle.go_stmts_defs.specs.Rules.{own_faults, built_by}
+use Rattle.go_stmts_elsewhere.specs.Gaps.{ListsAreReadAlone, run, parts_in, found_in, frame_in, fronted}
 use Rattle.go_stmts_elsewhere.specs.Replaced.{AreFree}
-use Rattle.go_stmts_calls.specs.Calls.{MeansLocal, DeclarationReads, CallReads, declaration_part, statement_part, CallIsRead}
+use Rattle.go_stmts_calls.specs.Calls.{DeclarationReads, CallReads, declaration_part, statement_part, CallIsRead}
 use Rattle.go_stmts_calls.proofs.Arguments.{free_both}
-use Rattle.go_stmts_calls.proofs.Assigned.{IsStatement, statement_read}
+use Rattle.go_stmts_calls.proofs.Assigned.{statement_read}
 use Rattle.go_stmts_calls.proofs.Named.{free_of_all, one_free}
 
 abbrev parts_in_tree : Tree → Trees

@@ -4,3 +4,4 @@ mod Arguments
 mod Called
 mod Assigned
 mod Declared
+mod Worked

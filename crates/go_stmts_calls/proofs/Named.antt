@@ -1,5 +1,5 @@
 -- Names, typed.
-use Rattle.std.proofs.Common.{◌≡◌, ◌∙◌, ℕ, suc, Bool, true, false, List, [], ◌∷◌, ◌++◌, Option, Some, None, refl, sym, ap, cond}
+use Rattle.std.proofs.Common.{◌≡◌, ◌∙◌, ℕ, suc, Bool, true, false, List, [], ◌∷◌, Option, Some, refl, ap, cond}
 use Rattle.std.specs.List.{list_all}
 use Rattle.go_tree.specs.declared.object.Object.{Object}
 use Rattle.go_tree.specs.declared.object.Object.TheVariants as object
@@ -16,7 +16,7 @@ use Rattle.go_exprs_rules.specs.Sorts.{Stands}
 use Rattle.go_exprs_rules.specs.Tables.{no_faults, is_sound, made, built_by}
 use Rattle.go_exprs_rules.specs.Typing.{typing, faults}
 use Rattle.go_print_laws.specs.Trees.{name_at}
-use Rattle.go_stmts_defs.specs.Frames.{Frame, local_stands, scope_of}
+use Rattle.go_stmts_defs.specs.Frames.{Frame, scope_of}
 use Rattle.go_stmts_elsewhere.specs.Replaced.{AreFree}
 use Rattle.go_stmts_calls.specs.Calls.{MeansVariable, IsTarget, blank, given, MeansFunction, target_at}
 

@@ -1,14 +1,9 @@
 -- A call in place of statements: what its tokens have to mean, and what it is read to be.
-use Rattle.std.specs.Prelude.{◌≡◌, ℕ, suc, Bool, true, false, List, [], ◌∷◌, ◌++◌, length, Option, Some, None}
-use Rattle.go_grammar.specs.declared.kind.Kind.TheVariants as kind
-use Rattle.go_grammar.specs.declared.kind.Sort.TheVariants as declaring
-use Rattle.go_grammar.specs.Trees.{Tree, node, Trees, last}
-use Rattle.go_tree.specs.declared.object.Object.{Object}
+use Rattle.std.specs.Prelude.{◌≡◌, ℕ, suc, true, List, [], ◌∷◌, ◌++◌, length, Some, None}
+use Rattle.go_grammar.specs.Trees.{last}
 use Rattle.go_tree.specs.declared.object.Object.TheVariants as object
 use Rattle.go_constants.specs.declared.values.Const.{Const}
 use Rattle.go_types.specs.Trees.{TypeTree, TypeRow, none, more, function}
-use Rattle.go_types.specs.Relations.{Rights}
-use Rattle.go_typed.specs.declared.form.Form.{Form}
 use Rattle.go_typed.specs.declared.form.Form.TheVariants as form
 use Rattle.go_typed.specs.Trees.{typed}
 use Rattle.go_typed.specs.Trees as sort
@@ -18,7 +13,7 @@ use Rattle.go_exprs_rules.specs.Settling.{Part, stay}
 use Rattle.go_exprs_rules.specs.Sorts.{Stands, kind_of_const, suits, represents}
 use Rattle.go_exprs_rules.specs.Tables.{Parts, leaf, made, all_given}
 use Rattle.go_exprs_rules.specs.Typing.{typing}
-use Rattle.go_print_laws.specs.Calls.{Argument, variable, constant, argument_tree, arguments_end, names_end, call_tree, statement_trees}
+use Rattle.go_print_laws.specs.Calls.{Argument, variable, constant, argument_tree, names_end, call_tree, statement_trees}
 use Rattle.go_print_laws.specs.Reading.{ReadsType, IsWithin, ReadsLiteral, CanBeRead, unmarked}
 use Rattle.go_print_laws.specs.Trees.{type_tree}
 use Rattle.go_stmts_defs.specs.Frames.{Frame, local_stands, rights_of, scope_of, with_local}

@@ -1,6 +1,7 @@
 //! The law of calls that stand in place of statements, for the crates above. This function does nothing: its contract is what holds.
 
 ghost use Rattle.go_stmts_calls.specs.Calls.{CallsAreTyped};
+ghost use Rattle.go_stmts_calls.specs.Worked.{WorkedCall};
 
 use go_print_laws::laws::{literals_read_back, types_read_back};
 use go_stmts_elsewhere::laws::lists_are_read_alone;
@@ -16,4 +17,11 @@ pub fn calls_are_typed()
     lists_are_read_alone();
     literals_read_back();
     types_read_back();
+}
+
+/// A worked call: the one that takes the place of the first worked class, with the variable that is declared in front of it.
+pub fn worked_call()
+    ensures { WorkedCall }
+{
+    calls_are_typed();
 }

@@ -25,7 +25,9 @@ ghost use Rattle.go_stmts_elsewhere.specs.Worked.{WorkedGaps};
 use go_package_alike::laws::{
     expressions_follow_from_their_tokens, statements_follow_from_their_tokens,
 };
-use go_renumbering::laws::{renumbered_functions_are_typed_the_same, renumbered_statements_are_read_the_same};
+use go_renumbering::laws::{
+    renumbered_functions_are_typed_the_same, renumbered_statements_are_read_the_same,
+};
 
 /// Statements, declarations and bodies whose tokens stand elsewhere are read the same in frames that are related, under the new numbers; the
 /// same rules fail in them at the new places, and what is known behind them is related again.
