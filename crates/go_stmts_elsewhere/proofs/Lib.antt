@@ -21,6 +21,7 @@ mod Worked
 mod Above
 mod Free
 mod Around
+mod Sources
 mod FramesAt
 mod Hollow
 mod ChangedNodes

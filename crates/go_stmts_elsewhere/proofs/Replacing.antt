@@ -25,6 +25,7 @@ use Rattle.go_stmts_elsewhere.specs.Marked.{AlongAt, AlongReadingsAt, KeepAt}
 use Rattle.go_stmts_elsewhere.specs.Replaced.{AreFree, AreStatementParts, Gap, SaysAs, Related, ChangedReadings, EachTakesItsPlace, HasInside, has_list, AreWhole, Changed, whole, inside, in_else, in_case, AllChanged, ended, next, left, others, Behindhand, OldsRead, AllOldsRead, ChangedPart, absent, stays, around, around_else, ChangedParts, no_more, one_more, in_place}
 use Rattle.go_stmts_elsewhere.proofs.Above.{loop_types}
 use Rattle.go_stmts_elsewhere.proofs.Around.{Keeps, back_kept, switch_kept, reading_kept, behind_kept}
+use Rattle.go_stmts_elsewhere.proofs.Sources.{sourced}
 use Rattle.go_stmts_elsewhere.proofs.ChangedCases.{AllThere, values_there, none_fails_in_case, case_built}
 use Rattle.go_stmts_elsewhere.proofs.ChangedNodes.{both_changed, one_changed, if_changed, switch_changed, for_changed, all_given_changed, loop_takes_changed, tag_changed, of_first_loop}
 use Rattle.go_stmts_elsewhere.proofs.Clauses.{list_read}

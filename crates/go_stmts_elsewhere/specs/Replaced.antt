@@ -2,6 +2,7 @@
 use Rattle.std.specs.Prelude.{◌≡◌, ℕ, Bool, true, false, List, [], ◌∷◌, ◌++◌, Option, Some, None, slice_get, Result, Ok, Err}
 use Rattle.go_grammar.specs.declared.kind.Kind.{Kind}
 use Rattle.go_grammar.specs.declared.kind.Kind.TheVariants as kind
+use Rattle.go_grammar.specs.declared.kind.Sort.TheVariants as declaring
 use Rattle.go_grammar.specs.Trees.{Tree, node, Trees, none, more, skip, onto}
 use Rattle.go_rewriting.specs.Places.{carry}
 use Rattle.go_typed.specs.declared.form.Form.TheVariants as form
@@ -93,6 +94,19 @@ HasInside kind.If = Unit {0}
 HasInside kind.Switch = Unit {0}
 HasInside kind.For = Unit {0}
 HasInside k = ⊥
+
+-- Constants are specified in declarations of constants alone: what they repeat is known there, and not in front of them.
+abbrev mutual
+  pub HasNoSource : Tree → Type 0
+  HasNoSource (node (kind.Specification declaring.Constant) i j ps) = ⊥
+  HasNoSource (node (kind.Declaration declaring.Constant) i j ps) = Unit {0}
+  HasNoSource (node (kind.Group declaring.Constant) i j ps) = Unit {0}
+  HasNoSource (node k i j ps) = HaveNoSource ps
+
+  pub HaveNoSource : Trees → Type 0
+  HaveNoSource none = Unit {0}
+  HaveNoSource (more t ts) = HasNoSource t × HaveNoSource ts
+  HaveNoSource (skip ts) = HaveNoSource ts
 
 -- no part is left out
 abbrev pub AreWhole : Trees → Type 0
