@@ -50,7 +50,7 @@ module _ (m : Moves) (l : ℕ → Bool) (f g : Frame) (c : AlongFrames m l f g) 
     results = c.results;
   }
 
-  source_along : (a b : Option Tree) → b ≡ option_map (carry m.token) a → MaybeKeeps m a → AlongFrames m l (record f { source = a }) (record g { source = b })
+  pub source_along : (a b : Option Tree) → b ≡ option_map (carry m.token) a → MaybeKeeps m a → AlongFrames m l (record f { source = a }) (record g { source = b })
   source_along a b e k = record {
     rights = c.rights;
     iota = c.iota;

@@ -15,7 +15,8 @@ use Rattle.go_exprs_elsewhere.specs.Elsewhere.{Moves}
 use Rattle.go_exprs_elsewhere.specs.Elsewhere as elsewhere
 use Rattle.go_stmts_elsewhere.specs.Frames.{Named}
 use Rattle.go_stmts_elsewhere.specs.Marked.{AlongAt}
-use Rattle.go_stmts_elsewhere.proofs.Entering.{tag_along, signature_along}
+use Rattle.go_stmts_elsewhere.specs.Replaced.{unsourced}
+use Rattle.go_stmts_elsewhere.proofs.Entering.{source_along, tag_along, signature_along}
 use Rattle.go_stmts_elsewhere.proofs.Placing.{back_along}
 
 -- ---- frames that say the same
@@ -39,6 +40,9 @@ same_back r a b f g d c = record {
 
 same_tag : (r : ℕ → Bool) (f g : Frame) → SameFrames r f g → (x : Stands) → SameFrames r (record f { tag = x }) (record g { tag = x })
 same_tag r f g c x = record { around = c.around; locals = c.locals; types = c.types; source = c.source; repeats = c.repeats; tag = refl; results = c.results }
+
+same_unsourced : (r : ℕ → Bool) (f g : Frame) → SameFrames r f g → SameFrames r (unsourced f) (unsourced g)
+same_unsourced r f g c = record { around = c.around; locals = c.locals; types = c.types; source = refl; repeats = tt; tag = c.tag; results = c.results }
 
 same_results : (r : ℕ → Bool) (f g : Frame) → SameFrames r f g → (a b : List TypeTree) → b ≡ a → SameFrames r (record f { results = a }) (record g { results = b })
 same_results r f g c a b e = record { around = c.around; locals = c.locals; types = c.types; source = c.source; repeats = c.repeats; tag = c.tag; results = e }
@@ -103,4 +107,13 @@ module _ (p q : ℕ → Bool) (m : Moves) (l : ℕ → Bool) where
     old_same = same_signature p c.old f c.old_same (Some x);
     new_same = same_signature q c.new g c.new_same (Some (elsewhere.placed m x));
     along = signature_along m l c.old c.new c.along (Some x) (n, tt);
+  }
+
+  pub unsourced_at : (f g : Frame) → AlongAt p q m l f g → AlongAt p q m l (unsourced f) (unsourced g)
+  unsourced_at f g c = record {
+    old = unsourced c.old;
+    new = unsourced c.new;
+    old_same = same_unsourced p c.old f c.old_same;
+    new_same = same_unsourced q c.new g c.new_same;
+    along = source_along m l c.old c.new c.along None None refl tt;
   }

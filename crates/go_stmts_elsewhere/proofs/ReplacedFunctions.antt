@@ -28,12 +28,12 @@ use Rattle.go_exprs_elsewhere.proofs.Public.{optional, type_kept}
 use Rattle.go_stmts_elsewhere.specs.Above.{quiet}
 use Rattle.go_stmts_elsewhere.specs.Functions.{LocalsStand}
 use Rattle.go_stmts_elsewhere.specs.Marked.{AlongAt, AlongReadingsAt, RelatedAt, KeepAt}
-use Rattle.go_stmts_elsewhere.specs.Replaced.{AreFree, Gap, SaysAs, EachTakesItsPlace, Changed, OldsRead, ChangedPart, FunctionChanged, ChangedFunctions, ChangedReadings, inside_function, tree_in, StaysTerminating, function_tree}
+use Rattle.go_stmts_elsewhere.specs.Replaced.{unsourced, AreFree, Gap, SaysAs, EachTakesItsPlace, Changed, OldsRead, ChangedPart, FunctionChanged, ChangedFunctions, ChangedReadings, inside_function, tree_in, StaysTerminating, function_tree}
 use Rattle.go_stmts_elsewhere.proofs.Around.{signature_kept}
 use Rattle.go_stmts_elsewhere.proofs.Cutting.{frames_along, old_same, new_same, related_along}
 use Rattle.go_stmts_elsewhere.proofs.Cutting as cut
 use Rattle.go_stmts_elsewhere.proofs.Entering.{entry_names_kept, first_parts_kept}
-use Rattle.go_stmts_elsewhere.proofs.FramesAt.{rights_at, results_at, back_at, signature_at}
+use Rattle.go_stmts_elsewhere.proofs.FramesAt.{rights_at, results_at, back_at, signature_at, unsourced_at}
 use Rattle.go_stmts_elsewhere.proofs.Free.{free_both, free_front, free_rest, nothing_found, found_nothing, free_placed, free_if_none, none_if_free}
 use Rattle.go_stmts_elsewhere.proofs.Functions.{signature_part_along, locals_along}
 use Rattle.go_stmts_elsewhere.proofs.Marked.{StatementsFollow, reading_at}
@@ -135,7 +135,7 @@ module _ (same : StatementsFollow) (typed_same : ExpressionsFollow) (p q : ℕ �
       changed : ChangedPart m l gaps (Some block) (Some other)
 
     abbrev Functions : Reading → Reading → Type 0
-    Functions (read x fs u) (read y hs v) = AreFree fs → BothRead x y × AreFree hs × AlongAt p q m l u v
+    Functions (read x fs u) (read y hs v) = AreFree fs → BothRead x y × AreFree hs × AlongAt p q m l (unsourced u) (unsourced v)
 
     whole_function : (z : Part) (fs hs : Found) → (AreFree fs → AreFree hs) → (r s : Reading) → KeepsResults within r → is_judged (Some (tree_in r) ∷ []) ≡ true → ChangedReadings p q m l gaps r s
         → (has_results within.results ≡ true → (y : Part) → ChangedPart m l gaps (Some (tree_in r)) (Some y) → terminates (tree_in r) ≡ true → terminates y ≡ true)
@@ -147,7 +147,7 @@ module _ (same : StatementsFollow) (typed_same : ExpressionsFollow) (p q : ℕ �
         let front = free_front body (own ∷ []) free in
         let o = w (free_rest fs xs front) in
         let none : own ≡ [] = nothing_found own (free_rest body (own ∷ []) free) in
-        let same_results : v.results ≡ within.results = results_at p q m l u v o.2 ∙ results in
+        let same_results : v.results ≡ within.results = results_at p q m l (unsourced u) (unsourced v) o.2 ∙ results in
         let none_new : new ≡ [] =
         ap (λ rs. if is_judged (Some y ∷ []) then function_failing rs (m.token j) y else []) same_results
         ∙ none_missing (is_judged (Some x ∷ [])) (is_judged (Some y ∷ [])) (has_results within.results) (terminates x) (terminates y) (fault_at code.MissingReturn (j - 1) j)
@@ -167,7 +167,7 @@ module _ (same : StatementsFollow) (typed_same : ExpressionsFollow) (p q : ℕ �
             changed = o.0;
           },
           free_both (hs ++ ys) (new ∷ []) (free_both hs ys (e (free_front fs xs front)) o.1) (found_nothing new none_new),
-          back_at p q m l f g u v c o.2,
+          back_at p q m l (unsourced f) (unsourced g) (unsourced u) (unsourced v) (unsourced_at p q m l f g c) o.2,
         )
 
     module _ (olds : OldsRead p q m gaps within old_block new_block d)
@@ -183,7 +183,7 @@ module _ (same : StatementsFollow) (typed_same : ExpressionsFollow) (p q : ℕ �
           (whole_function (placed m signature) fs hs (λ a. subst AreFree (sym header_at.1) (free_placed m fs a)) (reading within value old_block) (reading (behind_signature (Some (placed m signature)) g) value new_block)
           (block_results within value n k ts) (block_judged within value n k ts)
           (forgotten same p q m l s t gaps each (reading within value old_block) (reading (behind_signature (Some (placed m signature)) g) value new_block)
-          (changed_read same p q m l s t gaps each within (behind_signature (Some (placed m signature)) g) (within_at, signature_kept s (Some signature) f says, signature_kept t (Some (placed m signature)) g says_new) value old_block new_block d olds)) ends)
+          (changed_read same p q m l s t gaps each within (behind_signature (Some (placed m signature)) g) (unsourced_at p q m l within (behind_signature (Some (placed m signature)) g) within_at, signature_kept s (Some signature) f says, signature_kept t (Some (placed m signature)) g says_new) value old_block new_block d olds)) ends)
 
   -- ---- functions of two packages
 
@@ -213,14 +213,14 @@ module _ (same : StatementsFollow) (typed_same : ExpressionsFollow) (p q : ℕ �
         ∙ signature_part_along m l (cut.old p q m l before behind c) (cut.new p q m l before behind c) (frames_along p q m l before behind c) ls (more sign none) (keep.1, tt)
         ∙ ap (λ z. Some (placed m z)) (sym (typed_same p (cut.old p q m l before behind c).around s free sign (old_same p q m l before behind c).around keep.0.0).typed)
 
-    locals_same : (f g : Frame) → AlongAt p q m l f g → (k : ℕ) → l k ≡ true
+    locals_same : (f g : Frame) → AlongAt p q m l (unsourced f) (unsourced g) → (k : ℕ) → l k ≡ true
         → slice_get (map (local_stands g.locals) (numbers_from 0 (length g.locals))) (m.local k) ≡ slice_get (map (local_stands f.locals) (numbers_from 0 (length f.locals))) k
     locals_same f g w k e =
         ap (λ ns. slice_get (map (local_stands ns) (numbers_from 0 (length ns))) (m.local k)) w.new_same.locals
         ∙ locals_along m l w.old w.new w.along k e
         ∙ ap (λ ns. slice_get (map (local_stands ns) (numbers_from 0 (length ns))) k) (sym w.old_same.locals)
 
-    content : (v w : Part) (f g : Frame) → BothRead before behind along (says_start s count types) (says_start t other others) a b gs keep i j n k ts us d v w → AlongAt p q m l f g
+    content : (v w : Part) (f g : Frame) → BothRead before behind along (says_start s count types) (says_start t other others) a b gs keep i j n k ts us d v w → AlongAt p q m l (unsourced f) (unsourced g)
         → FunctionChanged p q m l gaps (last x) number (function_read s old (last x) (signature_of s x) v f) (function_read t number (last y) (signature_of t y) w g)
     content v w f g r e = record {
       number = refl;
@@ -254,7 +254,7 @@ module _ (same : StatementsFollow) (typed_same : ExpressionsFollow) (p q : ℕ �
           let o = e (free_if_none fs h) in
           subst (λ z. ChangedFunctions p q m l gaps (last x) number (judged z (old_function v f)) (judged (reported hs) (new_function w g))) (sym h)
           (subst (λ z. ChangedFunctions p q m l gaps (last x) number (Ok (old_function v f)) (judged z (new_function w g))) (sym (none_if_free hs o.1))
-          (content v w f g o.0 o.2, rights_at p q m l f g o.2))
+          (content v w f g o.0 o.2, rights_at p q m l (unsourced f) (unsourced g) o.2))
 
       by_fault : (v w : Part) (fs hs : Found) (f g : Frame) → Functions before behind along (says_start s count types) (says_start t other others) a b gs keep i j n k ts us d (read v fs f) (read w hs g) → (o : Option TypeFault) → reported fs ≡ o
           → ChangedFunctions p q m l gaps (last x) number (judged (reported fs) (old_function v f)) (judged (reported hs) (new_function w g))

@@ -1,5 +1,5 @@
 -- Functions with other statements in place of some: the induction over their trees.
-use Rattle.std.proofs.Common.{◌≡◌, ◌∙◌, ℕ, ◌⊎◌, inl, inr, Bool, true, false, List, [], ◌∷◌, ◌++◌, Some, None, refl, sym, ap, subst}
+use Rattle.std.proofs.Common.{◌≡◌, ◌∙◌, ℕ, ◌⊎◌, inl, inr, Bool, true, false, List, [], ◌∷◌, ◌++◌, Some, Option, None, refl, sym, ap, subst}
 use Rattle.std.specs.Prelude.{if◌then◌else◌, slice_get}
 use Rattle.std.proofs.lemmas.List.{append-nil}
 use Rattle.go_grammar.specs.declared.kind.Kind.{Kind}
@@ -13,24 +13,25 @@ use Rattle.go_typed.specs.Trees as sort
 use Rattle.go_exprs_rules.specs.declared.fault.TypeFault.{TypeFault}
 use Rattle.go_exprs_rules.specs.Scopes.{Hint, Scope, value}
 use Rattle.go_exprs_rules.specs.Settling.{Part}
-use Rattle.go_exprs_rules.specs.Tables.{Parts, held, label, is_judged}
+use Rattle.go_exprs_rules.specs.Tables.{Parts, held, all_held, label, is_judged}
 use Rattle.go_stmts_defs.specs.Frames.{Frame}
-use Rattle.go_stmts_defs.specs.Laying.{told, layout, form_by, if_parts, switch_parts, for_parts, first_loop_form}
+use Rattle.go_stmts_defs.specs.Laying.{held_count, told, layout, form_by, if_parts, switch_parts, for_parts, first_loop_form}
 use Rattle.go_stmts_defs.specs.Reading.{Found, holding, held_faults, Reading, read, Readings, all_read, tag_behind, entering, in_switch, back, leaving, left_out, left_out_faults, closed, after, reading, readings}
 use Rattle.go_stmts_defs.specs.Rules.{loop_takes, taking, own_faults, built_by, all_given}
 use Rattle.go_exprs_elsewhere.specs.Elsewhere.{Moves, placed}
 use Rattle.go_stmts_elsewhere.specs.Above.{Container, a_block, an_if, a_switch, a_default, form_in, quiet, IsAbove}
 use Rattle.go_stmts_elsewhere.specs.Gaps.{IsList, run, parts_in, found_in, behind, fronted}
+use Rattle.go_stmts_elsewhere.specs.Frames.{faults_placed, Named}
 use Rattle.go_stmts_elsewhere.specs.Marked.{AlongAt, AlongReadingsAt, KeepAt}
-use Rattle.go_stmts_elsewhere.specs.Replaced.{AreFree, AreStatementParts, Gap, SaysAs, Related, ChangedReadings, EachTakesItsPlace, HasInside, has_list, AreWhole, Changed, whole, inside, in_else, in_case, AllChanged, ended, next, left, others, Behindhand, OldsRead, AllOldsRead, ChangedPart, absent, stays, around, around_else, ChangedParts, no_more, one_more, in_place}
+use Rattle.go_stmts_elsewhere.specs.Replaced.{HaveNoSource, unsourced, AreFree, AreStatementParts, Gap, SaysAs, Related, ChangedReadings, EachTakesItsPlace, HasInside, has_list, AreWhole, Changed, whole, inside, in_else, in_case, AllChanged, ended, next, left, others, Behindhand, OldsRead, AllOldsRead, ChangedPart, absent, stays, around, around_else, ChangedParts, no_more, one_more, in_place}
 use Rattle.go_stmts_elsewhere.proofs.Above.{loop_types}
 use Rattle.go_stmts_elsewhere.proofs.Around.{Keeps, back_kept, switch_kept, reading_kept, behind_kept}
-use Rattle.go_stmts_elsewhere.proofs.Sources.{sourced}
+use Rattle.go_stmts_elsewhere.proofs.Sources.{sourced, layout_so, held_so, faults_so, own_so, built_so, SameButSource, reading_so, carried_so}
 use Rattle.go_stmts_elsewhere.proofs.ChangedCases.{AllThere, values_there, none_fails_in_case, case_built}
 use Rattle.go_stmts_elsewhere.proofs.ChangedNodes.{both_changed, one_changed, if_changed, switch_changed, for_changed, all_given_changed, loop_takes_changed, tag_changed, of_first_loop}
 use Rattle.go_stmts_elsewhere.proofs.Clauses.{list_read}
 use Rattle.go_stmts_elsewhere.proofs.Free.{free_both, free_front, free_rest, free_or_not, nothing_found, found_nothing, free_placed}
-use Rattle.go_stmts_elsewhere.proofs.FramesAt.{back_at, under_tag}
+use Rattle.go_stmts_elsewhere.proofs.FramesAt.{back_at, under_tag, unsourced_at}
 use Rattle.go_stmts_elsewhere.proofs.Gaps.{run_first}
 use Rattle.go_stmts_elsewhere.proofs.Hollow.{hollow, same_form, none_fails}
 use Rattle.go_stmts_elsewhere.proofs.Marked.{StatementsFollow, reading_at}
@@ -129,7 +130,7 @@ module _ (same : StatementsFollow) (p q : ℕ → Bool) (m : Moves) (l : ℕ →
   At f g = Related p q m l s t f g
 
   at_back : (a b f g : Frame) → At a b → At f g → At (back a f) (back b g)
-  at_back a b f g d c = (back_at p q m l a b f g d.0 c.0, back_kept s a f c.1, back_kept t b g c.2)
+  at_back a b f g d c = (back_at p q m l (unsourced a) (unsourced b) (unsourced f) (unsourced g) d.0 c.0, back_kept s a f c.1, back_kept t b g c.2)
 
   -- what is known of parts, of the rules that fail in the new ones, and of the frames behind both
   abbrev State : Bool → Parts → Parts → Found → Frame → Frame → Type 0
@@ -141,21 +142,26 @@ module _ (same : StatementsFollow) (p q : ℕ → Bool) (m : Moves) (l : ℕ →
   abbrev pub Reads : Reading → Reading → Type 0
   Reads (read x fs f) (read y gs g) = AreFree fs → ChangedPart m l gaps (Some x) (Some y) × AreFree gs × At f g
 
-  whole_read : (r w : Reading) → Keeps s r → Keeps t w → AlongReadingsAt p q m l r w → Reads r w
-  whole_read (read x fs f) (read y gs g) c d e = λ free. (
-    subst (λ z. ChangedPart m l gaps (Some x) (Some z)) (sym e.0) (stays x e.3),
-    subst AreFree (sym e.1) (free_placed m fs free),
-    (e.2, c, d),
+  -- readings in these frames, and in those in which constants repeat nothing
+  whole_read : (r w r0 w0 : Reading) → Keeps s r → Keeps t w → SameButSource r r0 → SameButSource w w0 → AlongReadingsAt p q m l r0 w0 → Reads r w
+  whole_read (read x fs f) (read y gs g) (read x0 fs0 f0) (read y0 gs0 g0) c d er ew e = λ free. (
+    subst (λ z. ChangedPart m l gaps (Some x) (Some z)) (sym (sym ew.0 ∙ e.0 ∙ ap (placed m) er.0)) (stays x (subst (Named l) er.0 e.3)),
+    subst AreFree (sym (sym ew.1 ∙ e.1)) (free_placed m fs0 (subst AreFree (sym er.1) free)),
+    (through er.2.0 ew.2.0 f g (subst (λ z. AlongAt p q m l z (sourced ew.2.0 g)) er.2.1 (subst (λ z. AlongAt p q m l f0 z) ew.2.1 e.2)), c, d),
   )
+    where
+      through : (o n : Option Tree) (f g : Frame) → AlongAt p q m l (sourced o f) (sourced n g) → AlongAt p q m l (unsourced f) (unsourced g)
+      through o n f g c = unsourced_at p q m l (sourced o f) (sourced n g) c
 
   vacuous : (b : Bool) (r s : Readings) → (AreFree (found_in r) → ⊥) → Then b r s
   vacuous b (all_read xs fs f) (all_read ys gs g) e = λ free. absurd (e free)
 
   -- ---- in front of a part, and where one is left out
 
-  switch_entering : (f g : Frame) → AlongAt p q m l f g → (xs ys : Parts) → ChangedParts m l gaps false xs ys → AlongAt p q m l (in_switch xs f) (in_switch ys g)
+  switch_entering : (f g : Frame) → AlongAt p q m l (unsourced f) (unsourced g) → (xs ys : Parts) → ChangedParts m l gaps false xs ys
+      → AlongAt p q m l (unsourced (in_switch xs f)) (unsourced (in_switch ys g))
   switch_entering f g c xs ys (no_more z) = c
-  switch_entering f g c xs ys (one_more z x y us vs d (no_more t)) = under_tag p q m l f g c (tag_behind x) (tag_behind y) (tag_changed m l gaps x y d)
+  switch_entering f g c xs ys (one_more z x y us vs d (no_more t)) = under_tag p q m l (unsourced f) (unsourced g) c (tag_behind x) (tag_behind y) (tag_changed m l gaps x y d)
   switch_entering f g c xs ys (one_more z x y us vs d (one_more t a b os bs e w)) = c
 
   entering_changed : (k : Kind) → IsRow k → (b : Bool) → has_list k ≡ b → (f g : Frame) → At f g → (xs ys : Parts) → ChangedParts m l gaps b xs ys → At (entering k xs f) (entering k ys g)
@@ -311,6 +317,14 @@ module _ (same : StatementsFollow) (p q : ℕ → Bool) (m : Moves) (l : ℕ →
       )
 
   module _ (u v : Frame) (c : At u v) (i j : ℕ) (xs ys : Parts) where
+    -- no rule fails where none failed
+    none_there : (k : Kind) → IsAbove k → ChangedParts m l gaps false xs ys → own_faults u k (form_by k xs) i j (layout u k i xs) ≡ [] → own_faults v k (form_by k ys) (m.token i) (m.token j) (layout v k (m.token i) ys) ≡ []
+    none_there k a w e =
+        sym (own_in v k (m.token i) (m.token j) ys) ∙ none_fails p q m l (unsourced u) (unsourced v) c.0 k a i j xs ys (hollow m l gaps xs ys w) (own_in u k i j xs ∙ e)
+      where
+        own_in : (f : Frame) (k : Kind) (i j : ℕ) (xs : Parts) → own_faults (unsourced f) k (form_by k xs) i j (layout (unsourced f) k i xs) ≡ own_faults f k (form_by k xs) i j (layout f k i xs)
+        own_in f k i j xs = ap (own_faults (unsourced f) k (form_by k xs) i j) (layout_so f None k i xs) ∙ own_so f None k (form_by k xs) i j (layout f k i xs)
+
     -- of an `if` or a switch, what it gives
     fixed_around : (k : Container) (f : Form) → f ≡ form_in k → (a b d e : Bool) (zs ws : Parts) → ChangedParts m l gaps false zs ws
         → IsAround (typed f i j (quiet a b) (row zs)) (typed f (m.token i) (m.token j) (quiet d e) (row ws))
@@ -357,7 +371,7 @@ module _ (same : StatementsFollow) (p q : ℕ → Bool) (m : Moves) (l : ℕ →
         let o = of_first_loop xs in
         let f = label r sort.Nothing us in
         let ks = loop_takes r us in
-        let start : first_loop_form ys ≡ r = same_form p q m l u v c.0 kind.For tt i j xs ys (hollow m l gaps xs ys w) in
+        let start : first_loop_form ys ≡ r = same_form p q m l (unsourced u) (unsourced v) c.0 kind.For tt i j xs ys (hollow m l gaps xs ys w) in
         subst (λ z. IsAround (built_by u kind.For r i j us []) (built_by v kind.For z (m.token i) (m.token j) vs [])) (sym start)
         (let g = label r sort.Nothing vs in
         subst (λ ls. IsAround (built_by u kind.For r i j us []) (typed r (m.token i) (m.token j) g (row (all_given ls vs)))) (sym (loop_takes_changed m l gaps r us vs d))
@@ -396,9 +410,9 @@ module _ (same : StatementsFollow) (p q : ℕ → Bool) (m : Moves) (l : ℕ →
         let f = label form.Default sort.Nothing xs in
         let g = label form.Default sort.Nothing ys in
         (either_way (is_judged ys) [] refl, list_built a_default form.Default refl true f.varies f.calls g.varies g.calls w)
-    one_node kind.If h w e = (none_fails p q m l u v c.0 kind.If tt i j xs ys (hollow m l gaps xs ys w) e, if_built w)
-    one_node kind.Switch h w e = (none_fails p q m l u v c.0 kind.Switch tt i j xs ys (hollow m l gaps xs ys w) e, switch_built w)
-    one_node kind.For h w e = (none_fails p q m l u v c.0 kind.For tt i j xs ys (hollow m l gaps xs ys w) e, for_built w)
+    one_node kind.If h w e = (none_there kind.If tt w e, if_built w)
+    one_node kind.Switch h w e = (none_there kind.Switch tt w e, switch_built w)
+    one_node kind.For h w e = (none_there kind.For tt w e, for_built w)
     one_node k h w e = absurd h
 
   node_around : (k : Kind) → HasInside k → (f g : Frame) → At f g → (i j : ℕ) (ps qs : Trees) (r s : Readings) → Then (has_list k) r s
@@ -435,9 +449,9 @@ module _ (same : StatementsFollow) (p q : ℕ → Bool) (m : Moves) (l : ℕ →
   stand : (n : ℕ) (gap : Gap) → slice_get gaps n ≡ Some gap → AreStatementParts gap.olds × AreStatementParts gap.news
   stand n gap e = ((each n gap e).olds_stand, (each n gap e).news_stand)
 
-  case_reads : (f g : Frame) → At f g → (i j a b : ℕ) (vs : Trees) → AreWhole vs → KeepAt p q m (node kind.ExpressionList a b vs) → (h : Hint) (ps qs : Trees) → Then true (run f ps) (run g qs)
+  case_reads : (f g : Frame) → At f g → (i j a b : ℕ) (vs : Trees) → AreWhole vs → KeepAt p q m (node kind.ExpressionList a b vs) → HaveNoSource vs → (h : Hint) (ps qs : Trees) → Then true (run f ps) (run g qs)
       → Reads (reading f h (node kind.Case i j (more (node kind.ExpressionList a b vs) ps))) (reading g h (node kind.Case (m.token i) (m.token j) (more (carry m.token (node kind.ExpressionList a b vs)) qs)))
-  case_reads f g c i j a b vs there keep h ps qs t =
+  case_reads f g c i j a b vs there keep sources h ps qs t =
       let list = node kind.ExpressionList a b vs in
       let moved = carry m.token list in
       let x = holding f value list in
@@ -446,21 +460,29 @@ module _ (same : StatementsFollow) (p q : ℕ → Bool) (m : Moves) (l : ℕ →
       let ys = held_faults g value moved in
       let all = more list ps in
       let new = more moved qs in
-      let read_at : AlongReadingsAt p q m l (read x xs f) (read y ys g) = reading_at same p q m l f g c.0 value list keep in
+      let read_at : AlongReadingsAt p q m l (read (holding (unsourced f) value list) (held_faults (unsourced f) value list) (unsourced f)) (read (holding (unsourced g) value moved) (held_faults (unsourced g) value moved) (unsourced g)) =
+      reading_at same p q m l (unsourced f) (unsourced g) c.0 value list keep in
+      let parts_same : y ≡ placed m x = sym (held_so g None value moved) ∙ read_at.0 ∙ ap (placed m) (held_so f None value list) in
+      let found_same : ys ≡ faults_placed m xs = sym (faults_so g None value moved) ∙ read_at.1 ∙ ap (faults_placed m) (faults_so f None value list) in
       subst (λ r. Reads (closed f kind.Case i j all r) (reading g h (node kind.Case (m.token i) (m.token j) new))) (sym (list_read kind.Case tt f h all (Some x ∷ []) xs ps))
       (subst (λ s. Reads (closed f kind.Case i j all (fronted (Some x ∷ []) xs (run f ps))) (closed g kind.Case (m.token i) (m.token j) new s)) (sym (list_read kind.Case tt g h new (Some y ∷ []) ys qs))
-      (by (run f ps) (run g qs) t x xs y ys read_at (values_there f a b vs there)))
+      (by (run f ps) (run g qs) t x xs y ys (parts_same, found_same) (subst (Named l) (held_so f None value list) read_at.3) (values_there f a b vs there)))
     where
-      by : (r s : Readings) → Then true r s → (x : Part) (xs : Found) (y : Part) (ys : Found) → AlongReadingsAt p q m l (read x xs f) (read y ys g) → AllThere (held (Some x))
+      by : (r s : Readings) → Then true r s → (x : Part) (xs : Found) (y : Part) (ys : Found) → (y ≡ placed m x) × (ys ≡ faults_placed m xs) → Named l x → AllThere (held (Some x))
           → Reads (closed f kind.Case i j (more (node kind.ExpressionList a b vs) ps) (fronted (Some x ∷ []) xs r)) (closed g kind.Case (m.token i) (m.token j) (more (carry m.token (node kind.ExpressionList a b vs)) qs) (fronted (Some y ∷ []) ys s))
-      by (all_read rs fs u) (all_read ss gs v) t x xs y ys e there =
+      by (all_read rs fs u) (all_read ss gs v) t x xs y ys e named there =
           subst (λ z. Reads (closed f kind.Case i j (more (node kind.ExpressionList a b vs) ps) (all_read (Some x ∷ rs) (xs ++ fs) u))
           (closed g kind.Case (m.token i) (m.token j) (more (carry m.token (node kind.ExpressionList a b vs)) qs) (all_read (Some z ∷ ss) (ys ++ gs) v))) (sym e.0)
           (closed_reads kind.Case tt f g c i j (more (node kind.ExpressionList a b vs) ps) (more (carry m.token (node kind.ExpressionList a b vs)) qs) (Some x ∷ rs) (Some (placed m x) ∷ ss) (xs ++ fs) (ys ++ gs) u v
           (λ free. let o = t (free_rest xs fs free) in (free_both ys gs (subst AreFree (sym e.1) (free_placed m xs (free_front xs fs free))) o.1, o.2))
           (λ free d. let o = t (free_rest xs fs free) in (
-            none_fails_in_case m l gaps stand p q u v o.2.0 i j x e.3 there rs ss o.0 d,
-            case_built m l gaps stand p q u v o.2.0 i j x e.3 there rs ss o.0,
+            sym (own_so v None kind.Case (form.Case (held_count (Some (placed m x)))) (m.token i) (m.token j) (all_held (Some (placed m x) ∷ ss)))
+                ∙ none_fails_in_case m l gaps stand p q (unsourced u) (unsourced v) o.2.0 i j x named there rs ss o.0 (own_so u None kind.Case (form.Case (held_count (Some x))) i j (all_held (Some x ∷ rs)) ∙ d),
+            subst (λ z. ChangedPart m l gaps (Some z) (Some (built_by v kind.Case (form.Case (held_count (Some (placed m x)))) (m.token i) (m.token j) (all_held (Some (placed m x) ∷ ss)) [])))
+                (built_so u None kind.Case (form.Case (held_count (Some x))) i j (all_held (Some x ∷ rs)) [])
+                (subst (λ z. ChangedPart m l gaps (Some (built_by (unsourced u) kind.Case (form.Case (held_count (Some x))) i j (all_held (Some x ∷ rs)) [])) (Some z))
+                (built_so v None kind.Case (form.Case (held_count (Some (placed m x)))) (m.token i) (m.token j) (all_held (Some (placed m x) ∷ ss)) [])
+                (case_built m l gaps stand p q (unsourced u) (unsourced v) o.2.0 i j x named there rs ss o.0)),
           )))
 
   -- ---- a part of a row, and what is left
@@ -493,15 +515,16 @@ module _ (same : StatementsFollow) (p q : ℕ → Bool) (m : Moves) (l : ℕ →
 
   mutual
     pub changed_read : (f g : Frame) → At f g → (h : Hint) (x y : Tree) (d : Changed p q m gaps x y) → OldsRead p q m gaps f x y d → Reads (reading f h x) (reading g h y)
-    changed_read f g c h x y (whole z keep) o =
-        whole_read (reading f h z) (reading g h (carry m.token z)) (reading_kept s f c.1 h z) (reading_kept t g c.2 h (carry m.token z)) (reading_at same p q m l f g c.0 h z keep)
+    changed_read f g c h x y (whole z keep sources) o =
+        whole_read (reading f h z) (reading g h (carry m.token z)) (reading (unsourced f) h z) (reading (unsourced g) h (carry m.token z)) (reading_kept s f c.1 h z) (reading_kept t g c.2 h (carry m.token z))
+        (reading_so f None h z sources) (reading_so g None h (carry m.token z) (carried_so m.token z sources)) (reading_at same p q m l (unsourced f) (unsourced g) c.0 h z keep)
     changed_read f g c h x y (inside k w i j ps qs d) o =
         as_read (reading f h (node k i j ps)) (reading g h (node k (m.token i) (m.token j) qs)) (inside_read f g c h k w i j ps qs
         (all_changed k (row_inside k w) (has_list k) refl f g h ps qs [] [] [] [] (λ free. (no_more (has_list k), tt, c)) ps qs d o))
     changed_read f g c h x y (in_else k w i j a b ps qs d) o = else_reads f g c h i j (node k a b ps) (node k (m.token a) (m.token b) qs) (inside_read f g c value k w a b ps qs
         (all_changed k (row_inside k w) (has_list k) refl f g value ps qs [] [] [] [] (λ free. (no_more (has_list k), tt, c)) ps qs d o))
-    changed_read f g c h x y (in_case i j a b vs there keep ps qs d) o =
-        case_reads f g c i j a b vs there keep h ps qs (all_changed kind.Block tt true refl f g value none none [] [] [] [] (λ free. (no_more true, tt, c)) ps qs d o)
+    changed_read f g c h x y (in_case i j a b vs there keep sources ps qs d) o =
+        case_reads f g c i j a b vs there keep sources h ps qs (all_changed kind.Block tt true refl f g value none none [] [] [] [] (λ free. (no_more true, tt, c)) ps qs d o)
 
     all_changed : (k : Kind) → IsRow k → (b : Bool) → has_list k ≡ b → (f g : Frame) (h : Hint) (all new : Trees) (xs ys : Parts) (fs gs : Found) → (AreFree fs → State b xs ys gs f g) → (ts us : Trees)
         → (d : AllChanged p q m gaps b ts us) → AllOldsRead p q m gaps f k xs b ts us d → Then b (readings f k h all xs fs ts) (readings g k h new ys gs us)

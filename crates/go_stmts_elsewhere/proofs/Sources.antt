@@ -4,6 +4,7 @@ use Rattle.go_grammar.specs.declared.kind.Kind.{Kind}
 use Rattle.go_grammar.specs.declared.kind.Kind.TheVariants as kind
 use Rattle.go_grammar.specs.declared.kind.Sort.TheVariants as declaring
 use Rattle.go_grammar.specs.Trees.{Tree, node, Trees, none, more, skip, kind_of}
+use Rattle.go_rewriting.specs.Places.{carry, carries}
 use Rattle.go_types.specs.Trees.{TypeTree}
 use Rattle.go_typed.specs.declared.form.Form.{Form}
 use Rattle.go_typed.specs.Trees.{list_of, parts_of, sort_of, form_of}
@@ -18,7 +19,7 @@ use Rattle.go_exprs_rules.specs.Typing.{typing, faults}
 use Rattle.go_stmts_defs.specs.Frames.{Frame, rights_of, scope_of, with_own_right}
 use Rattle.go_stmts_defs.specs.Laying.{told, layout, form_by, local_named, type_number}
 use Rattle.go_stmts_defs.specs.Reading.{Found, is_list, is_declared_name, list_node, name_node, holding, holdings, held_faults, all_held_faults}
-use Rattle.go_stmts_defs.specs.Reading.{is_new, declares_sort, declares_name, declares_all, right_side, with_type, with_parameter, with_parameters, behind_signature, signature_results, first_parts, entry_names}
+use Rattle.go_stmts_defs.specs.Reading.{is_new, declares_sort, declares_name, declares_all, right_side, with_type, with_parameter, with_parameters, signature_results, first_parts, entry_names}
 use Rattle.go_stmts_defs.specs.Reading.{in_function, in_switch, entering, beginning, back, leaving, Reading, read, Readings, all_read, left_out, left_out_faults, is_statement, closed, after, reading, readings}
 use Rattle.go_stmts_defs.specs.Rules.{first_fault, late_limits, type_failing, failing, taking, judges, own_faults, built_by, all_given}
 use Rattle.go_stmts_elsewhere.specs.Replaced.{HasNoSource, HaveNoSource}
@@ -29,7 +30,7 @@ sourced o f = record f { source = o }
 
 -- ---- parts without statements
 
-layout_so : (f : Frame) (o : Option Tree) (k : Kind) (i : ℕ) (xs : Parts) → layout (sourced o f) k i xs ≡ layout f k i xs
+pub layout_so : (f : Frame) (o : Option Tree) (k : Kind) (i : ℕ) (xs : Parts) → layout (sourced o f) k i xs ≡ layout f k i xs
 layout_so f o kind.NewNames i xs = refl
 layout_so f o kind.Targets i xs = refl
 layout_so f o kind.Values i xs = refl
@@ -51,7 +52,7 @@ layout_so f o kind.FunctionDeclaration i xs = refl
 layout_so f o k i xs = refl
 
 mutual
-  held_so : (f : Frame) (o : Option Tree) (h : Hint) (x : Tree) → holding (sourced o f) h x ≡ holding f h x
+  pub held_so : (f : Frame) (o : Option Tree) (h : Hint) (x : Tree) → holding (sourced o f) h x ≡ holding f h x
   held_so f o h (node k i j ps) =
       ap (λ ys. cond (is_list k) (list_node f k i j ys) (cond (is_declared_name k) (name_node f i j) (typing (scope_of f) h (node k i j ps)))) (ap (layout (sourced o f) k i) (all_held_so f o k h ps [] ps) ∙ layout_so f o k i (holdings f k h ps [] ps))
 
@@ -62,7 +63,7 @@ mutual
       ap (λ z. holdings (sourced o f) k h all (xs ++ Some z ∷ []) ts) (held_so f o (told k h all xs (kind_of t)) t) ∙ all_held_so f o k h all (xs ++ Some (holding f (told k h all xs (kind_of t)) t) ∷ []) ts
 
 mutual
-  faults_so : (f : Frame) (o : Option Tree) (h : Hint) (x : Tree) → held_faults (sourced o f) h x ≡ held_faults f h x
+  pub faults_so : (f : Frame) (o : Option Tree) (h : Hint) (x : Tree) → held_faults (sourced o f) h x ≡ held_faults f h x
   faults_so f o h (node k i j ps) = ap (λ fs. cond (is_list k) fs (cond (is_declared_name k) [] (faults (scope_of f) h (node k i j ps)))) (all_faults_so f o k h ps [] ps)
 
   all_faults_so : (f : Frame) (o : Option Tree) (k : Kind) (h : Hint) (all : Trees) (xs : Parts) (ts : Trees) → all_held_faults (sourced o f) k h all xs ts ≡ all_held_faults f k h all xs ts
@@ -120,10 +121,10 @@ taking_so f o kind.Switch r ys = refl
 taking_so f o kind.Case r ys = refl
 taking_so f o k r ys = refl
 
-own_so : (f : Frame) (o : Option Tree) (k : Kind) (r : Form) (i j : ℕ) (ys : Parts) → own_faults (sourced o f) k r i j ys ≡ own_faults f k r i j ys
+pub own_so : (f : Frame) (o : Option Tree) (k : Kind) (r : Form) (i j : ℕ) (ys : Parts) → own_faults (sourced o f) k r i j ys ≡ own_faults f k r i j ys
 own_so f o k r i j ys = ap (λ fs. cond (judges k ys) fs []) (failing_so f o k r i j ys)
 
-built_so : (f : Frame) (o : Option Tree) (k : Kind) (r : Form) (i j : ℕ) (ys : Parts) (es : List TypeFault) → built_by (sourced o f) k r i j ys es ≡ built_by f k r i j ys es
+pub built_so : (f : Frame) (o : Option Tree) (k : Kind) (r : Form) (i j : ℕ) (ys : Parts) (es : List TypeFault) → built_by (sourced o f) k r i j ys es ≡ built_by f k r i j ys es
 built_so f o k r i j ys [] = ap (λ ks. made r i j sort.Nothing ys (all_given ks ys)) (taking_so f o k r ys)
 built_so f o k r i j ys (e ∷ es) = refl
 
@@ -226,13 +227,15 @@ closed_so k w a o i j ps (all_read xs fs f) (all_read ys gs g) e =
     let x = built_by f k (form_by k xs) i j (layout f k i xs) own in
     let same_own : own_faults (sourced q f) k (form_by k xs) i j (layout (sourced q f) k i xs) ≡ own = ap (own_faults (sourced q f) k (form_by k xs) i j) (layout_so f q k i xs) ∙ own_so f q k (form_by k xs) i j (layout f k i xs) in
     let same_part : built_by (sourced q f) k (form_by k xs) i j (layout (sourced q f) k i xs) (own_faults (sourced q f) k (form_by k xs) i j (layout (sourced q f) k i xs)) ≡ x =
-        ap (λ zs. built_by (sourced q f) k (form_by k xs) i j zs (own_faults (sourced q f) k (form_by k xs) i j (layout (sourced q f) k i xs))) (layout_so f q k i xs)
-        ∙ ap (built_by (sourced q f) k (form_by k xs) i j (layout f k i xs)) same_own ∙ built_so f q k (form_by k xs) i j (layout f k i xs) own in
+    ap (λ zs. built_by (sourced q f) k (form_by k xs) i j zs (own_faults (sourced q f) k (form_by k xs) i j (layout (sourced q f) k i xs))) (layout_so f q k i xs)
+    ∙ ap (built_by (sourced q f) k (form_by k xs) i j (layout f k i xs)) same_own ∙ built_so f q k (form_by k xs) i j (layout f k i xs) own in
     subst (λ z. SameButSource (closed a k i j ps (all_read xs fs f)) (closed (sourced o a) k i j ps (all_read z gs g))) (sym e.0)
     (subst (λ z. SameButSource (closed a k i j ps (all_read xs fs f)) (closed (sourced o a) k i j ps (all_read xs z g))) (sym e.1)
-    (subst (λ z. SameButSource (closed a k i j ps (all_read xs fs f)) (closed (sourced o a) k i j ps (all_read xs fs z))) (sym e.2.1)
-    (same_part, ap (λ es. fs ++ es ∷ []) same_own,
-      (q, ap (λ z. leaving k i ps z (back (sourced o a) (sourced q f))) same_part ∙ leaving_so q k w i ps x (back a f)))))
+    (subst (λ z. SameButSource (closed a k i j ps (all_read xs fs f)) (closed (sourced o a) k i j ps (all_read xs fs z))) (sym e.2.1) (
+      same_part,
+      ap (λ es. fs ++ es ∷ []) same_own,
+      (q, ap (λ z. leaving k i ps z (back (sourced o a) (sourced q f))) same_part ∙ leaving_so q k w i ps x (back a f)),
+    )))
 
 after_so : (r s : Reading) → SameButSource r s → (n m : Part → Found → Frame → Readings) → ((x : Part) (fs : Found) (f : Frame) (o : Option Tree) → AllButSource (n x fs f) (m x fs (sourced o f))) → AllButSource (after r n) (after s m)
 after_so (read x fs f) (read y gs g) e n m k =
@@ -320,3 +323,17 @@ mutual
       subst (λ z. AllButSource (readings f k h all xs fs (more t ts)) (after (reading z g t) (λ x gs u. readings u k h all (xs ++ Some x ∷ []) (fs ++ gs) ts))) (sym (entering_so o k c xs f))
       (after_so (reading a g t) (reading (sourced o a) g t) (reading_so a o g t w.0) (λ x gs u. readings u k h all (xs ++ Some x ∷ []) (fs ++ gs) ts) (λ x gs u. readings u k h all (xs ++ Some x ∷ []) (fs ++ gs) ts)
       (λ x gs u q. readings_so k c u q h all (xs ++ Some x ∷ []) (fs ++ gs) ts w.1))
+
+-- ---- trees at their new places
+
+mutual
+  pub carried_so : (m : ℕ → ℕ) (x : Tree) → HasNoSource x → HasNoSource (carry m x)
+  carried_so m (node (kind.Specification declaring.Constant) i j ps) w = w
+  carried_so m (node (kind.Declaration declaring.Constant) i j ps) w = tt
+  carried_so m (node (kind.Group declaring.Constant) i j ps) w = tt
+  carried_so m (node k i j ps) w = all_carried_so m ps w
+
+  all_carried_so : (m : ℕ → ℕ) (ts : Trees) → HaveNoSource ts → HaveNoSource (carries m ts)
+  all_carried_so m none w = tt
+  all_carried_so m (more t ts) w = (carried_so m t w.0, all_carried_so m ts w.1)
+  all_carried_so m (skip ts) w = all_carried_so m ts w

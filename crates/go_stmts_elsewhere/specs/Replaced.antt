@@ -62,15 +62,19 @@ pub record SaysAs (s : Scope) (f : Frame) : Type 0 where
   pub needed : f.around.needed ≡ s.needed
   pub limits : f.around.limits ≡ s.limits
 
--- Frames of the function in the scope s and of the one in the scope t, related at their tokens.
+-- what constants repeat, and nothing else, left out
+abbrev pub unsourced : Frame → Frame
+unsourced f = record f { source = None }
+
+-- Frames of the function in the scope s and of the one in the scope t, related at their tokens, whatever constants repeat.
 abbrev pub Related : (ℕ → Bool) → (ℕ → Bool) → Moves → (ℕ → Bool) → Scope → Scope → Frame → Frame → Type 0
-Related p q m l s t f g = AlongAt p q m l f g × SaysAs s f × SaysAs t g
+Related p q m l s t f g = AlongAt p q m l (unsourced f) (unsourced g) × SaysAs s f × SaysAs t g
 
 -- Where the old statements are read to be what the gap says and no rule fails in them, so are the new ones in each related frame, and
 -- behind them the frames are related again.
 pub record TakesThePlace (p q : ℕ → Bool) (m : Moves) (l : ℕ → Bool) (s t : Scope) (gap : Gap) : Type 0 where
   pub reads : (f g : Frame) → Related p q m l s t f g → parts_in (run f gap.old) ≡ gap.olds → AreFree (found_in (run f gap.old)) →
-      (parts_in (run g gap.new) ≡ gap.news) × AreFree (found_in (run g gap.new)) × AlongAt p q m l (behind f gap.old) (behind g gap.new)
+      (parts_in (run g gap.new) ≡ gap.news) × AreFree (found_in (run g gap.new)) × AlongAt p q m l (unsourced (behind f gap.old)) (unsourced (behind g gap.new))
   pub olds_stand : AreStatementParts gap.olds
   pub news_stand : AreStatementParts gap.news
 
@@ -117,11 +121,11 @@ AreWhole (skip ts) = ⊥
 mutual
   -- The second tree is the first one at its new place, with other statements in place of some.
   pub data Changed (p q : ℕ → Bool) (m : Moves) (gaps : List Gap) : Tree → Tree → Type 0 where
-    whole : (x : Tree) → KeepAt p q m x → Changed p q m gaps x (carry m.token x)
+    whole : (x : Tree) → KeepAt p q m x → HasNoSource x → Changed p q m gaps x (carry m.token x)
     inside : (k : Kind) → HasInside k → (i j : ℕ) (ps qs : Trees) → AllChanged p q m gaps (has_list k) ps qs → Changed p q m gaps (node k i j ps) (node k (m.token i) (m.token j) qs)
     in_else : (k : Kind) → HasInside k → (i j a b : ℕ) (ps qs : Trees) → AllChanged p q m gaps (has_list k) ps qs →
         Changed p q m gaps (node kind.Else i j (more (node k a b ps) none)) (node kind.Else (m.token i) (m.token j) (more (node k (m.token a) (m.token b) qs) none))
-    in_case : (i j a b : ℕ) (vs : Trees) → AreWhole vs → KeepAt p q m (node kind.ExpressionList a b vs) → (ps qs : Trees) → AllChanged p q m gaps true ps qs →
+    in_case : (i j a b : ℕ) (vs : Trees) → AreWhole vs → KeepAt p q m (node kind.ExpressionList a b vs) → HaveNoSource vs → (ps qs : Trees) → AllChanged p q m gaps true ps qs →
         Changed p q m gaps (node kind.Case i j (more (node kind.ExpressionList a b vs) ps)) (node kind.Case (m.token i) (m.token j) (more (carry m.token (node kind.ExpressionList a b vs)) qs))
 
   -- The same of parts; whether they are statements of one list is told.
@@ -140,10 +144,10 @@ Behindhand (read x fs f) P = P x f
 abbrev mutual
   -- In this frame each run that is replaced is read to be what its gap says.
   pub OldsRead : (p q : ℕ → Bool) (m : Moves) (gaps : List Gap) (f : Frame) (x y : Tree) → Changed p q m gaps x y → Type 0
-  OldsRead p q m gaps f x y (whole z k) = Unit {0}
+  OldsRead p q m gaps f x y (whole z k e) = Unit {0}
   OldsRead p q m gaps f x y (inside k w i j ps qs d) = AllOldsRead p q m gaps f k [] (has_list k) ps qs d
   OldsRead p q m gaps f x y (in_else k w i j a b ps qs d) = AllOldsRead p q m gaps f k [] (has_list k) ps qs d
-  OldsRead p q m gaps f x y (in_case i j a b vs w k ps qs d) = AllOldsRead p q m gaps f kind.Block [] true ps qs d
+  OldsRead p q m gaps f x y (in_case i j a b vs w k e ps qs d) = AllOldsRead p q m gaps f kind.Block [] true ps qs d
 
   -- the same of parts behind others that are read already
   pub AllOldsRead : (p q : ℕ → Bool) (m : Moves) (gaps : List Gap) (f : Frame) (k : Kind) (xs : Parts) (b : Bool) (ts us : Trees) → AllChanged p q m gaps b ts us → Type 0
@@ -201,7 +205,7 @@ ChangedFunctions p q m l gaps end n (Ok b) (Err g) = ⊥
 -- No rule failed in the first reading; then none fails in the second one, of which the tree is the first one's changed, and the frames behind
 -- both are related.
 abbrev pub ChangedReadings : (ℕ → Bool) → (ℕ → Bool) → Moves → (ℕ → Bool) → List Gap → Reading → Reading → Type 0
-ChangedReadings p q m l gaps (read x fs f) (read y gs g) = AreFree fs → ChangedPart m l gaps (Some x) (Some y) × AreFree gs × AlongAt p q m l f g
+ChangedReadings p q m l gaps (read x fs f) (read y gs g) = AreFree fs → ChangedPart m l gaps (Some x) (Some y) × AreFree gs × AlongAt p q m l (unsourced f) (unsourced g)
 
 -- what is known behind this signature of a function
 abbrev pub inside_function : Scope → ℕ → (ℕ → ℕ) → Tree → Frame
