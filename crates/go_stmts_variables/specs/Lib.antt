@@ -1,3 +1,4 @@
 pub mod Frames
 pub mod Rules
 pub mod Statements
+pub mod Untyped

@@ -1,7 +1,8 @@
 //! Laws of variables in place of constants in statements, for the crates above. The functions do nothing: their contracts are the laws.
 
 ghost use Rattle.go_stmts_variables.specs.Rules.{ConditionKept, TagKept, CaseKept, ValuesKept, RangeKept};
-ghost use Rattle.go_stmts_variables.specs.Statements.{StatementsRead};
+ghost use Rattle.go_stmts_variables.specs.Statements.{StatementsRead, BodiesRead};
+ghost use Rattle.go_stmts_variables.specs.Untyped.{TagsNeedTypes};
 
 /// A condition is a truth value still.
 pub fn conditions()
@@ -28,7 +29,18 @@ pub fn range_clauses()
     ensures { RangeKept }
 {}
 
-/// The law on statements: with variables in place of holes a statement that is covered is read the same, with that change alone, and no rule fails.
+/// The law on statements: with variables in place of holes a statement that is covered is read the same, with that change alone, no rule
+/// fails, and it terminates where it did.
 pub fn statements_are_read()
     ensures { StatementsRead }
+{}
+
+/// So it is of the body of a function, which ends in a terminating statement where it did.
+pub fn bodies_are_read()
+    ensures { BodiesRead }
+{}
+
+/// The law asks that tags have types: where one has none, a rule may fail with a variable that failed with none.
+pub fn tags_need_types()
+    ensures { TagsNeedTypes }
 {}
