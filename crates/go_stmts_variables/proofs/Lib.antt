@@ -39,3 +39,5 @@ pub mod RangeNames
 pub mod Induction
 pub mod Law
 pub mod Untyped
+pub mod Functions
+pub mod WorkedFunctions

@@ -2,3 +2,4 @@ pub mod Frames
 pub mod Rules
 pub mod Statements
 pub mod Untyped
+pub mod WorkedFunctions

@@ -3,6 +3,7 @@
 ghost use Rattle.go_stmts_variables.specs.Rules.{ConditionKept, TagKept, CaseKept, ValuesKept, RangeKept};
 ghost use Rattle.go_stmts_variables.specs.Statements.{StatementsRead, BodiesRead};
 ghost use Rattle.go_stmts_variables.specs.Untyped.{TagsNeedTypes};
+ghost use Rattle.go_stmts_variables.specs.WorkedFunctions.{WorkedFunctions};
 
 /// A condition is a truth value still.
 pub fn conditions()
@@ -43,4 +44,9 @@ pub fn bodies_are_read()
 /// The law asks that tags have types: where one has none, a rule may fail with a variable that failed with none.
 pub fn tags_need_types()
     ensures { TagsNeedTypes }
+{}
+
+/// Worked functions, lexed and parsed.
+pub fn worked_functions()
+    ensures { WorkedFunctions }
 {}
