@@ -32,7 +32,7 @@ module _ (w : Standins) (law : ExpressionsTyped) where
   names_declared ws (more (node kind.DeclaredName i j (skip qs)) ps) e d = elim e.0.1 [ ]
   names_declared ws (more (node k i j qs) ps) e d = impossible e.0.0
 
-  list_declared : (p : Place) (ps : Trees) → AreShaped (rule p kind.NameList) ps → AllDeclare w ps → AreDeclared w ps
+  pub list_declared : (p : Place) (ps : Trees) → AreShaped (rule p kind.NameList) ps → AllDeclare w ps → AreDeclared w ps
   list_declared p none e d = elim e [ ]
   list_declared p (skip ps) e d = elim e [ ]
   list_declared p (more (node kind.DeclaredName i j none) ps) e d = (d.0.0, names_declared [] ps e.1 d.1)

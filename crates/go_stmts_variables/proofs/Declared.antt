@@ -46,7 +46,7 @@ declared_held s (Some (object.Predeclared p)) = refl
 declared_held s (Some (object.Package n)) = refl
 declared_held s (Some (object.Local f n)) = refl
 
-declared_new : (s : Scope) (o : Option Object) (n : ℕ) → is_new (declared_form s o) ≡ Some n → local_named o ≡ Some n
+pub declared_new : (s : Scope) (o : Option Object) (n : ℕ) → is_new (declared_form s o) ≡ Some n → local_named o ≡ Some n
 declared_new s None n e = cc
 declared_new s (Some object.Import) n e = cc
 declared_new s (Some (object.Predeclared p)) n e = cc
@@ -113,7 +113,7 @@ module _ (w : Standins) where
   new_declared (more (node k i j qs) ps) e = elim e [ ]
   new_declared (skip ps) e = elim e [ ]
 
-  around_declared : (f g : Frame) (o : Option Object) → FramesStand w f g → declared_form g.around o ≡ declared_form f.around o
+  pub around_declared : (f g : Frame) (o : Option Object) → FramesStand w f g → declared_form g.around o ≡ declared_form f.around o
   around_declared f g None st = refl
   around_declared f g (Some object.Import) st = refl
   around_declared f g (Some (object.Predeclared p)) st = refl

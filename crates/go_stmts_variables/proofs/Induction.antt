@@ -1,15 +1,16 @@
 -- The induction over statements.
-use Rattle.std.proofs.Common.{◌≡◌, ◌∙◌, ℕ, Bool, true, List, [], ◌∷◌, Some, refl, sym, ap, IsTrue}
+use Rattle.std.proofs.Common.{◌≡◌, ◌∙◌, ℕ, Bool, true, false, List, [], ◌∷◌, Some, refl, sym, ap, IsTrue}
 use Rattle.std.specs.Prelude.{◌&&◌}
 use Rattle.go_grammar.specs.declared.kind.Arithmetic.{Arithmetic}
 use Rattle.go_grammar.specs.declared.kind.Category.{Category}
 use Rattle.go_grammar.specs.declared.kind.Category.TheVariants as category
+use Rattle.go_grammar.specs.declared.kind.Kind.{Kind}
 use Rattle.go_grammar.specs.declared.kind.Kind.TheVariants as kind
 use Rattle.go_grammar.specs.declared.kind.Place.{Place}
 use Rattle.go_grammar.specs.declared.kind.Step.{Step}
 use Rattle.go_grammar.specs.declared.kind.Place.TheVariants as place
 use Rattle.go_grammar.specs.declared.kind.Sort.TheVariants as declaring
-use Rattle.go_grammar.specs.Categories.{place_of}
+use Rattle.go_grammar.specs.Categories.{place_of, within, is_post, is_simple, is_statement}
 use Rattle.go_grammar.specs.Grammar.{any, rule, agrees}
 use Rattle.go_grammar.specs.Rules.{End, Maybe, Many, Lines, Open, Each}
 use Rattle.go_grammar.specs.Trees.{Tree, node, Trees, none, more, skip}
@@ -22,7 +23,7 @@ use Rattle.go_exprs_rules.specs.Scopes.{value}
 use Rattle.go_stmts_defs.specs.Frames.{Frame}
 use Rattle.go_stmts_defs.specs.Laying.{header_parts, loop_header, loop_form}
 use Rattle.go_stmts_defs.specs.Reading.{reading}
-use Rattle.go_stmts_variables.specs.Statements.{tree_in, Declares, AllDeclare, is_typeless, are_typeless, goes_over, TypelessIf, is_covered, are_covered, header_covered, clauses_covered, clause_covered, post_covered, else_covered}
+use Rattle.go_stmts_variables.specs.Statements.{tree_in, Declares, AllDeclare, is_typeless, are_typeless, goes_over, TypelessIf}
 use Rattle.go_stmts_variables.proofs.SimpleTrees.{first_true, impossible, uncovered, names_shape, define_stated, assign_stated}
 use Rattle.go_stmts_variables.proofs.Steps.{step_reads}
 use Rattle.go_stmts_variables.proofs.Switches.{tag_part, plain_tag, switch_reads, bare_switch}
@@ -30,6 +31,7 @@ use Rattle.go_stmts_variables.proofs.Branches.{condition_roles, second, Elses, n
 use Rattle.go_stmts_variables.proofs.Calls.{expression_reads}
 use Rattle.go_stmts_variables.proofs.Clauses.{Clause, AllClauses, case_reads, default_clause}
 use Rattle.go_stmts_variables.proofs.DeclarationTrees.{variables_stated}
+use Rattle.go_stmts_variables.proofs.FixedTrees.{types_stated, constants_stated}
 use Rattle.go_stmts_variables.proofs.Headers.{Header, reading_unheld, value_header, late_condition, initialized_condition, late_tag, initialized_tag, for_clause, initialized_for_clause, value_alone, loop_alone, whole_header, late_header}
 use Rattle.go_stmts_variables.proofs.Loops.{loop_roles, value_form, for_reads, forever_reads}
 use Rattle.go_stmts_variables.proofs.Roles.{Role, a_statement, a_value, AreRoles, holder_is}
@@ -40,6 +42,48 @@ use Rattle.go_stmts_variables.proofs.RangeLoops.{RangeHead, range_reads}
 use Rattle.go_stmts_variables.proofs.RangeNames.{range_defining}
 use Rattle.go_stmts_variables.proofs.Returns.{list_returned, bare_returned}
 use Rattle.go_stmts_variables.proofs.Rows.{Stated, AllStated, block_reads, break_reads, continue_reads, fallthrough_reads}
+
+-- ---- the categories of statements
+
+abbrev pub states : Category → Bool
+states category.Statement = true
+states category.Simple = true
+states category.Post = true
+states category.Block = true
+states category.Branch = true
+states c = false
+
+simple_statement : (k : Kind) → is_simple k ≡ true → is_statement k ≡ true
+simple_statement kind.ExpressionStatement e = refl
+simple_statement (kind.StepStatement s) e = refl
+simple_statement kind.Assignment e = refl
+simple_statement (kind.OperatorAssignment o) e = refl
+simple_statement kind.Define e = refl
+simple_statement k e = uncovered e
+
+post_statement : (k : Kind) → is_post k ≡ true → is_statement k ≡ true
+post_statement kind.ExpressionStatement e = refl
+post_statement (kind.StepStatement s) e = refl
+post_statement kind.Assignment e = refl
+post_statement (kind.OperatorAssignment o) e = refl
+post_statement k e = uncovered e
+
+block_statement : (k : Kind) → within category.Block k ≡ true → is_statement k ≡ true
+block_statement kind.Block e = refl
+block_statement k e = uncovered e
+
+branch_statement : (k : Kind) → within category.Branch k ≡ true → is_statement k ≡ true
+branch_statement kind.If e = refl
+branch_statement kind.Block e = refl
+branch_statement k e = uncovered e
+
+within_statements : (c : Category) (k : Kind) → states c ≡ true → IsTrue (within c k) → is_statement k ≡ true
+within_statements category.Statement k s e = e
+within_statements category.Simple k s e = simple_statement k e
+within_statements category.Post k s e = post_statement k e
+within_statements category.Block k s e = block_statement k e
+within_statements category.Branch k s e = branch_statement k e
+within_statements c k s e = uncovered s
 
 abbrev AreStatements : Trees → Type 0
 AreStatements none = Unit {0}
@@ -325,15 +369,17 @@ module _ (w : Standins) where
     loop_stated i j (node k a c ps) b e proper dec s sb t = plain_loop i j (node k a c ps) b (λ f. lone_header f (node k a c ps) (e.0, e.1, e.2) proper) sb
 
     mutual
-      pub statement_stated : (c : Category) (x : Tree) → IsShaped c x → Proper w x → Declares w x → is_covered x ≡ true → Stated w x
+      pub statement_stated : (c : Category) (x : Tree) → IsShaped c x → Proper w x → Declares w x → states c ≡ true → Stated w x
       statement_stated c (node kind.Return i j ps) e proper dec v = return_stated (place_of c) i j ps e.1 proper.2
       statement_stated c (node kind.Define i j ps) e proper dec v = define_stated w law (place_of c) i j ps e.1 proper.2 dec.1
       statement_stated c (node kind.Assignment i j ps) e proper dec v = assign_stated w law (place_of c) i j ps e.1 proper.2
       statement_stated c (node (kind.StepStatement o) i j ps) e proper dec v = step_stated o (place_of c) i j ps e.1 proper.2
       statement_stated c (node (kind.OperatorAssignment o) i j ps) e proper dec v = operate_stated o (place_of c) i j ps e.1 proper.2
       statement_stated c (node (kind.Declaration declaring.Variable) i j ps) e proper dec v = variables_stated w law i j ps e.1 proper.2 dec.1
+      statement_stated c (node (kind.Declaration declaring.Constant) i j ps) e proper dec v = constants_stated w law i j ps e.1 dec.0 dec.1
+      statement_stated c (node (kind.Declaration declaring.Type) i j ps) e proper dec v = types_stated w i j ps e.1 dec.0 dec.1
       statement_stated c (node kind.ExpressionStatement i j ps) e proper dec v = expression_stated (place_of c) i j ps e.1 proper.2
-      statement_stated c (node kind.Block i j ps) e proper dec v = record { kind = refl; reads = λ f g h st good fits tags. block_reads w f g h i j ps (all_stated ps (block_shape (place_of c) ps e.1) proper.2 dec.1 v) st good fits tags }
+      statement_stated c (node kind.Block i j ps) e proper dec v = record { kind = refl; reads = λ f g h st good fits tags. block_reads w f g h i j ps (all_stated ps (block_shape (place_of c) ps e.1) proper.2 dec.1) st good fits tags }
       statement_stated c (node kind.Break i j none) e proper dec v = record { kind = refl; reads = λ f g h st good fits tags. break_reads w f g h i j st }
       statement_stated c (node kind.Continue i j none) e proper dec v = record { kind = refl; reads = λ f g h st good fits tags. continue_reads w f g h i j st }
       statement_stated c (node kind.Fallthrough i j none) e proper dec v = record { kind = refl; reads = λ f g h st good fits tags. fallthrough_reads w f g h i j st }
@@ -348,20 +394,17 @@ module _ (w : Standins) where
       statement_stated c (node kind.If i j (more hd none)) e proper dec v = elim e.1.1 [ ]
       statement_stated c (node kind.If i j (more hd (skip ps))) e proper dec v = elim e.1.1 [ ]
       statement_stated c (node kind.If i j (more hd (more b es))) e proper dec v =
-          let one = first_true (header_covered hd) (is_covered b && else_covered es) v in
-          let two = first_true (is_covered b) (else_covered es) one.1 in
-          let hs = header_stated category.IfHeader hd e.1.0 proper.2.0 dec.1.0 one.0 in
-          let sb = statement_stated category.Block b e.1.1.0 proper.2.1.0 dec.1.1.0 two.0 in
-          let el = else_stated es e.1.1.1 proper.2.1.1 dec.1.1.1 two.1 in
+          let hs = header_stated category.IfHeader hd e.1.0 proper.2.0 dec.1.0 in
+          let sb = statement_stated category.Block b e.1.1.0 proper.2.1.0 dec.1.1.0 refl in
+          let el = else_stated es e.1.1.1 proper.2.1.1 dec.1.1.1 in
           record { kind = refl; reads = λ f g h st good fits tags. if_reads w law f g h i j hd b es (if_header f hd e.1.0 proper.2.0 hs) sb el st good fits tags }
       statement_stated c (node kind.Switch i j none) e proper dec v = elim e.1 [ ]
       statement_stated c (node kind.Switch i j (skip cs)) e proper dec v =
-          let s = clauses_stated cs (many_clauses (token.LeftBrace ∷ []) [] (token.RightBrace ∷ []) cs e.1) proper.2 dec.1 v in
+          let s = clauses_stated cs (many_clauses (token.LeftBrace ∷ []) [] (token.RightBrace ∷ []) cs e.1) proper.2 dec.1 in
           record { kind = refl; reads = λ f g h st good fits tags. bare_switch w f g h i j cs s st good fits tags }
       statement_stated c (node kind.Switch i j (more hd cs)) e proper dec v =
-          let one = first_true (header_covered hd) (clauses_covered cs) v in
-          let hs = header_stated category.SwitchHeader hd e.1.0 proper.2.0 dec.1.0 one.0 in
-          let s = clauses_stated cs (many_clauses (token.LeftBrace ∷ []) [] (token.RightBrace ∷ []) cs e.1.1) proper.2.1 dec.1.1 one.1 in
+          let hs = header_stated category.SwitchHeader hd e.1.0 proper.2.0 dec.1.0 in
+          let s = clauses_stated cs (many_clauses (token.LeftBrace ∷ []) [] (token.RightBrace ∷ []) cs e.1.1) proper.2.1 dec.1.1 in
           record {
             kind = refl;
             reads = λ f g h st good fits tags.
@@ -374,73 +417,70 @@ module _ (w : Standins) where
       statement_stated c (node kind.For i j (skip (more b (more x ps)))) e proper dec v = elim e.1.1 [ ]
       statement_stated c (node kind.For i j (skip (more b (skip ps)))) e proper dec v = elim e.1.1 [ ]
       statement_stated c (node kind.For i j (skip (more b none))) e proper dec v =
-          let sb = statement_stated category.Block b e.1.0 proper.2.0 dec.1.0 v in
+          let sb = statement_stated category.Block b e.1.0 proper.2.0 dec.1.0 refl in
           record { kind = refl; reads = λ f g h st good fits tags. forever_reads w law f g h i j b sb st good fits tags }
       statement_stated c (node kind.For i j (more hd none)) e proper dec v = elim e.1.1 [ ]
       statement_stated c (node kind.For i j (more hd (skip ps))) e proper dec v = elim e.1.1 [ ]
       statement_stated c (node kind.For i j (more hd (more b (more x ps)))) e proper dec v = elim e.1.1.1 [ ]
       statement_stated c (node kind.For i j (more hd (more b (skip ps)))) e proper dec v = elim e.1.1.1 [ ]
       statement_stated c (node kind.For i j (more hd (more b none))) e proper dec v =
-          let one = first_true (header_covered hd) (is_covered b) v in
-          let hs = header_stated category.ForHeader hd e.1.0 proper.2.0 dec.1.0 one.0 in
-          loop_stated i j hd b e.1.0 proper.2.0 dec.1.0 hs (statement_stated category.Block b e.1.1.0 proper.2.1.0 dec.1.1.0 one.1) dec.0
-      statement_stated c (node k i j ps) e proper dec v = uncovered v
+          let hs = header_stated category.ForHeader hd e.1.0 proper.2.0 dec.1.0 in
+          loop_stated i j hd b e.1.0 proper.2.0 dec.1.0 hs (statement_stated category.Block b e.1.1.0 proper.2.1.0 dec.1.1.0 refl) dec.0
+      statement_stated c (node k i j ps) e proper dec v = uncovered (within_statements c k v e.0)
 
-      all_stated : (ps : Trees) → AreStatements ps → AllProper w ps → AllDeclare w ps → are_covered ps ≡ true → AllStated w ps
-      all_stated none e proper dec v = tt
-      all_stated (skip ps) e proper dec v = elim e [ ]
-      all_stated (more p ps) e proper dec v = let both = first_true (is_covered p) (are_covered ps) v in (statement_stated category.Statement p e.0 proper.0 dec.0 both.0, all_stated ps e.1 proper.1 dec.1 both.1)
+      all_stated : (ps : Trees) → AreStatements ps → AllProper w ps → AllDeclare w ps → AllStated w ps
+      all_stated none e proper dec = tt
+      all_stated (skip ps) e proper dec = elim e [ ]
+      all_stated (more p ps) e proper dec = (statement_stated category.Statement p e.0 proper.0 dec.0 refl, all_stated ps e.1 proper.1 dec.1)
 
-      else_stated : (es : Trees) → AreShaped (Maybe [] category.Else (End [])) es → AllProper w es → AllDeclare w es → else_covered es ≡ true → Elses w es
-      else_stated none e proper dec v = elim e [ ]
-      else_stated (skip none) e proper dec v = no_else
-      else_stated (skip (more x es)) e proper dec v = elim e [ ]
-      else_stated (skip (skip es)) e proper dec v = elim e [ ]
-      else_stated (more x (more y es)) e proper dec v = elim e.1 [ ]
-      else_stated (more x (skip es)) e proper dec v = elim e.1 [ ]
-      else_stated (more (node kind.Else i j none) none) e proper dec v = elim e.0.1 [ ]
-      else_stated (more (node kind.Else i j (skip ps)) none) e proper dec v = elim e.0.1 [ ]
-      else_stated (more (node kind.Else i j (more b (more x ps))) none) e proper dec v = elim e.0.1.1 [ ]
-      else_stated (more (node kind.Else i j (more b (skip ps))) none) e proper dec v = elim e.0.1.1 [ ]
-      else_stated (more (node kind.Else i j (more b none)) none) e proper dec v = an_else i j b (statement_stated category.Branch b e.0.1.0 proper.0.2.0 dec.0.1.0 v)
-      else_stated (more (node k i j ps) none) e proper dec v = impossible e.0.0
+      else_stated : (es : Trees) → AreShaped (Maybe [] category.Else (End [])) es → AllProper w es → AllDeclare w es → Elses w es
+      else_stated none e proper dec = elim e [ ]
+      else_stated (skip none) e proper dec = no_else
+      else_stated (skip (more x es)) e proper dec = elim e [ ]
+      else_stated (skip (skip es)) e proper dec = elim e [ ]
+      else_stated (more x (more y es)) e proper dec = elim e.1 [ ]
+      else_stated (more x (skip es)) e proper dec = elim e.1 [ ]
+      else_stated (more (node kind.Else i j none) none) e proper dec = elim e.0.1 [ ]
+      else_stated (more (node kind.Else i j (skip ps)) none) e proper dec = elim e.0.1 [ ]
+      else_stated (more (node kind.Else i j (more b (more x ps))) none) e proper dec = elim e.0.1.1 [ ]
+      else_stated (more (node kind.Else i j (more b (skip ps))) none) e proper dec = elim e.0.1.1 [ ]
+      else_stated (more (node kind.Else i j (more b none)) none) e proper dec = an_else i j b (statement_stated category.Branch b e.0.1.0 proper.0.2.0 dec.0.1.0 refl)
+      else_stated (more (node k i j ps) none) e proper dec = impossible e.0.0
 
       -- the statements of a header
-      clauses_stated : (cs : Trees) → AreClauses cs → AllProper w cs → AllDeclare w cs → clauses_covered cs ≡ true → AllClauses w cs
-      clauses_stated none e proper dec v = tt
-      clauses_stated (skip cs) e proper dec v = elim e [ ]
-      clauses_stated (more (node kind.Case i j none) cs) e proper dec v = elim e.0.1 [ ]
-      clauses_stated (more (node kind.Case i j (skip ss)) cs) e proper dec v = elim e.0.1 [ ]
-      clauses_stated (more (node kind.Case i j (more l ss)) cs) e proper dec v =
-          let one = first_true (are_covered ss) (clauses_covered cs) v in
+      clauses_stated : (cs : Trees) → AreClauses cs → AllProper w cs → AllDeclare w cs → AllClauses w cs
+      clauses_stated none e proper dec = tt
+      clauses_stated (skip cs) e proper dec = elim e [ ]
+      clauses_stated (more (node kind.Case i j none) cs) e proper dec = elim e.0.1 [ ]
+      clauses_stated (more (node kind.Case i j (skip ss)) cs) e proper dec = elim e.0.1 [ ]
+      clauses_stated (more (node kind.Case i j (more l ss)) cs) e proper dec =
           let typeless = first_true (is_typeless l) (are_typeless ss) dec.0.0 in
-          let ss' = all_stated ss (open_statements (token.Colon ∷ []) token.Semicolon ss e.0.1.1) proper.0.2.1 dec.0.1.1 one.0 in
-          (case_clause i j l ss e.0.1.0 proper.0.2.0 ss' typeless.1, clauses_stated cs e.1 proper.1 dec.1 one.1)
-      clauses_stated (more (node kind.Default i j ss) cs) e proper dec v =
-          let one = first_true (are_covered ss) (clauses_covered cs) v in
-          (default_clause w i j ss (all_stated ss (open_statements (token.Default ∷ token.Colon ∷ []) token.Semicolon ss e.0.1) proper.0.2 dec.0.1 one.0), clauses_stated cs e.1 proper.1 dec.1 one.1)
-      clauses_stated (more (node k i j ps) cs) e proper dec v = impossible e.0.0
+          let ss' = all_stated ss (open_statements (token.Colon ∷ []) token.Semicolon ss e.0.1.1) proper.0.2.1 dec.0.1.1 in
+          (case_clause i j l ss e.0.1.0 proper.0.2.0 ss' typeless.1, clauses_stated cs e.1 proper.1 dec.1)
+      clauses_stated (more (node kind.Default i j ss) cs) e proper dec =
+          (default_clause w i j ss (all_stated ss (open_statements (token.Default ∷ token.Colon ∷ []) token.Semicolon ss e.0.1) proper.0.2 dec.0.1), clauses_stated cs e.1 proper.1 dec.1)
+      clauses_stated (more (node k i j ps) cs) e proper dec = impossible e.0.0
 
-      header_stated : (c : Category) (x : Tree) → IsShaped c x → Proper w x → Declares w x → header_covered x ≡ true → HeaderStated x
-      header_stated c (node kind.InitializedCondition i j none) e proper dec v = elim e.1 [ ]
-      header_stated c (node kind.InitializedCondition i j (skip ps)) e proper dec v = elim e.1 [ ]
-      header_stated c (node kind.InitializedCondition i j (more x ps)) e proper dec v = statement_stated category.Simple x e.1.0 proper.2.0 dec.1.0 v
-      header_stated c (node kind.InitializedTag i j none) e proper dec v = elim e.1 [ ]
-      header_stated c (node kind.InitializedTag i j (skip ps)) e proper dec v = elim e.1 [ ]
-      header_stated c (node kind.InitializedTag i j (more x ps)) e proper dec v = statement_stated category.Simple x e.1.0 proper.2.0 dec.1.0 v
-      header_stated c (node kind.InitializedForClause i j none) e proper dec v = elim e.1 [ ]
-      header_stated c (node kind.InitializedForClause i j (skip ps)) e proper dec v = elim e.1 [ ]
-      header_stated c (node kind.InitializedForClause i j (more x ps)) e proper dec v =
-          let both = first_true (is_covered x) (clause_covered ps) v in (statement_stated category.Simple x e.1.0 proper.2.0 dec.1.0 both.0, clause_stated ps e.1.1 proper.2.1 dec.1.1 both.1)
-      header_stated c (node kind.ForClause i j ps) e proper dec v = clause_stated ps e.1 proper.2 dec.1 v
-      header_stated c (node k i j ps) e proper dec v = tt
+      header_stated : (c : Category) (x : Tree) → IsShaped c x → Proper w x → Declares w x → HeaderStated x
+      header_stated c (node kind.InitializedCondition i j none) e proper dec = elim e.1 [ ]
+      header_stated c (node kind.InitializedCondition i j (skip ps)) e proper dec = elim e.1 [ ]
+      header_stated c (node kind.InitializedCondition i j (more x ps)) e proper dec = statement_stated category.Simple x e.1.0 proper.2.0 dec.1.0 refl
+      header_stated c (node kind.InitializedTag i j none) e proper dec = elim e.1 [ ]
+      header_stated c (node kind.InitializedTag i j (skip ps)) e proper dec = elim e.1 [ ]
+      header_stated c (node kind.InitializedTag i j (more x ps)) e proper dec = statement_stated category.Simple x e.1.0 proper.2.0 dec.1.0 refl
+      header_stated c (node kind.InitializedForClause i j none) e proper dec = elim e.1 [ ]
+      header_stated c (node kind.InitializedForClause i j (skip ps)) e proper dec = elim e.1 [ ]
+      header_stated c (node kind.InitializedForClause i j (more x ps)) e proper dec =
+          (statement_stated category.Simple x e.1.0 proper.2.0 dec.1.0 refl, clause_stated ps e.1.1 proper.2.1 dec.1.1)
+      header_stated c (node kind.ForClause i j ps) e proper dec = clause_stated ps e.1 proper.2 dec.1
+      header_stated c (node k i j ps) e proper dec = tt
 
-      clause_stated : (ps : Trees) → AreShaped (Maybe (token.Semicolon ∷ []) (any place.Header) (Maybe (token.Semicolon ∷ []) category.Post (End []))) ps → AllProper w ps → AllDeclare w ps → clause_covered ps ≡ true → ClauseStated ps
-      clause_stated none e proper dec v = elim e [ ]
-      clause_stated (skip ps) e proper dec v = post_stated ps e proper dec v
-      clause_stated (more x ps) e proper dec v = post_stated ps e.1 proper.1 dec.1 v
+      clause_stated : (ps : Trees) → AreShaped (Maybe (token.Semicolon ∷ []) (any place.Header) (Maybe (token.Semicolon ∷ []) category.Post (End []))) ps → AllProper w ps → AllDeclare w ps → ClauseStated ps
+      clause_stated none e proper dec = elim e [ ]
+      clause_stated (skip ps) e proper dec = post_stated ps e proper dec
+      clause_stated (more x ps) e proper dec = post_stated ps e.1 proper.1 dec.1
 
-      post_stated : (ps : Trees) → AreShaped (Maybe (token.Semicolon ∷ []) category.Post (End [])) ps → AllProper w ps → AllDeclare w ps → post_covered ps ≡ true → EachStated ps
-      post_stated none e proper dec v = elim e [ ]
-      post_stated (skip ps) e proper dec v = tt
-      post_stated (more x ps) e proper dec v = (statement_stated category.Post x e.0 proper.0 dec.0 v, tt)
+      post_stated : (ps : Trees) → AreShaped (Maybe (token.Semicolon ∷ []) category.Post (End [])) ps → AllProper w ps → AllDeclare w ps → EachStated ps
+      post_stated none e proper dec = elim e [ ]
+      post_stated (skip ps) e proper dec = tt
+      post_stated (more x ps) e proper dec = (statement_stated category.Post x e.0 proper.0 dec.0 refl, tt)

@@ -41,3 +41,9 @@ pub mod Law
 pub mod Untyped
 pub mod Functions
 pub mod WorkedFunctions
+pub mod Unchanged
+pub mod FixedTypes
+pub mod FixedDeclarations
+pub mod ConstantRests
+pub mod FixedConstants
+pub mod FixedTrees

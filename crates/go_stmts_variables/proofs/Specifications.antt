@@ -102,7 +102,7 @@ module _ (w : Standins) where
   abbrev pub RestReads : Frame → Frame → Tree → Type 0
   RestReads f g r = (old : Rest f g r) × (no_rule_fails old.found ≡ true → All (Will w (rights_of f)) old.values → NewRest f g r old)
 
-  values_laid : (c d : ℕ) (xs ys : Parts) → list_of (row xs) ≡ ys → first_cut (typed_or_not (Some (made (form.Held kind.Values) c d sort.Nothing xs xs))) ≡ None ∷ ys
+  pub values_laid : (c d : ℕ) (xs ys : Parts) → list_of (row xs) ≡ ys → first_cut (typed_or_not (Some (made (form.Held kind.Values) c d sort.Nothing xs xs))) ≡ None ∷ ys
   values_laid c d xs ys e = ap (λ zs. None ∷ zs) e
 
   pub values_rest : ExpressionsTyped → (f g : Frame) (st : FramesStand w f g) (c d e k : ℕ) (p : Place) (ps : Trees) → AreExpressions p ps → AllProper w ps
@@ -134,10 +134,10 @@ module _ (w : Standins) where
             },
       )
 
-  unheld_row : (x : Part) (ys : Parts) → is_held (form_of x) ≡ false → held (Some x) ++ ys ≡ Some x ∷ ys
+  pub unheld_row : (x : Part) (ys : Parts) → is_held (form_of x) ≡ false → held (Some x) ++ ys ≡ Some x ∷ ys
   unheld_row x ys e = ap (λ b. (if b then list_of (parts_of x) else Some x ∷ []) ++ ys) e
 
-  typed_laid : (c d : ℕ) (xs ys : Parts) → list_of (row xs) ≡ ys → first_cut (typed_or_not (Some (made (form.Held kind.TypedValues) c d sort.Nothing xs xs))) ≡ first_cut ys
+  pub typed_laid : (c d : ℕ) (xs ys : Parts) → list_of (row xs) ≡ ys → first_cut (typed_or_not (Some (made (form.Held kind.TypedValues) c d sort.Nothing xs xs))) ≡ first_cut ys
   typed_laid c d xs ys e = ap first_cut e
 
   -- how a type with values is read
@@ -155,7 +155,7 @@ module _ (w : Standins) where
       ∙ ap (λ fs. read (made (form.Held kind.TypedValues) c d sort.Nothing (held (Some (typing (scope_of f) type_place t)) ++ list) (held (Some (typing (scope_of f) type_place t)) ++ list)) (fs ++ rest) f)
       (faults_plain f type_place l m n qs plain)
 
-  new_type : (t : Tree) → categories.is_type (kind_of t) ≡ true → categories.is_type (kind_of (with_variables w t)) ≡ true
+  pub new_type : (t : Tree) → categories.is_type (kind_of t) ≡ true → categories.is_type (kind_of (with_variables w t)) ≡ true
   new_type (node l m n qs) e = by (may_be_constant l && ends_at (w m) n)
     where
       by : (b : Bool) → categories.is_type (kind_of (node_with b l m n (all_with_variables w qs))) ≡ true

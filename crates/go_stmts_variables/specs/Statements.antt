@@ -119,60 +119,6 @@ abbrev mutual
   AllTagged (sort.more p ps) = Tagged p × AllTagged ps
   AllTagged (sort.skip ps) = AllTagged ps
 
--- ---- the statements of which the law is stated
-
-abbrev mutual
-  -- Returns, simple statements, declarations of variables, branches, blocks, `if`, switches and loops, which hold such statements alone.
-  pub is_covered : Tree → Bool
-  is_covered (node kind.Return i j ps) = true
-  is_covered (node kind.Define i j ps) = true
-  is_covered (node kind.Assignment i j ps) = true
-  is_covered (node (kind.StepStatement o) i j ps) = true
-  is_covered (node kind.ExpressionStatement i j ps) = true
-  is_covered (node (kind.OperatorAssignment o) i j ps) = true
-  is_covered (node (kind.Declaration declaring.Variable) i j ps) = true
-  is_covered (node kind.Break i j ps) = true
-  is_covered (node kind.Continue i j ps) = true
-  is_covered (node kind.Fallthrough i j ps) = true
-  is_covered (node kind.Block i j ps) = are_covered ps
-  is_covered (node kind.If i j (more hd (more b es))) = header_covered hd && (is_covered b && else_covered es)
-  is_covered (node kind.Switch i j (skip cs)) = clauses_covered cs
-  is_covered (node kind.Switch i j (more hd cs)) = header_covered hd && clauses_covered cs
-  is_covered (node kind.For i j (skip (more b ps))) = is_covered b
-  is_covered (node kind.For i j (more hd (more b ps))) = header_covered hd && is_covered b
-  is_covered (node k i j ps) = false
-
-  pub are_covered : Trees → Bool
-  are_covered none = true
-  are_covered (more p ps) = is_covered p && are_covered ps
-  are_covered (skip ps) = are_covered ps
-
-  pub header_covered : Tree → Bool
-  header_covered (node kind.InitializedCondition i j (more x ps)) = is_covered x
-  header_covered (node kind.InitializedTag i j (more x ps)) = is_covered x
-  header_covered (node kind.InitializedForClause i j (more x ps)) = is_covered x && clause_covered ps
-  header_covered (node kind.ForClause i j ps) = clause_covered ps
-  header_covered x = true
-
-  pub clauses_covered : Trees → Bool
-  clauses_covered none = true
-  clauses_covered (more (node kind.Case i j (more l ps)) cs) = are_covered ps && clauses_covered cs
-  clauses_covered (more (node k i j ps) cs) = are_covered ps && clauses_covered cs
-  clauses_covered (skip cs) = clauses_covered cs
-
-  pub clause_covered : Trees → Bool
-  clause_covered none = true
-  clause_covered (more x ps) = post_covered ps
-  clause_covered (skip ps) = post_covered ps
-
-  pub post_covered : Trees → Bool
-  post_covered (more x ps) = is_covered x
-  post_covered ps = true
-
-  pub else_covered : Trees → Bool
-  else_covered (more (node k i j (more b ps)) es) = is_covered b
-  else_covered es = true
-
 -- ---- the law on statements
 
 -- With variables in place of constants the statement is read the same, with the variables in place of the holes; no rule fails; it
@@ -184,7 +130,7 @@ pub record IsReadWithVariables (w : Standins) (s t : Frame) (h : Hint) (x : Tree
   pub frame : FramesStand w (frame_in (reading s h x)) (frame_in (reading t h (with_variables w x)))
 
 abbrev pub StatementsRead : Type 0
-StatementsRead = (w : Standins) (s t : Frame) (h : Hint) (x : Tree) → IsShaped category.Statement x → is_covered x ≡ true → FramesStand w s t → Proper w x → Declares w x
+StatementsRead = (w : Standins) (s t : Frame) (h : Hint) (x : Tree) → IsShaped category.Statement x → FramesStand w s t → Proper w x → Declares w x
     → no_rule_fails (found_in (reading s h x)) ≡ true → Fits w false (tree_in (reading s h x)) → Tagged (tree_in (reading s h x)) → IsReadWithVariables w s t h x
 
 -- ---- the law on bodies
@@ -195,5 +141,5 @@ pub record IsBodyReadWithVariables (w : Standins) (s t : Frame) (h : Hint) (x : 
   pub missing : (j : ℕ) → function_failing t.results j (tree_in (reading t h (with_variables w x))) ≡ function_failing s.results j (tree_in (reading s h x))
 
 abbrev pub BodiesRead : Type 0
-BodiesRead = (w : Standins) (s t : Frame) (h : Hint) (x : Tree) → IsShaped category.Block x → is_covered x ≡ true → FramesStand w s t → Proper w x → Declares w x
+BodiesRead = (w : Standins) (s t : Frame) (h : Hint) (x : Tree) → IsShaped category.Block x → FramesStand w s t → Proper w x → Declares w x
     → no_rule_fails (found_in (reading s h x)) ≡ true → Fits w false (tree_in (reading s h x)) → Tagged (tree_in (reading s h x)) → IsBodyReadWithVariables w s t h x

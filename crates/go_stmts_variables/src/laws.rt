@@ -30,8 +30,8 @@ pub fn range_clauses()
     ensures { RangeKept }
 {}
 
-/// The law on statements: with variables in place of holes a statement that is covered is read the same, with that change alone, no rule
-/// fails, and it terminates where it did.
+/// The law on statements: with variables in place of holes a statement is read the same, with that change alone, no rule fails, and it
+/// terminates where it did.
 pub fn statements_are_read()
     ensures { StatementsRead }
 {}

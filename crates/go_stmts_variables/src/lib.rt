@@ -23,7 +23,8 @@
 //!   type; a variable of that type goes over the same numbers, and a text over the same positions and characters;
 //! - left sides (`is_variable`, `is_target`): a variable is one where a variable stands in an index of it;
 //! - expression statements (`is_statement_call`) and calls of `panic`: these have callees that are no constants, and are none;
-//! - names that are declared and types are no holes, and declarations of constants have none.
+//! - names that are declared and types are no holes, and declarations of constants and types have none: they are read as they were, and so
+//!   is what a specification of constants repeats.
 #![tactic(auto)]
 
 pub mod laws;
