@@ -28,7 +28,8 @@ use Rattle.go_exprs_rules.specs.Names.{name_sort, name_form, object_form, declar
 use Rattle.go_exprs_rules.specs.Scopes.{Scope, Hint, callee, statement, declares, free}
 use Rattle.go_exprs_rules.specs.Settling.{Part, stay}
 use Rattle.go_exprs_rules.specs.Sorts.{Stands, is_open, own_type}
-use Rattle.go_exprs_rules.specs.Tables.{Parts, in_parentheses, layout, present, call_parts, first_cut, is_make, is_type, leaf, callee_form, selector_form, bracketed_form, all_given, takes, form_by, sort_by, built_by, built_on, is_sound, own_faults, is_call, label}
+use Rattle.go_exprs_rules.specs.Tables.{Parts, in_parentheses, layout, present, call_parts, first_cut, is_make, is_type, leaf, callee_form, selector_form}
+use Rattle.go_exprs_rules.specs.Tables.{bracketed_form, all_given, takes, form_by, sort_by, built_by, built_on, is_sound, own_faults, is_call, label}
 use Rattle.go_exprs_rules.specs.Typing.{typing, typings}
 use Rattle.go_stmts_defs.specs.Frames.{Frame, scope_of}
 use Rattle.go_stmts_defs.specs.Reading.{reading, all_read}

@@ -36,7 +36,8 @@ use Rattle.go_stmts_variables.proofs.Lists.{AreExpressions, expression_operands,
 use Rattle.go_stmts_variables.proofs.Nodes.{Reads, Old, old_rules, old_fits, old_tagged, rule_of, own_none, node_reads, judged}
 use Rattle.go_stmts_variables.proofs.Puts.{Puts, AllTake, IsStatementForm, value_put, node_put}
 use Rattle.go_stmts_variables.proofs.Returns.{takes_known}
-use Rattle.go_stmts_variables.proofs.Rows.{news_two, is_stated, reading_stated, AllStated, AreStated, are_stated, new_stated, statements_of, statement_faults, frame_behind, row_reads, statements_read, statements_put, stated_kind, default_reads}
+use Rattle.go_stmts_variables.proofs.Rows.{news_two, is_stated, reading_stated, AllStated, AreStated, are_stated, new_stated}
+use Rattle.go_stmts_variables.proofs.Rows.{statements_of, statement_faults, frame_behind, row_reads, statements_read, statements_put, stated_kind, default_reads}
 use Rattle.go_stmts_variables.proofs.Splits.{length_each, split_two}
 use Rattle.go_stmts_variables.proofs.Wills.{Suits, will_as, operand_as}
 
@@ -100,7 +101,8 @@ module _ (w : Standins) where
 
   pub record Clause (p : Tree) : Type 0 where
     pub kind : is_stated (kind_of p) ≡ true
-    pub reads : (f g : Frame) (h : Hint) (t : TypeTree) → own_type f.tag ≡ Some t → FramesStand w f g → no_rule_fails (found_in (reading f h p)) ≡ true → Fits w false (tree_in (reading f h p)) → Tagged (tree_in (reading f h p)) → Reads w f g h p
+    pub reads : (f g : Frame) (h : Hint) (t : TypeTree) → own_type f.tag ≡ Some t → FramesStand w f g → no_rule_fails (found_in (reading f h p)) ≡ true → Fits w false (tree_in (reading f h p))
+        → Tagged (tree_in (reading f h p)) → Reads w f g h p
 
   abbrev pub AllClauses : Trees → Type 0
   AllClauses none = Unit {0}
@@ -139,7 +141,8 @@ module _ (w : Standins) where
   case_form : (n : ℕ) → IsStatementForm w (form.Case n)
   case_form n = record { held = refl; key = refl; call = refl; name = λ z. refl }
 
-  module _ (f g : Frame) (h : Hint) (i j a b : ℕ) (p : Place) (vs ss : Trees) (shape : AreExpressions p vs) (s : AllStated w ss) (st : FramesStand w f g) (t : TypeTree) (tag : own_type f.tag ≡ Some t) (typeless : are_typeless ss ≡ true) where
+  module _ (f g : Frame) (h : Hint) (i j a b : ℕ) (p : Place) (vs ss : Trees) (shape : AreExpressions p vs) (s : AllStated w ss) (st : FramesStand w f g) (t : TypeTree) (tag : own_type f.tag ≡ Some t)
+      (typeless : are_typeless ss ≡ true) where
     abbrev vals : List Part
     vals = list_values w f value vs
 

@@ -10,7 +10,8 @@ use Rattle.go_typed.specs.Trees.{Label, Typed, typed, Typeds, form_of, list_of}
 use Rattle.go_typed.specs.Trees as sort
 use Rattle.go_exprs_rules.specs.Settling.{Part}
 use Rattle.go_exprs_rules.specs.Tables.{Parts, on_one}
-use Rattle.go_stmts_defs.specs.Ending.{is_break, lets_break, breaks, any_breaks, part_breaks, last_flag, is_fallthrough, is_fallthrough_part, last_falls, is_default_clause, loop_ends, branches_end, clauses_end, ends, terminates, which_terminate}
+use Rattle.go_stmts_defs.specs.Ending.{is_break, lets_break, breaks, any_breaks, part_breaks, last_flag, is_fallthrough, is_fallthrough_part}
+use Rattle.go_stmts_defs.specs.Ending.{last_falls, is_default_clause, loop_ends, branches_end, clauses_end, ends, terminates, which_terminate}
 use Rattle.go_stmts_defs.specs.Targets.{is_panic_call}
 use Rattle.clone_window.specs.Masses.{is_hole, is_inside, is_expression, is_constant, is_constant_expression}
 use Rattle.go_exprs_variables.specs.Variables.{Standin, Standins, at_hole, put_over, put, all_put}
@@ -71,7 +72,8 @@ module _ (w : Standins) where
 
   -- ---- breaks, clauses and `fallthrough`
 
-  break_over : (v : Option Standin) (a : Bool) (f : Form) (i j : ℕ) (l : Label TypeTree) (ps qs : Typeds TypeTree) → at_hole w (is_hole a f l) i ≡ v → any_breaks qs ≡ any_breaks ps → breaks (put_over v f i j l qs) ≡ breaks (typed f i j l ps)
+  break_over : (v : Option Standin) (a : Bool) (f : Form) (i j : ℕ) (l : Label TypeTree) (ps qs : Typeds TypeTree) → at_hole w (is_hole a f l) i ≡ v → any_breaks qs ≡ any_breaks ps
+      → breaks (put_over v f i j l qs) ≡ breaks (typed f i j l ps)
   break_over (Some v) a f i j l ps qs at e = sym (expression_breaks f (any_breaks ps) (hole_expression a f l i v at))
   break_over None a f i j l ps qs at e = ap (λ b. is_break f || (lets_break f && b)) e
 
@@ -197,7 +199,8 @@ module _ (w : Standins) where
   branches_same x y u v (b ∷ e ∷ []) = refl
   branches_same x y u v (b ∷ e ∷ z ∷ bs) = refl
 
-  clauses_put : (ps : Typeds TypeTree) → which_terminate (all_put w false ps) ≡ which_terminate ps → (list_any is_default_clause (list_of (all_put w false ps)) && not (list_any part_breaks (list_of (all_put w false ps))) && list_all (λ x. x) (which_terminate (all_put w false ps)))
+  clauses_put : (ps : Typeds TypeTree) → which_terminate (all_put w false ps) ≡ which_terminate ps
+      → (list_any is_default_clause (list_of (all_put w false ps)) && not (list_any part_breaks (list_of (all_put w false ps))) && list_all (λ x. x) (which_terminate (all_put w false ps)))
       ≡ (list_any is_default_clause (list_of ps) && not (list_any part_breaks (list_of ps)) && list_all (λ x. x) (which_terminate ps))
   clauses_put ps e =
       ap (λ xs. list_any is_default_clause xs && not (list_any part_breaks xs) && list_all (λ x. x) (which_terminate (all_put w false ps))) (list_put false ps)
@@ -212,7 +215,8 @@ module _ (w : Standins) where
   ends_over (Some v) f i j l ps at e = sym (expression_ends f (list_of ps) (which_terminate ps) (hole_expression false f l i v at))
   ends_over None f i j l ps at e = e
 
-  clause_put : (ps : Typeds TypeTree) → which_terminate (all_put w false ps) ≡ which_terminate ps → (last_flag (which_terminate (all_put w false ps)) || last_falls (list_of (all_put w false ps))) ≡ (last_flag (which_terminate ps) || last_falls (list_of ps))
+  clause_put : (ps : Typeds TypeTree) → which_terminate (all_put w false ps) ≡ which_terminate ps
+      → (last_flag (which_terminate (all_put w false ps)) || last_falls (list_of (all_put w false ps))) ≡ (last_flag (which_terminate ps) || last_falls (list_of ps))
   clause_put ps e = ap (λ bs. last_flag bs || last_falls (list_of (all_put w false ps))) e ∙ ap (λ b. last_flag (which_terminate ps) || b) (ap last_falls (list_put false ps) ∙ last_put false (list_of ps))
 
   call_ends : (ps : Typeds TypeTree) → CalmCall ps → on_one false is_panic_call (list_of (all_put w false ps)) ≡ on_one false is_panic_call (list_of ps)

@@ -19,7 +19,8 @@ use Rattle.go_exprs_rules.specs.Tables.{Parts, held, first_cut, is_judged}
 use Rattle.go_stmts_defs.specs.Assigning.{Taking, takes, stands, rests, constant_in, constants_take}
 use Rattle.go_stmts_defs.specs.Frames.{Frame}
 use Rattle.go_stmts_defs.specs.Laying.{layout, form_by, typed_or_not}
-use Rattle.go_stmts_defs.specs.Reading.{Found, Readings, all_read, after, name_node, list_node, holding, holdings, held_faults, all_held_faults, readings, is_new, declares_sort, declares_name, declares_all, part_source, repeated, repeated_faults, back, closed}
+use Rattle.go_stmts_defs.specs.Reading.{Found, Readings, all_read, after, name_node, list_node, holding, holdings, held_faults, all_held_faults}
+use Rattle.go_stmts_defs.specs.Reading.{readings, is_new, declares_sort, declares_name, declares_all, part_source, repeated, repeated_faults, back, closed}
 use Rattle.go_stmts_defs.specs.Rules.{type_there, values_there, constants_counted, type_or_rest, taking, own_faults, given_part, all_given, built_by}
 use Rattle.go_exprs_variables.specs.Variables.{Standins, all_with_variables}
 use Rattle.go_exprs_variables.proofs.Public.{All, each}
@@ -55,7 +56,8 @@ module _ (w : Standins) where
   names_still f [] h = tt
   names_still f (n ∷ ns) h = (bare_still f n h.0, names_still f ns h.1)
 
-  given_names : (f : Frame) (t : Option TypeTree) (ns xs : List Part) (ks : List Taking) (zs : Parts) → All (IsDeclared w f) ns → AllStill w (all_given ks zs) → AllStill w (all_given (constants_take t (replicate (length ns) t) xs ++ ks) (each ns ++ zs))
+  given_names : (f : Frame) (t : Option TypeTree) (ns xs : List Part) (ks : List Taking) (zs : Parts) → All (IsDeclared w f) ns → AllStill w (all_given ks zs)
+      → AllStill w (all_given (constants_take t (replicate (length ns) t) xs ++ ks) (each ns ++ zs))
   given_names f t [] xs ks zs h s = s
   given_names f t (n ∷ ns) [] ks zs h s = (name_still f n sort.Unknown h.0, given_names f t ns [] ks zs h.1 s)
   given_names f t (n ∷ ns) (x ∷ xs) ks zs h s = (name_still f n (constant_in t (sort_of x)) h.0, given_names f t ns xs ks zs h.1 s)

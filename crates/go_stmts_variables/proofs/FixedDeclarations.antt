@@ -22,7 +22,8 @@ use Rattle.go_stmts_variables.proofs.Endings.{is_calm, Calm, calm_form}
 use Rattle.go_stmts_variables.proofs.Frames.{back_stands}
 use Rattle.go_stmts_variables.proofs.Nodes.{Old}
 use Rattle.go_stmts_variables.proofs.Rows.{Stated}
-use Rattle.go_stmts_variables.proofs.Unchanged.{AllStill, still_both, still_parts, IsFixedForm, still_built, Unchanged, unchanged_reads, unchanged_node, parts_in, all_found, frame_last, Fixed, AllFixed, IsFixedRow, one_read, rows_unchanged, row_is}
+use Rattle.go_stmts_variables.proofs.Unchanged.{AllStill, still_both, still_parts, IsFixedForm, still_built, Unchanged, unchanged_reads, unchanged_node}
+use Rattle.go_stmts_variables.proofs.Unchanged.{parts_in, all_found, frame_last, Fixed, AllFixed, IsFixedRow, one_read, rows_unchanged, row_is}
 
 built_form : (s : Frame) (k : Kind) (f : Form) (i j : ℕ) (ys : Parts) (own : List TypeFault) → form_of (built_by s k f i j ys own) ≡ f
 built_form s k f i j ys [] = refl
@@ -121,7 +122,8 @@ module _ (w : Standins) where
 
     -- ---- a declaration
 
-    module _ (d : Sort) (is : IsFixedRow w P (kind.Declaration d)) (fm : Form) (fixed_form : IsFixedForm w fm) (calm : is_calm fm ≡ true) (lays : (s : Frame) (i : ℕ) (xs : Parts) → layout s (kind.Declaration d) i xs ≡ all_names (specifications xs))
+    module _ (d : Sort) (is : IsFixedRow w P (kind.Declaration d)) (fm : Form) (fixed_form : IsFixedForm w fm) (calm : is_calm fm ≡ true)
+        (lays : (s : Frame) (i : ℕ) (xs : Parts) → layout s (kind.Declaration d) i xs ≡ all_names (specifications xs))
         (forms : (xs : Parts) → form_by (kind.Declaration d) xs ≡ fm) (i j : ℕ) (p : Tree) (fixed : Fixed w P p) where
       abbrev whole_at : Frame → Hint → Readings
       whole_at f h = readings f (kind.Declaration d) h (more p none) [] [] (more p none)

@@ -149,7 +149,8 @@ module _ (w : Standins) where
   }
 
   module _ (law : ExpressionsTyped) where
-    named_fixed : (i j a b : ℕ) (ds rest : Trees) → AreDeclared w ds → AreShaped (Maybe [] category.ConstantRest (End [])) rest → AllFree w rest → Fixed w (Sourced w) (node (kind.Specification declaring.Constant) i j (more (node kind.NameList a b ds) rest))
+    named_fixed : (i j a b : ℕ) (ds rest : Trees) → AreDeclared w ds → AreShaped (Maybe [] category.ConstantRest (End [])) rest → AllFree w rest
+        → Fixed w (Sourced w) (node (kind.Specification declaring.Constant) i j (more (node kind.NameList a b ds) rest))
     named_fixed i j a b ds none named e free = elim e [ ]
     named_fixed i j a b ds (skip none) named e free = bare_fixed i j a b ds named
     named_fixed i j a b ds (skip (more q ps)) named e free = elim e [ ]
@@ -164,7 +165,8 @@ module _ (w : Standins) where
     constant_specification i j (more (node kind.NameList a b ds) rest) e free dec = named_fixed i j a b ds rest (list_declared w law place.Free ds e.0.1 dec.0.1) e.1 free.1
     constant_specification i j (more (node k a b ds) rest) e free dec = impossible e.0.0
 
-    constant_specifications : (ws : List TokenKind) (ps : Trees) → AreShaped (Many ws (Lines false (category.Specification declaring.Constant) token.Semicolon token.RightParenthesis)) ps → AllFree w ps → AllDeclare w ps → AllFixed w (Sourced w) ps
+    constant_specifications : (ws : List TokenKind) (ps : Trees) → AreShaped (Many ws (Lines false (category.Specification declaring.Constant) token.Semicolon token.RightParenthesis)) ps → AllFree w ps → AllDeclare w ps
+        → AllFixed w (Sourced w) ps
     constant_specifications ws none e free dec = tt
     constant_specifications ws (skip ps) e free dec = elim e [ ]
     constant_specifications ws (more (node (kind.Specification declaring.Constant) i j qs) ps) e free dec = (constant_specification i j qs e.0.1 free.0.1 dec.0.1, constant_specifications ws ps e.1 free.1 dec.1)

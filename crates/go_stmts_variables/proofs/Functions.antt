@@ -52,7 +52,8 @@ module _ (s : Scope) (n : ℕ) (types : ℕ → ℕ) (i j a c : ℕ) (qs : Trees
   rest t = after (reading t value b) (λ x gs t. all_read (Some signature ∷ Some x ∷ []) (signature_found ++ gs) t)
 
   read_on : behind_signature (Some signature) first ≡ F
-      → readings first kind.FunctionDeclaration free (more (node kind.Signature a c qs) (more b none)) [] [] (more (node kind.Signature a c qs) (more b none)) ≡ all_read (Some signature ∷ Some body ∷ []) (signature_found ++ found_in (reading F value b)) behind
+      → readings first kind.FunctionDeclaration free (more (node kind.Signature a c qs) (more b none)) [] [] (more (node kind.Signature a c qs) (more b none))
+      ≡ all_read (Some signature ∷ Some body ∷ []) (signature_found ++ found_in (reading F value b)) behind
   unfolding rest
   read_on e = ap rest e ∙ after_is (reading F value b) (λ x gs t. all_read (Some signature ∷ Some x ∷ []) (signature_found ++ gs) t)
 

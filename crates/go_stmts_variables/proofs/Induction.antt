@@ -350,7 +350,8 @@ module _ (w : Standins) where
     defining_tree f a c (more (node kind.NewNames d m ts) (more q none)) e proper dec = defining_head f a c d m ts q e.0.1 e.0.2 dec.0.0 e.1.0 proper.1.0
     defining_tree f a c (more (node k d m ts) (more q none)) e proper dec = impossible e.0.0
 
-    loop_stated : (i j : ℕ) (hd b : Tree) → IsShaped category.ForHeader hd → Proper w hd → Declares w hd → HeaderStated hd → Stated w b → TypelessIf (goes_over (more hd (more b none))) (more hd (more b none)) → Stated w (node kind.For i j (more hd (more b none)))
+    loop_stated : (i j : ℕ) (hd b : Tree) → IsShaped category.ForHeader hd → Proper w hd → Declares w hd → HeaderStated hd → Stated w b → TypelessIf (goes_over (more hd (more b none))) (more hd (more b none))
+        → Stated w (node kind.For i j (more hd (more b none)))
     loop_stated i j (node kind.ForClause a c ps) b e proper dec s sb t =
         plain_loop i j (node kind.ForClause a c ps) b
         (λ f. record {

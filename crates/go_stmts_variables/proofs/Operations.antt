@@ -279,7 +279,8 @@ module _ (rights : Rights) where
                 let now : own (sort_of z) ≡ Some d = own_kept rights None a (sort_of z) ox.stands refl ∙ is in
                 let out_now = out_of_range rights i j d (binary_value op (sort_of z) (sort_of v)) in
                 let ranged : out_now ≡ [] = range_less rights i j d (binary_value op a b) (binary_value op (sort_of z) (sort_of v))
-                (fold_less (constant_op op) (constant_of a) (constant_of b) (constant_of (sort_of z)) (constant_of (sort_of v)) (constants rights None a (sort_of z) ox.stands) (constants rights (Some uint) b (sort_of v) oy.stands)) apart.1 in
+                (fold_less (constant_op op) (constant_of a) (constant_of b) (constant_of (sort_of z)) (constant_of (sort_of v))
+                (constants rights None a (sort_of z) ox.stands) (constants rights (Some uint) b (sort_of v) oy.stands)) apart.1 in
                 let count : (whole && is_count rights (sort_of v)) ≡ true = ap (λ q. q && is_count rights (sort_of v)) both.0 ∙ counts (Some uint) b (sort_of v) refl oy.stands both.1 in
                 record {
                   failing = shift_is z v ∙ ap (shift_failing_in rights op i j z v) now

@@ -206,7 +206,8 @@ module _ (w : Standins) where
                 behind = frame_in (reading g value new_q);
                 is = after_is (reading g value new_q) (λ x gs t. all_read (Some (targets_node g new_qs) ∷ Some x ∷ []) (targets_found g new_qs ++ gs) t);
                 laid_is = ap (λ z. z ++ (held (Some v') ++ [])) (targets_are g new_qs (each (all_new w ns)) l.parts) ∙ ap (λ y. each (all_new w ns) ++ (held (Some y) ++ [])) u.reads.tree
-                    ∙ ap (λ z. each (all_new w ns) ++ z) (unheld_one (begun w false v) (begun_plain_part w v (reading_unheld w f r q shape))) ∙ sym (news_two w (each ns) (Some v ∷ []) ∙ ap (λ z. z ++ Some (begun w false v) ∷ []) (news_each w ns));
+                    ∙ ap (λ z. each (all_new w ns) ++ z) (unheld_one (begun w false v) (begun_plain_part w v (reading_unheld w f r q shape)))
+                    ∙ sym (news_two w (each ns) (Some v ∷ []) ∙ ap (λ z. z ++ Some (begun w false v) ∷ []) (news_each w ns));
                 form_is = refl;
                 good = of_all (targets_found g new_qs) (found_in (reading g value new_q)) (ap no_rule_fails (append-nil (all_held_faults g kind.ExpressionList target new_qs [] new_qs)) ∙ l.good) u.reads.failing;
                 rule = nothing_wrong (is_judged (news w (each ns ++ Some v ∷ [])));

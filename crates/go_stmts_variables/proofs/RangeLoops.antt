@@ -126,7 +126,8 @@ module _ (w : Standins) where
   closed_given default z t e = ap (λ o. defaulted (open_kind o) z) e
   closed_given (as_type u) z t e = keeps_type u z (ap takes_type e)
 
-  same_taken : (rights : Rights) (ts us : List Part) (x z : Part) (u : Option TypeTree) (a b : Stands) → Stood rights u a b → a ≡ sort_of x → b ≡ sort_of z → number_target us ≡ number_target ts → given (range_take us z) z ≡ given (range_take ts x) z
+  same_taken : (rights : Rights) (ts us : List Part) (x z : Part) (u : Option TypeTree) (a b : Stands) → Stood rights u a b → a ≡ sort_of x → b ≡ sort_of z → number_target us ≡ number_target ts
+      → given (range_take us z) z ≡ given (range_take ts x) z
   same_taken rights ts us x z u a b (as_before v c) m n e =
       ap (λ q. given (if is_open_number q then take_of (number_target us) else default) z) (sym n ∙ m) ∙ ap (λ o. given (if is_open_number (sort_of x) then take_of o else default) z) e
   same_taken rights ts us x z u a b (in_place v t c) m n e = closed_given (range_take us z) z t (sym n) ∙ sym (closed_given (range_take ts x) z t (sym n))
@@ -194,7 +195,8 @@ module _ (w : Standins) where
 
     split_new : {A : Type 0} (F : List Part → List Part → A) → split_at (length ts) F (news w ys) ≡ F (all_new w ts) (begun w false head.x ∷ begun w false b' ∷ [])
     split_new F =
-        ap (split_at (length ts) F) new_row ∙ ap (λ n. split_at n F (each (all_new w ts) ++ each (begun w false head.x ∷ begun w false b' ∷ []))) (sym (length_new w ts)) ∙ split_two F (all_new w ts) (begun w false head.x ∷ begun w false b' ∷ [])
+        ap (split_at (length ts) F) new_row ∙ ap (λ n. split_at n F (each (all_new w ts) ++ each (begun w false head.x ∷ begun w false b' ∷ []))) (sym (length_new w ts))
+        ∙ split_two F (all_new w ts) (begun w false head.x ∷ begun w false b' ∷ [])
 
     pub range_reads : no_rule_fails (found_in (reading f h (node kind.For i j (more hd (more b none))))) ≡ true → Fits w false (tree_in (reading f h (node kind.For i j (more hd (more b none)))))
         → Tagged (tree_in (reading f h (node kind.For i j (more hd (more b none))))) → Reads w f g h (node kind.For i j (more hd (more b none)))

@@ -219,8 +219,12 @@ module _ (w : Standins) where
   roles_read law [] f g (skip ps) e st good a = elim e [ ]
   roles_read law (a_statement ∷ rs) f g none e st good a = elim e [ ]
   roles_read law (a_value ∷ rs) f g none e st good a = elim e [ ]
-  roles_read law (a_statement ∷ rs) f g (skip ps) e st good a = let r = roles_read law rs f g ps e st good a in record { row = record { parts = ap (λ zs. None ∷ zs) r.row.parts; good = r.row.good; frame = r.row.frame; calm = r.row.calm }; values = r.values }
-  roles_read law (a_value ∷ rs) f g (skip ps) e st good a = let r = roles_read law rs f g ps e st good a in record { row = record { parts = ap (λ zs. None ∷ zs) r.row.parts; good = r.row.good; frame = r.row.frame; calm = r.row.calm }; values = r.values }
+  roles_read law (a_statement ∷ rs) f g (skip ps) e st good a =
+      let r = roles_read law rs f g ps e st good a in
+      record { row = record { parts = ap (λ zs. None ∷ zs) r.row.parts; good = r.row.good; frame = r.row.frame; calm = r.row.calm }; values = r.values }
+  roles_read law (a_value ∷ rs) f g (skip ps) e st good a =
+      let r = roles_read law rs f g ps e st good a in
+      record { row = record { parts = ap (λ zs. None ∷ zs) r.row.parts; good = r.row.good; frame = r.row.frame; calm = r.row.calm }; values = r.values }
   roles_read law (a_statement ∷ rs) f g (more p ps) e st good a =
       let both = all_of (found_in (reading f value p)) (row_found (frame_in (reading f value p)) ps) good in
       let one = e.0.reads f g value st both.0 a.0.0 a.0.1 in

@@ -233,7 +233,8 @@ module _ (w : Standins) where
     pub frame : FramesStand w (frame_behind f ps) (frame_behind g (all_with_variables w ps))
     pub calm : AllCalm w (row (each (statements_of f ps)))
 
-  pub statements_read : (f g : Frame) (ps : Trees) → AllStated ps → FramesStand w f g → no_rule_fails (statement_faults f ps) ≡ true → AllFit w false (row (each (statements_of f ps))) → AllTagged (row (each (statements_of f ps))) → RowReads f g ps
+  pub statements_read : (f g : Frame) (ps : Trees) → AllStated ps → FramesStand w f g → no_rule_fails (statement_faults f ps) ≡ true → AllFit w false (row (each (statements_of f ps)))
+      → AllTagged (row (each (statements_of f ps))) → RowReads f g ps
   statements_read f g none s st good fits tags = record { trees = refl; good = refl; frame = st; calm = tt }
   statements_read f g (skip ps) s st good fits tags = elim s [ ]
   statements_read f g (more p ps) s st good fits tags =
@@ -281,7 +282,8 @@ module _ (w : Standins) where
       form_is = refl;
     }
 
-    pub block_reads : no_rule_fails (found_in (reading f h (node kind.Block i j ps))) ≡ true → Fits w false (tree_in (reading f h (node kind.Block i j ps))) → Tagged (tree_in (reading f h (node kind.Block i j ps))) → Reads w f g h (node kind.Block i j ps)
+    pub block_reads : no_rule_fails (found_in (reading f h (node kind.Block i j ps))) ≡ true → Fits w false (tree_in (reading f h (node kind.Block i j ps))) → Tagged (tree_in (reading f h (node kind.Block i j ps)))
+        → Reads w f g h (node kind.Block i j ps)
     unfolding block_old
     block_reads good fits tags =
         let own = old_rules w f h kind.Block i j ps refl block_old good in
@@ -314,7 +316,8 @@ module _ (w : Standins) where
       form_is = refl;
     }
 
-    pub default_reads : no_rule_fails (found_in (reading f h (node kind.Default i j ps))) ≡ true → Fits w false (tree_in (reading f h (node kind.Default i j ps))) → Tagged (tree_in (reading f h (node kind.Default i j ps))) → Reads w f g h (node kind.Default i j ps)
+    pub default_reads : no_rule_fails (found_in (reading f h (node kind.Default i j ps))) ≡ true → Fits w false (tree_in (reading f h (node kind.Default i j ps))) → Tagged (tree_in (reading f h (node kind.Default i j ps)))
+        → Reads w f g h (node kind.Default i j ps)
     unfolding default_old
     default_reads good fits tags =
         let own = old_rules w f h kind.Default i j ps refl default_old good in

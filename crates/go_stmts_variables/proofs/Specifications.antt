@@ -29,7 +29,8 @@ use Rattle.go_exprs_variables.proofs.Public.{All, all_new, all_of, each, news, n
 use Rattle.go_stmts_variables.specs.Frames.{FramesStand}
 use Rattle.go_stmts_variables.specs.Rules.{AllGiven}
 use Rattle.go_stmts_variables.specs.Statements.{tree_in, found_in}
-use Rattle.go_stmts_variables.proofs.Declared.{AreDeclared, declared_of, names_held, names_faults, new_declared, same_names, all_declared, declared_begun, puts_declared, known_declared, fresh_declared, free_typed, free_faults, IsDeclared, TypePart, no_type, a_type, plain_type, typed_form}
+use Rattle.go_stmts_variables.proofs.Declared.{AreDeclared, declared_of, names_held, names_faults, new_declared, same_names, all_declared, declared_begun, puts_declared}
+use Rattle.go_stmts_variables.proofs.Declared.{known_declared, fresh_declared, free_typed, free_faults, IsDeclared, TypePart, no_type, a_type, plain_type, typed_form}
 use Rattle.go_stmts_variables.proofs.Defines.{declared_kept, fits_behind, values_fresh}
 use Rattle.go_stmts_variables.proofs.Expressions.{Will, IsValuePart, all_ready, holding_plain, faults_plain, reading_plain}
 use Rattle.go_stmts_variables.proofs.Frames.{back_stands}
@@ -162,7 +163,8 @@ module _ (w : Standins) where
       by true = refl
       by false = e
 
-  pub typed_rest : ExpressionsTyped → (f g : Frame) (st : FramesStand w f g) (c d e k : ℕ) (p : Place) (t : Tree) (ps : Trees) → IsShaped category.Type t → categories.is_type (kind_of t) ≡ true → Free w t → AreExpressions p ps → AllProper w ps
+  pub typed_rest : ExpressionsTyped → (f g : Frame) (st : FramesStand w f g) (c d e k : ℕ) (p : Place) (t : Tree) (ps : Trees) → IsShaped category.Type t → categories.is_type (kind_of t) ≡ true → Free w t
+      → AreExpressions p ps → AllProper w ps
       → RestReads f g (node kind.TypedValues c d (more t (more (node kind.ExpressionList e k ps) none)))
   typed_rest law f g st c d e k p t ps it is free shape proper =
       let vs = list_values w f several ps in
@@ -178,7 +180,8 @@ module _ (w : Standins) where
         found = faults (scope_of f) type_place t ++ (all_held_faults f kind.ExpressionList several ps [] ps ++ []);
         read = typed_read f c d e k t ps is;
         laid = typed_laid c d (held (Some T) ++ list f ps) (Some T ∷ each vs)
-            (list_row (held (Some T) ++ list f ps) ∙ unheld_row T (list f ps) unheld ∙ ap (λ zs. Some T ∷ zs) (append-nil (list_of (row (holdings f kind.ExpressionList several ps [] ps))) ∙ list_parts w f several ps (expression_operands p ps shape)));
+            (list_row (held (Some T) ++ list f ps) ∙ unheld_row T (list f ps) unheld ∙ ap (λ zs. Some T ∷ zs) (append-nil (list_of (row (holdings f kind.ExpressionList several ps [] ps)))
+            ∙ list_parts w f several ps (expression_operands p ps shape)));
         typed = a_type w f t it is free;
       } in (
         old,
@@ -295,7 +298,8 @@ module _ (w : Standins) where
 
     failing_by : (s : Frame) (xs : List Part) → variables_failing (rights_of s) i j (length ns) (type_there (length ns) (each ns ++ o ∷ each xs)) (values_there (length ns) (each ns ++ o ∷ each xs))
         ≡ variables_failing (rights_of s) i j (length ns) (part_type o) xs
-    failing_by s xs = ap (λ t. variables_failing (rights_of s) i j (length ns) t (values_there (length ns) (each ns ++ o ∷ each xs))) (type_is ns o (each xs)) ∙ ap (variables_failing (rights_of s) i j (length ns) (part_type o)) (values_are ns o xs)
+    failing_by s xs = ap (λ t. variables_failing (rights_of s) i j (length ns) t (values_there (length ns) (each ns ++ o ∷ each xs))) (type_is ns o (each xs))
+        ∙ ap (variables_failing (rights_of s) i j (length ns) (part_type o)) (values_are ns o xs)
 
     first_rest : (o : Option Part) (ks : List Taking) (ys : Parts) → AllFit w false (row (all_given (rests ∷ ks) (o ∷ ys))) → AllFit w false (row (o ∷ [])) × AllFit w false (row (all_given ks ys))
     first_rest None ks ys fits = (tt, fits)

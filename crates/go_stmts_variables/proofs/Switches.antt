@@ -256,7 +256,8 @@ module _ (w : Standins) where
 
   -- ---- a switch with a header
 
-  module _ (f g : Frame) (h : Hint) (i j : ℕ) (hd : Tree) (cs : Trees) (hf : Header w header_parts condition_roles f hd) (same : tag_part (Some (tree_in (reading f value hd))) ≡ second (header_parts (Some (tree_in (reading f value hd))))) (s : AllClauses w cs) (st : FramesStand w f g) where
+  module _ (f g : Frame) (h : Hint) (i j : ℕ) (hd : Tree) (cs : Trees) (hf : Header w header_parts condition_roles f hd)
+      (same : tag_part (Some (tree_in (reading f value hd))) ≡ second (header_parts (Some (tree_in (reading f value hd))))) (s : AllClauses w cs) (st : FramesStand w f g) where
     abbrev hd' : Part
     hd' = tree_in (reading f value hd)
 

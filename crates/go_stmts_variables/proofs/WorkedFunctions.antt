@@ -85,10 +85,12 @@ abbrev compared_shifts_signature : Trees
 compared_shifts_signature = more (node kind.Parameters 2 9 (more (node kind.Parameter 3 5 (two (name 3) (name 4))) (more (node kind.Parameter 6 8 (two (name 6) (name 7))) none))) (more (name 9) none)
 
 abbrev compared_shifts_old_body : Tree
-compared_shifts_old_body = block 10 20 (more (node kind.Return 11 19 (one (node kind.ExpressionList 12 19 (one (infix_of (operator.Compare comparison.Equal) (infix_of (operator.Compute arithmetic.ShiftLeft) (number 12) (name 14)) (infix_of (operator.Compute arithmetic.ShiftLeft) (number 16) (name 18))))))) none)
+compared_shifts_old_body = block 10 20 (more (node kind.Return 11 19 (one (node kind.ExpressionList 12 19 (one (infix_of (operator.Compare comparison.Equal)
+    (infix_of (operator.Compute arithmetic.ShiftLeft) (number 12) (name 14)) (infix_of (operator.Compute arithmetic.ShiftLeft) (number 16) (name 18))))))) none)
 
 abbrev compared_shifts_new_body : Tree
-compared_shifts_new_body = block 10 20 (more (node kind.Return 11 19 (one (node kind.ExpressionList 12 19 (one (infix_of (operator.Compare comparison.Equal) (infix_of (operator.Compute arithmetic.ShiftLeft) (name 12) (name 14)) (infix_of (operator.Compute arithmetic.ShiftLeft) (number 16) (name 18))))))) none)
+compared_shifts_new_body = block 10 20 (more (node kind.Return 11 19 (one (node kind.ExpressionList 12 19 (one (infix_of (operator.Compare comparison.Equal)
+    (infix_of (operator.Compute arithmetic.ShiftLeft) (name 12) (name 14)) (infix_of (operator.Compute arithmetic.ShiftLeft) (number 16) (name 18))))))) none)
 
 compared_shifts_old : typed_function worked.compared_shifts_before ≡ Some (function_at (compared_shifts_frame worked.compared_shifts_before) 0 20 compared_shifts_old_body)
 unfolding sooner answers is_assignable is_digit_of letter_base encode_utf8
@@ -98,7 +100,8 @@ compared_shifts_new : typed_function worked.compared_shifts_after ≡ Some (func
 unfolding sooner answers is_assignable is_digit_of letter_base encode_utf8
 compared_shifts_new = function_typed (expressions.scope_of worked.compared_shifts_after.words) 2 (λ n. n) 0 20 2 10 compared_shifts_signature compared_shifts_new_body (compared_shifts_frame worked.compared_shifts_after) refl refl
 
-compared_shifts_same : function_at (compared_shifts_frame worked.compared_shifts_after) 0 20 compared_shifts_new_body ≡ put (variable_at 12 13 1 int) false (function_at (compared_shifts_frame worked.compared_shifts_before) 0 20 compared_shifts_old_body)
+compared_shifts_same : function_at (compared_shifts_frame worked.compared_shifts_after) 0 20 compared_shifts_new_body
+    ≡ put (variable_at 12 13 1 int) false (function_at (compared_shifts_frame worked.compared_shifts_before) 0 20 compared_shifts_old_body)
 unfolding sooner answers is_assignable is_digit_of letter_base encode_utf8
 compared_shifts_same = refl
 
