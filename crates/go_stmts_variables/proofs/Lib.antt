@@ -47,3 +47,4 @@ pub mod FixedDeclarations
 pub mod ConstantRests
 pub mod FixedConstants
 pub mod FixedTrees
+pub mod Asked

@@ -3,3 +3,4 @@ pub mod Rules
 pub mod Statements
 pub mod Untyped
 pub mod WorkedFunctions
+pub mod Asked

@@ -1,5 +1,6 @@
 //! Laws of variables in place of constants in statements, for the crates above. The functions do nothing: their contracts are the laws.
 
+ghost use Rattle.go_stmts_variables.specs.Asked.{AskedIsMet};
 ghost use Rattle.go_stmts_variables.specs.Rules.{ConditionKept, TagKept, CaseKept, ValuesKept, RangeKept};
 ghost use Rattle.go_stmts_variables.specs.Statements.{StatementsRead, BodiesRead};
 ghost use Rattle.go_stmts_variables.specs.Untyped.{TagsNeedTypes};
@@ -39,6 +40,11 @@ pub fn statements_are_read()
 /// So it is of the body of a function, which ends in a terminating statement where it did.
 pub fn bodies_are_read()
     ensures { BodiesRead }
+{}
+
+/// All that the law on bodies asks holds of a body with a switch, which so is read with a variable in place of the value of its case.
+pub fn asked_is_met()
+    ensures { AskedIsMet }
 {}
 
 /// The law asks that tags have types: where one has none, a rule may fail with a variable that failed with none.
