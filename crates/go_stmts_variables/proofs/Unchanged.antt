@@ -14,7 +14,7 @@ use Rattle.go_exprs_rules.specs.declared.fault.TypeFault.{TypeFault}
 use Rattle.go_exprs_rules.specs.Scopes.{Hint, value}
 use Rattle.go_exprs_rules.specs.Settling.{Part, Take, stay, default, as_type, given, defaulted}
 use Rattle.go_exprs_rules.specs.Sorts.{Stands, open_kind, default_type}
-use Rattle.go_exprs_rules.specs.Tables.{Parts, is_held, held, is_type, leaf, cut, is_variable_name, varies_in, label, made}
+use Rattle.go_exprs_rules.specs.Tables.{Parts, is_type, leaf, cut, is_variable_name, varies_in, label, made}
 use Rattle.go_stmts_defs.specs.Assigning.{Taking}
 use Rattle.go_stmts_defs.specs.Frames.{Frame}
 use Rattle.go_stmts_defs.specs.Laying.{told}
@@ -86,13 +86,6 @@ module _ (w : Standins) where
 
   pub still_parts : (x : Part) → IsStill x → AllStill (list_of (parts_of x))
   still_parts (typed f i j l ps) s = still_list ps s.agrees.2 s.clear.1
-
-  pub still_held : (x : Part) → IsStill x → AllStill (held (Some x))
-  still_held x s = by (is_held (form_of x))
-    where
-      by : (b : Bool) → AllStill (if b then list_of (parts_of x) else Some x ∷ [])
-      by true = still_parts x s
-      by false = (s, tt)
 
   pub still_cut : (o : Option Part) (ys : Parts) → AllStill (o ∷ ys) → AllStill (cut o ∷ ys)
   still_cut None ys s = s

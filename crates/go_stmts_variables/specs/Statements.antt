@@ -75,7 +75,8 @@ TypelessIf true ps = are_typeless ps ≡ true
 TypelessIf false ps = Unit {0}
 
 -- Names that are declared and types are none in place of which a variable stands; nor does one stand in a declaration of constants or
--- types. The clauses of a switch, and loops that go over a value, declare no types.
+-- types. The clauses of a switch, and loops that go over a value, declare no types: their values are read with the right sides that are
+-- known in front of their statements, and judged with those behind.
 abbrev pub Declared : Standins → Kind → ℕ → Trees → Type 0
 Declared w kind.DeclaredName i ps = w i ≡ None
 Declared w kind.NewNames i ps = AllFree w ps
