@@ -2,7 +2,7 @@
 use Rattle.std.proofs.Common.{◌≡◌, ◌∙◌, ℕ, true, false, List, [], ◌∷◌, ◌++◌, Option, Some, None, refl, sym, ap, subst}
 use Rattle.go_base.specs.declared.fault.FaultCode.TheVariants as code
 use Rattle.go_grammar.specs.declared.kind.Kind.TheVariants as kind
-use Rattle.go_grammar.specs.Trees.{Tree, node, Trees, none, more, skip}
+use Rattle.go_grammar.specs.Trees.{Tree, node, Trees, none, more, skip, kind_of}
 use Rattle.go_types.specs.Trees.{boolean}
 use Rattle.go_types.specs.Relations.{Rights}
 use Rattle.go_typed.specs.declared.form.Form.TheVariants as form
@@ -20,18 +20,19 @@ use Rattle.go_stmts_defs.specs.Frames.{Frame, rights_of}
 use Rattle.go_stmts_defs.specs.Laying.{header_parts, if_parts}
 use Rattle.go_stmts_defs.specs.Reading.{reading}
 use Rattle.go_stmts_defs.specs.Rules.{condition_failing, second_condition, all_given}
-use Rattle.go_exprs_variables.specs.Variables.{Standins, all_with_variables, begun, Fits, AllFit, no_rule_fails, ExpressionsTyped}
+use Rattle.go_exprs_variables.specs.Variables.{Standins, with_variables, all_with_variables, begun, Fits, AllFit, no_rule_fails, ExpressionsTyped}
 use Rattle.go_exprs_variables.proofs.Public.{all_of, default_suits, new_part, news, passes}
 use Rattle.go_stmts_variables.specs.Frames.{FramesStand}
-use Rattle.go_stmts_variables.specs.Statements.{tree_in, found_in, frame_in}
+use Rattle.go_stmts_variables.specs.Statements.{tree_in, found_in, frame_in, Tagged, AllTagged}
+use Rattle.go_stmts_variables.proofs.Endings.{AllCalm, CalmBehind}
 use Rattle.go_stmts_variables.proofs.Conditions.{condition_kept}
 use Rattle.go_stmts_variables.proofs.Expressions.{IsValuePart}
 use Rattle.go_stmts_variables.proofs.Frames.{back_stands}
 use Rattle.go_stmts_variables.proofs.Headers.{Header, held_new, header_new, else_holder}
-use Rattle.go_stmts_variables.proofs.Nodes.{Reads, Old, old_rules, old_fits, rule_of, own_none, node_reads, NamesKnown, judged}
+use Rattle.go_stmts_variables.proofs.Nodes.{Reads, Old, old_rules, old_fits, old_tagged, rule_of, own_none, node_reads, NamesKnown, judged}
 use Rattle.go_stmts_variables.proofs.Puts.{Puts, IsStatementForm, node_put, value_put}
 use Rattle.go_stmts_variables.proofs.Roles.{IsPlainRow, Role, a_statement, a_value, Ranged, RangedAll, row_parts, row_found, row_behind, any_row, PartsRead, parts_read, Roles, Awaits, Values, holder_is, holder_reads}
-use Rattle.go_stmts_variables.proofs.Rows.{news_two, IsStated, reading_stated, statement_put, Stated}
+use Rattle.go_stmts_variables.proofs.Rows.{news_two, stated_kind, IsStated, reading_stated, statement_put, Stated}
 use Rattle.go_stmts_variables.proofs.Wills.{will_as, operand_as}
 
 abbrev pub RangedIf : Option Part → Type 0
@@ -84,18 +85,18 @@ module _ (w : Standins) where
 
   -- what the header awaits, where the rule on conditions holds
   pub condition_awaits : (rights : Rights) (hs ts : Parts) → Roles w condition_roles hs → RangedIf (second hs) → condition_failing rights (second (hs ++ ts)) ≡ [] → AllFit w false (row (all_given condition_takes (hs ++ ts)))
-      → Awaits w condition_roles hs
-  condition_awaits rights [] ts r ranged e fits = elim r [ ]
-  condition_awaits rights (None ∷ []) ts r ranged e fits = elim r [ ]
-  condition_awaits rights (None ∷ None ∷ []) ts r ranged e fits = tt
-  condition_awaits rights (None ∷ Some c ∷ []) ts r ranged e fits = ((λ q. will_as w q boolean c (condition_suits rights q c ranged e) fits.0), tt)
-  condition_awaits rights (None ∷ None ∷ y ∷ ys) ts r ranged e fits = elim r [ ]
-  condition_awaits rights (None ∷ Some c ∷ y ∷ ys) ts r ranged e fits = elim r [ ]
-  condition_awaits rights (Some a ∷ []) ts r ranged e fits = elim r.1 [ ]
-  condition_awaits rights (Some a ∷ None ∷ []) ts r ranged e fits = (fits.0, tt)
-  condition_awaits rights (Some a ∷ Some c ∷ []) ts r ranged e fits = (fits.0, ((λ q. will_as w q boolean c (condition_suits rights q c ranged e) fits.1.0), tt))
-  condition_awaits rights (Some a ∷ None ∷ y ∷ ys) ts r ranged e fits = elim r.1 [ ]
-  condition_awaits rights (Some a ∷ Some c ∷ y ∷ ys) ts r ranged e fits = elim r.1 [ ]
+      → AllTagged (row (all_given condition_takes (hs ++ ts))) → Awaits w condition_roles hs
+  condition_awaits rights [] ts r ranged e fits tags = elim r [ ]
+  condition_awaits rights (None ∷ []) ts r ranged e fits tags = elim r [ ]
+  condition_awaits rights (None ∷ None ∷ []) ts r ranged e fits tags = tt
+  condition_awaits rights (None ∷ Some c ∷ []) ts r ranged e fits tags = ((λ q. will_as w q boolean c (condition_suits rights q c ranged e) fits.0), tt)
+  condition_awaits rights (None ∷ None ∷ y ∷ ys) ts r ranged e fits tags = elim r [ ]
+  condition_awaits rights (None ∷ Some c ∷ y ∷ ys) ts r ranged e fits tags = elim r [ ]
+  condition_awaits rights (Some a ∷ []) ts r ranged e fits tags = elim r.1 [ ]
+  condition_awaits rights (Some a ∷ None ∷ []) ts r ranged e fits tags = ((fits.0, tags.0), tt)
+  condition_awaits rights (Some a ∷ Some c ∷ []) ts r ranged e fits tags = ((fits.0, tags.0), ((λ q. will_as w q boolean c (condition_suits rights q c ranged e) fits.1.0), tt))
+  condition_awaits rights (Some a ∷ None ∷ y ∷ ys) ts r ranged e fits tags = elim r.1 [ ]
+  condition_awaits rights (Some a ∷ Some c ∷ y ∷ ys) ts r ranged e fits tags = elim r.1 [ ]
 
   pub condition_behind : (hs ts : Parts) → Roles w condition_roles hs → AllFit w false (row (all_given condition_takes (hs ++ ts))) → AllFit w false (row ts)
   condition_behind [] ts r fits = elim r [ ]
@@ -109,6 +110,32 @@ module _ (w : Standins) where
   condition_behind (Some a ∷ Some c ∷ []) ts r fits = fits.1.1
   condition_behind (Some a ∷ None ∷ y ∷ ys) ts r fits = elim r.1 [ ]
   condition_behind (Some a ∷ Some c ∷ y ∷ ys) ts r fits = elim r.1 [ ]
+
+  pub condition_tagged : (hs ts : Parts) → Roles w condition_roles hs → AllTagged (row (all_given condition_takes (hs ++ ts))) → AllTagged (row ts)
+  condition_tagged [] ts r tags = elim r [ ]
+  condition_tagged (None ∷ []) ts r tags = elim r [ ]
+  condition_tagged (None ∷ None ∷ []) ts r tags = tags
+  condition_tagged (None ∷ Some c ∷ []) ts r tags = tags.1
+  condition_tagged (None ∷ None ∷ y ∷ ys) ts r tags = elim r [ ]
+  condition_tagged (None ∷ Some c ∷ y ∷ ys) ts r tags = elim r [ ]
+  condition_tagged (Some a ∷ []) ts r tags = elim r.1 [ ]
+  condition_tagged (Some a ∷ None ∷ []) ts r tags = tags.1
+  condition_tagged (Some a ∷ Some c ∷ []) ts r tags = tags.1.1
+  condition_tagged (Some a ∷ None ∷ y ∷ ys) ts r tags = elim r.1 [ ]
+  condition_tagged (Some a ∷ Some c ∷ y ∷ ys) ts r tags = elim r.1 [ ]
+
+  condition_calm : (hs ts : Parts) → Roles w condition_roles hs → AllCalm w (row ts) → CalmBehind w (row (all_given condition_takes (hs ++ ts)))
+  condition_calm [] ts r h = elim r [ ]
+  condition_calm (None ∷ []) ts r h = elim r [ ]
+  condition_calm (None ∷ None ∷ []) ts r h = h
+  condition_calm (None ∷ Some c ∷ []) ts r h = h
+  condition_calm (None ∷ None ∷ y ∷ ys) ts r h = elim r [ ]
+  condition_calm (None ∷ Some c ∷ y ∷ ys) ts r h = elim r [ ]
+  condition_calm (Some a ∷ []) ts r h = elim r.1 [ ]
+  condition_calm (Some a ∷ None ∷ []) ts r h = h
+  condition_calm (Some a ∷ Some c ∷ []) ts r h = h
+  condition_calm (Some a ∷ None ∷ y ∷ ys) ts r h = elim r.1 [ ]
+  condition_calm (Some a ∷ Some c ∷ y ∷ ys) ts r h = elim r.1 [ ]
 
   pub condition_put : (hs ts : Parts) → Roles w condition_roles hs → Values w condition_roles hs → AllStatedIf ts → AllFit w false (row (all_given condition_takes (hs ++ ts))) → Puts w condition_takes (hs ++ ts)
   condition_put [] ts r v s fits = elim r [ ]
@@ -203,21 +230,31 @@ module _ (w : Standins) where
     pub part : Option Part
     pub rows : row_parts f es ≡ part ∷ []
     pub stated : AllStatedIf (held part)
-    pub reads : AllFit w false (row (held part)) → PartsRead w f es
+    pub reads : AllFit w false (row (held part)) → AllTagged (row (held part)) → PartsRead w f es
+    pub calm : AllFit w false (row (held part)) → AllTagged (row (held part)) → (g : Frame) → FramesStand w f g → no_rule_fails (row_found f es) ≡ true → AllCalm w (row (held part))
 
   module _ (law : ExpressionsTyped) where
     else_held : (f : Frame) (i j : ℕ) (b : Tree) → held (Some (tree_in (reading f value (node kind.Else i j (more b none))))) ≡ Some (tree_in (reading f value b)) ∷ []
     else_held f i j b = ap (λ x. held (Some x)) (holder_is w f f value kind.Else i j (more b none) (else_holder w))
 
     else_row : (f : Frame) (es : Trees) → Elses es → ElseRow f es
-    else_row f es no_else = record { part = None; rows = refl; stated = tt; reads = λ fits. tt }
+    else_row f es no_else = record { part = None; rows = refl; stated = tt; reads = λ fits tags. tt; calm = λ fits tags g st good. tt }
     else_row f es (an_else i j b s) =
         let same = else_held f i j b in
         record {
           part = Some (tree_in (reading f value (node kind.Else i j (more b none))));
           rows = refl;
           stated = subst AllStatedIf (sym same) (reading_stated f value b s.kind, tt);
-          reads = λ fits. ((λ g st good. (holder_reads w f g value kind.Else i j (more b none) (else_holder w) law (a_statement ∷ []) (s, tt) st good ((subst (λ ys. AllFit w false (row ys)) same fits).0, tt)).reads), tt);
+          reads = λ fits tags. (
+            (λ g st good. (holder_reads w f g value kind.Else i j (more b none) (else_holder w) law (a_statement ∷ []) (s, tt) st good
+                (((subst (λ ys. AllFit w false (row ys)) same fits).0, (subst (λ ys. AllTagged (row ys)) same tags).0), tt)).reads),
+            tt,
+          );
+          calm = λ fits tags g st good.
+              let one = all_of (found_in (reading f value (node kind.Else i j (more b none)))) [] good in
+              let r = holder_reads w f g value kind.Else i j (more b none) (else_holder w) law (a_statement ∷ []) (s, tt) st one.0
+              (((subst (λ ys. AllFit w false (row ys)) same fits).0, (subst (λ ys. AllTagged (row ys)) same tags).0), tt) in
+              subst (λ ys. AllCalm w (row ys)) (sym same) (r.row.calm.0 (stated_kind (kind_of b) s.kind), tt);
         }
 
     module _ (f g : Frame) (h : Hint) (i j : ℕ) (hd b : Tree) (es : Trees) (hf : Header w header_parts condition_roles f hd) (sb : Stated w b) (el : Elses es) (st : FramesStand w f g) where
@@ -261,20 +298,24 @@ module _ (w : Standins) where
           ∙ sym (news_two w hs ts)
 
       pub if_reads : no_rule_fails (found_in (reading f h (node kind.If i j (more hd (more b es))))) ≡ true → Fits w false (tree_in (reading f h (node kind.If i j (more hd (more b es)))))
-          → Reads w f g h (node kind.If i j (more hd (more b es)))
+          → Tagged (tree_in (reading f h (node kind.If i j (more hd (more b es))))) → Reads w f g h (node kind.If i j (more hd (more b es)))
       unfolding if_old
-      if_reads good fits =
+      if_reads good fits tags =
           let er = else_row last es el in
           let own = old_rules w f h kind.If i j (more hd (more b es)) refl if_old good in
           let all = old_fits w f h kind.If i j (more hd (more b es)) refl if_old own.1 fits in
           let S = row_behind f (more hd (more b es)) in
           let known = judged w condition_takes (hs ++ ts) (condition_known hs ts hf.stated) all in
           let rule = sym (second_is (rights_of S) hs ts hf.stated) ∙ rule_of w f h kind.If i j (more hd (more b es)) refl S form.If (hs ++ ts) known own.1 in
-          let awaits = condition_awaits (rights_of S) hs ts hf.stated ranged rule all in
+          let tagged = (old_tagged w f h kind.If i j (more hd (more b es)) refl if_old own.1 tags).1 in
+          let awaits = condition_awaits (rights_of S) hs ts hf.stated ranged rule all tagged in
           let behind = condition_behind hs ts hf.stated all in
+          let later = condition_tagged hs ts hf.stated tagged in
           let found = all_of (found_in (reading f value hd)) (row_found middle (more b es)) own.0 in
           let hr = hf.read g st found.0 awaits in
-          let r = parts_read w f g (more hd (more b es)) ((λ g st good. (hf.read g st good awaits).reads), ((λ g st good. sb.reads middle g value st good behind.0), er.reads behind.1)) st own.0 in
+          let r = parts_read w f g (more hd (more b es)) ((λ g st good. (hf.read g st good awaits).reads), ((λ g st good. sb.reads middle g value st good behind.0 later.0), er.reads behind.1 later.1)) st own.0 in
+          let body = all_of (found_in (reading middle value b)) (row_found last es) found.1 in
+          let one = sb.reads middle (frame_in (reading g value (with_variables w hd))) value hr.reads.frame body.0 behind.0 later.0 in
           let T = row_behind g new in
           node_reads w f g h kind.If i j (more hd (more b es)) if_old refl refl own.1
           (record {
@@ -289,4 +330,5 @@ module _ (w : Standins) where
                 ∙ condition_holds (rights_of S) hs ts hf.stated hr.values ranged rule all);
             node = node_put w form.If i j condition_takes (hs ++ ts) if_form (condition_put hs ts hf.stated hr.values (reading_stated middle value b sb.kind, er.stated) all);
             frame = back_stands w f g S T st r.frame;
+            calm = condition_calm hs ts hf.stated (one.calm (stated_kind (kind_of b) sb.kind), er.calm behind.1 later.1 (frame_in (reading (frame_in (reading g value (with_variables w hd))) value (with_variables w b))) one.frame body.1);
           })

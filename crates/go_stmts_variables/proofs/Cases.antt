@@ -33,7 +33,7 @@ is_tag t (sort.Value u) e = record { own = e; kind = refl; nil = refl; known = r
 is_tag t (sort.Constant u c) e = record { own = e; kind = refl; nil = refl; known = refl }
 is_tag t a e = cc
 
-type_kept : (rights : Rights) (u : Option TypeTree) (t : TypeTree) (a b : Stands) → Stood rights u a b → u ≡ None → own_type a ≡ Some t → own_type b ≡ Some t
+pub type_kept : (rights : Rights) (u : Option TypeTree) (t : TypeTree) (a b : Stands) → Stood rights u a b → u ≡ None → own_type a ≡ Some t → own_type b ≡ Some t
 type_kept rights u t a b (as_before v c) n e = e
 type_kept rights u t a b (in_place v s c) n e = e
 type_kept rights u t a b (early s c k f g) n e = cc
@@ -113,6 +113,37 @@ module _ (rights : Rights) where
 
   known_tag : (t : TypeTree) (a : Stands) (x : Part) → IsTag t a → case_failing rights a x ≡ compared_failing rights comparison.Equal (first_of x) (last_of x) (tag_at a x) x
   known_tag t a x tag = ap (λ b. if b then [] else compared_failing rights comparison.Equal (first_of x) (last_of x) (tag_at a x) x) tag.known
+
+-- an untyped value of a case takes the tag's type, which has the constants in it
+pub case_suits : (rights : Rights) (a : Stands) (t : TypeTree) (x : Part) → own_type a ≡ Some t → case_failing rights a x ≡ [] → (k : OpenKind) → open_kind (sort_of x) ≡ Some k → (suits rights k t ≡ true) × (unrepresented rights t x ≡ [])
+case_suits rights a t x e f k o = by (compared_in rights a (sort_of x)) refl (sym (known_tag rights t a x (is_tag t a e)) ∙ f)
+  where
+    no_nil : (z : Stands) → open_kind z ≡ Some k → is_nil z ≡ false
+    no_nil sort.Nil m = cc
+    no_nil z m = refl
+
+    no_type : (z : Stands) → open_kind z ≡ Some k → own_type z ≡ None
+    no_type (sort.Value u) m = cc
+    no_type (sort.Constant u c) m = cc
+    no_type z m = refl
+
+    some_type : (b : Bool) → (if b then Some (in_type t) else None) ≡ Some (in_type t) → b ≡ true
+    some_type true m = refl
+    some_type false m = cc
+
+    by : (d : Option Common) → compared_in rights a (sort_of x) ≡ d → compared_failing_in rights comparison.Equal (first_of x) (last_of x) (tag_at a x) x d ≡ [] → (suits rights k t ≡ true) × (unrepresented rights t x ≡ [])
+    by None m g = cc
+    by (Some c) m g =
+        let tag = is_tag t a e in
+        let is : c ≡ in_type t = tag_common rights t a (sort_of x) c tag m in
+        let judged : compared_failing_in rights comparison.Equal (first_of x) (last_of x) (tag_at a x) x (Some (in_type t)) ≡ [] =
+        sym (ap (λ z. compared_failing_in rights comparison.Equal (first_of x) (last_of x) (tag_at a x) x (Some z)) is) ∙ g in
+        let both = neither (unfit rights comparison.Equal (first_of x) (last_of x) (is_nil a || is_nil (sort_of x)) (in_type t)) (compared_refuse rights (in_type t) (tag_at a x) x) judged in
+        let range = both_none (unrepresented rights t (tag_at a x)) (unrepresented rights t x) both.1 in
+        let types : compared_types rights (Some t) (open_kind a) None (Some k) ≡ Some (in_type t) =
+        sym (compared_is rights a (sort_of x) tag.nil (no_nil (sort_of x) o) ∙ ap (λ z. compared_types rights z (open_kind a) (own_type (sort_of x)) (open_kind (sort_of x))) tag.own
+        ∙ ap (λ z. compared_types rights (Some t) (open_kind a) z (open_kind (sort_of x))) (no_type (sort_of x) o) ∙ ap (λ z. compared_types rights (Some t) (open_kind a) None z) o) ∙ m ∙ ap Some is in
+        (some_type (suits rights k t) types, range.1)
 
 pub case_kept : CaseKept
 case_kept rights a b t x y st e o f =

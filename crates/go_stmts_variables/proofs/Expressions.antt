@@ -237,7 +237,7 @@ module _ (w : Standins) where
       placed_by (λ x. is_type x ≡ false) s k h i j (layout k (typings s k h ps [] ps)) (operand_placed k e) refl (λ f. no_type s.rights h i j (sort_by s k h i j (layout k (typings s k h ps [] ps))) a f)
 
   -- it declares nothing
-  value_form : (s : Scope) (h : Hint) (x : Tree) → is_operand (kind_of x) ≡ true → asks h ≡ true → is_new (form_of (typing s h x)) ≡ None
+  pub value_form : (s : Scope) (h : Hint) (x : Tree) → is_operand (kind_of x) ≡ true → asks h ≡ true → is_new (form_of (typing s h x)) ≡ None
   value_form s h (node k i j ps) e a =
       let ys = layout k (typings s k h ps [] ps) in
       built_form s k h i j ys (is_sound k ys (own_faults s k h i j ys)) (operand_form s k h i j ys e a)

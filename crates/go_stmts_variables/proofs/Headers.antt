@@ -36,7 +36,7 @@ use Rattle.go_stmts_variables.proofs.Roles.{Role, a_statement, a_value, row_part
 -- ---- what holds parts for others holds them with variables in it
 
 module _ (w : Standins) where
-  list_begun : (ps : Typeds TypeTree) → list_of (all_begun w false ps) ≡ news w (list_of ps)
+  pub list_begun : (ps : Typeds TypeTree) → list_of (all_begun w false ps) ≡ news w (list_of ps)
   list_begun sort.none = refl
   list_begun (sort.more p ps) = ap (λ zs. Some (begun w false p) ∷ zs) (list_begun ps)
   list_begun (sort.skip ps) = ap (λ zs. None ∷ zs) (list_begun ps)
@@ -63,7 +63,10 @@ module _ (w : Standins) where
   begun_plain f i j l ps e =
       ap (λ y. is_held (form_of y)) (begun_by [] w false f i j l ps (wanted w false (typed f i j l ps)) e refl) ∙ with_plain (wanted w false (typed f i j l ps)) (typed f i j l ps) e
 
-  value_header : (x : Part) → is_held (form_of x) ≡ false → header_parts (Some x) ≡ None ∷ Some x ∷ []
+  pub begun_plain_part : (x : Part) → is_held (form_of x) ≡ false → is_held (form_of (begun w false x)) ≡ false
+  begun_plain_part (typed f i j l ps) e = begun_plain f i j l ps e
+
+  pub value_header : (x : Part) → is_held (form_of x) ≡ false → header_parts (Some x) ≡ None ∷ Some x ∷ []
   value_header (typed (form.Held k) i j l ps) e = cc
   value_header (typed f i j l ps) e = refl
 

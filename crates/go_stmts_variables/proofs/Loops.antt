@@ -14,11 +14,11 @@ use Rattle.go_stmts_defs.specs.Rules.{second_condition}
 use Rattle.go_exprs_variables.specs.Variables.{Standins, all_with_variables, begun, Fits, AllFit, no_rule_fails, ExpressionsTyped}
 use Rattle.go_exprs_variables.proofs.Public.{all_of, new_part, news}
 use Rattle.go_stmts_variables.specs.Frames.{FramesStand}
-use Rattle.go_stmts_variables.specs.Statements.{tree_in, found_in, frame_in}
-use Rattle.go_stmts_variables.proofs.Branches.{RangedIf, AllStatedIf, condition_roles, condition_takes, second, condition_awaits, condition_behind, condition_put, condition_holds, second_is, second_new}
+use Rattle.go_stmts_variables.specs.Statements.{tree_in, found_in, frame_in, Tagged, AllTagged}
+use Rattle.go_stmts_variables.proofs.Branches.{RangedIf, AllStatedIf, condition_roles, condition_takes, second, condition_awaits, condition_behind, condition_tagged, condition_put, condition_holds, second_is, second_new}
 use Rattle.go_stmts_variables.proofs.Frames.{back_stands}
 use Rattle.go_stmts_variables.proofs.Headers.{Header, begun_plain, loop_new}
-use Rattle.go_stmts_variables.proofs.Nodes.{Reads, Old, old_rules, old_fits, rule_of, own_none, node_reads}
+use Rattle.go_stmts_variables.proofs.Nodes.{Reads, Old, old_rules, old_fits, old_tagged, rule_of, own_none, node_reads}
 use Rattle.go_stmts_variables.proofs.Puts.{IsStatementForm, node_put}
 use Rattle.go_stmts_variables.proofs.Roles.{IsPlainRow, Role, a_statement, a_value, RangedAll, row_parts, row_found, row_behind, any_row, parts_read, Roles, Awaits, Values}
 use Rattle.go_stmts_variables.proofs.Rows.{news_two, IsStated, reading_stated, Stated}
@@ -34,7 +34,7 @@ module _ (w : Standins) where
     pub is : hs ≡ front ++ post
     pub roles : Roles w condition_roles front
     pub stated : AllStatedIf w post
-    pub awaits : Awaits w condition_roles front → AllFit w false (row post) → Awaits w loop_roles hs
+    pub awaits : Awaits w condition_roles front → AllFit w false (row post) → AllTagged (row post) → Awaits w loop_roles hs
     pub values : Values w loop_roles hs → Values w condition_roles front
     pub ranged : RangedAll loop_roles hs → RangedIf (second front)
 
@@ -46,20 +46,20 @@ module _ (w : Standins) where
   falls (None ∷ Some c ∷ []) r = elim r [ ]
   falls (Some a ∷ None ∷ []) r = elim r.1 [ ]
   falls (Some a ∷ Some c ∷ []) r = elim r.1 [ ]
-  falls (None ∷ None ∷ None ∷ []) r = record { front = None ∷ None ∷ []; post = None ∷ []; is = refl; roles = tt; stated = tt; awaits = λ a f. tt; values = λ v. tt; ranged = λ q. tt }
-  falls (None ∷ None ∷ Some p ∷ []) r = record { front = None ∷ None ∷ []; post = Some p ∷ []; is = refl; roles = tt; stated = (r.0, tt); awaits = λ a f. (f.0, tt); values = λ v. tt; ranged = λ q. tt }
-  falls (None ∷ Some c ∷ None ∷ []) r = record { front = None ∷ Some c ∷ []; post = None ∷ []; is = refl; roles = tt; stated = tt; awaits = λ a f. (a.0, tt); values = λ v. (v.0, tt); ranged = λ q. q.0 }
-  falls (None ∷ Some c ∷ Some p ∷ []) r = record { front = None ∷ Some c ∷ []; post = Some p ∷ []; is = refl; roles = tt; stated = (r.0, tt); awaits = λ a f. (a.0, (f.0, tt)); values = λ v. (v.0, tt); ranged = λ q. q.0 }
-  falls (Some a ∷ None ∷ None ∷ []) r = record { front = Some a ∷ None ∷ []; post = None ∷ []; is = refl; roles = (r.0, tt); stated = tt; awaits = λ x f. (x.0, tt); values = λ v. tt; ranged = λ q. tt }
-  falls (Some a ∷ None ∷ Some p ∷ []) r = record { front = Some a ∷ None ∷ []; post = Some p ∷ []; is = refl; roles = (r.0, tt); stated = (r.1.0, tt); awaits = λ x f. (x.0, (f.0, tt)); values = λ v. tt; ranged = λ q. tt }
-  falls (Some a ∷ Some c ∷ None ∷ []) r = record { front = Some a ∷ Some c ∷ []; post = None ∷ []; is = refl; roles = (r.0, tt); stated = tt; awaits = λ x f. (x.0, (x.1.0, tt)); values = λ v. (v.0, tt); ranged = λ q. q.0 }
+  falls (None ∷ None ∷ None ∷ []) r = record { front = None ∷ None ∷ []; post = None ∷ []; is = refl; roles = tt; stated = tt; awaits = λ a f t. tt; values = λ v. tt; ranged = λ q. tt }
+  falls (None ∷ None ∷ Some p ∷ []) r = record { front = None ∷ None ∷ []; post = Some p ∷ []; is = refl; roles = tt; stated = (r.0, tt); awaits = λ a f t. ((f.0, t.0), tt); values = λ v. tt; ranged = λ q. tt }
+  falls (None ∷ Some c ∷ None ∷ []) r = record { front = None ∷ Some c ∷ []; post = None ∷ []; is = refl; roles = tt; stated = tt; awaits = λ a f t. (a.0, tt); values = λ v. (v.0, tt); ranged = λ q. q.0 }
+  falls (None ∷ Some c ∷ Some p ∷ []) r = record { front = None ∷ Some c ∷ []; post = Some p ∷ []; is = refl; roles = tt; stated = (r.0, tt); awaits = λ a f t. (a.0, ((f.0, t.0), tt)); values = λ v. (v.0, tt); ranged = λ q. q.0 }
+  falls (Some a ∷ None ∷ None ∷ []) r = record { front = Some a ∷ None ∷ []; post = None ∷ []; is = refl; roles = (r.0, tt); stated = tt; awaits = λ x f t. (x.0, tt); values = λ v. tt; ranged = λ q. tt }
+  falls (Some a ∷ None ∷ Some p ∷ []) r = record { front = Some a ∷ None ∷ []; post = Some p ∷ []; is = refl; roles = (r.0, tt); stated = (r.1.0, tt); awaits = λ x f t. (x.0, ((f.0, t.0), tt)); values = λ v. tt; ranged = λ q. tt }
+  falls (Some a ∷ Some c ∷ None ∷ []) r = record { front = Some a ∷ Some c ∷ []; post = None ∷ []; is = refl; roles = (r.0, tt); stated = tt; awaits = λ x f t. (x.0, (x.1.0, tt)); values = λ v. (v.0, tt); ranged = λ q. q.0 }
   falls (Some a ∷ Some c ∷ Some p ∷ []) r = record {
     front = Some a ∷ Some c ∷ [];
     post = Some p ∷ [];
     is = refl;
     roles = (r.0, tt);
     stated = (r.1.0, tt);
-    awaits = λ x f. (x.0, (x.1.0, (f.0, tt)));
+    awaits = λ x f t. (x.0, (x.1.0, ((f.0, t.0), tt)));
     values = λ v.
         (v.0, tt);
     ranged = λ q. q.0;
@@ -83,6 +83,11 @@ module _ (w : Standins) where
   fits_two [] x f = (tt, f.0)
   fits_two (None ∷ ps) x f = fits_two ps x f
   fits_two (Some p ∷ ps) x f = let rest = fits_two ps x f.1 in ((f.0, rest.0), rest.1)
+
+  tagged_two : (ps : Parts) (x : Part) → AllTagged (row (ps ++ Some x ∷ [])) → AllTagged (row ps) × Tagged x
+  tagged_two [] x t = (tt, t.0)
+  tagged_two (None ∷ ps) x t = tagged_two ps x t
+  tagged_two (Some p ∷ ps) x t = let rest = tagged_two ps x t.1 in ((t.0, rest.0), rest.1)
 
   -- ---- a header of a loop that goes over nothing
 
@@ -144,20 +149,22 @@ module _ (w : Standins) where
           ∙ append_assoc (news w hs) (news w fall.post) (Some (begun w false b') ∷ []) ∙ ap (λ z. news w hs ++ z) (sym (news_two w fall.post (Some b' ∷ []))) ∙ sym (news_two w hs ts)
 
       pub for_reads : no_rule_fails (found_in (reading f h (node kind.For i j (more hd (more b none))))) ≡ true → Fits w false (tree_in (reading f h (node kind.For i j (more hd (more b none)))))
-          → Reads w f g h (node kind.For i j (more hd (more b none)))
+          → Tagged (tree_in (reading f h (node kind.For i j (more hd (more b none))))) → Reads w f g h (node kind.For i j (more hd (more b none)))
       unfolding for_old
-      for_reads good fits =
+      for_reads good fits tags =
           let own = old_rules w f h kind.For i j (more hd (more b none)) refl for_old good in
           let all = old_fits w f h kind.For i j (more hd (more b none)) refl for_old own.1 fits in
           let S = row_behind f (more hd (more b none)) in
           let rule = sym (second_is w (rights_of S) hs ts fall.roles) ∙ rule_of w f h kind.For i j (more hd (more b none)) refl S form.For (hs ++ ts) refl own.1 in
+          let tagged = (old_tagged w f h kind.For i j (more hd (more b none)) refl for_old own.1 tags).1 in
           let behind = condition_behind w hs ts fall.roles all in
+          let later = tagged_two fall.post (tree_in (reading middle value b)) (condition_tagged w hs ts fall.roles tagged) in
           let two = fits_two fall.post (tree_in (reading middle value b)) behind in
-          let awaits = fall.awaits (condition_awaits w (rights_of S) hs ts fall.roles ranged rule all) two.0 in
+          let awaits = fall.awaits (condition_awaits w (rights_of S) hs ts fall.roles ranged rule all tagged) two.0 later.0 in
           let found = all_of (found_in (reading f value hd)) (row_found middle (more b none)) own.0 in
           let hr = hf.read g st found.0 awaits in
           let values = fall.values hr.values in
-          let r = parts_read w f g (more hd (more b none)) ((λ g st good. (hf.read g st good awaits).reads), ((λ g st good. sb.reads middle g value st good two.1), tt)) st own.0 in
+          let r = parts_read w f g (more hd (more b none)) ((λ g st good. (hf.read g st good awaits).reads), ((λ g st good. sb.reads middle g value st good two.1 later.1), tt)) st own.0 in
           let T = row_behind g new in
           node_reads w f g h kind.For i j (more hd (more b none)) for_old refl refl own.1
           (record {
@@ -172,6 +179,7 @@ module _ (w : Standins) where
                 ∙ condition_holds w (rights_of S) hs ts fall.roles values ranged rule all);
             node = node_put w form.For i j condition_takes (hs ++ ts) for_form (condition_put w hs ts fall.roles values (stated_two fall.post (tree_in (reading middle value b)) fall.stated (reading_stated middle value b sb.kind)) all);
             frame = back_stands w f g S T st r.frame;
+            calm = tt;
           })
 
     -- ---- a loop without a header
@@ -194,12 +202,12 @@ module _ (w : Standins) where
       }
 
       pub forever_reads : no_rule_fails (found_in (reading f h (node kind.For i j (skip (more b none))))) ≡ true → Fits w false (tree_in (reading f h (node kind.For i j (skip (more b none)))))
-          → Reads w f g h (node kind.For i j (skip (more b none)))
+          → Tagged (tree_in (reading f h (node kind.For i j (skip (more b none))))) → Reads w f g h (node kind.For i j (skip (more b none)))
       unfolding forever_old
-      forever_reads good fits =
+      forever_reads good fits tags =
           let own = old_rules w f h kind.For i j (skip (more b none)) refl forever_old good in
           let all = old_fits w f h kind.For i j (skip (more b none)) refl forever_old own.1 fits in
-          let r = parts_read w f g (skip (more b none)) ((λ g st good. sb.reads f g value st good all.0), tt) st own.0 in
+          let r = parts_read w f g (skip (more b none)) ((λ g st good. sb.reads f g value st good all.0 (old_tagged w f h kind.For i j (skip (more b none)) refl forever_old own.1 tags).1.0), tt) st own.0 in
           let T = row_behind g (all_with_variables w (skip (more b none))) in
           node_reads w f g h kind.For i j (skip (more b none)) forever_old refl refl own.1
           (record {
@@ -213,4 +221,5 @@ module _ (w : Standins) where
             rule = refl;
             node = node_put w form.For i j condition_takes forever for_form (condition_put w (None ∷ None ∷ []) (None ∷ Some (tree_in (reading f value b)) ∷ []) tt tt (reading_stated f value b sb.kind, tt) all);
             frame = back_stands w f g (row_behind f (skip (more b none))) T st r.frame;
+            calm = tt;
           })

@@ -69,7 +69,7 @@ same_new ls ks s (Some (object.Local f n)) e = ap (λ z. new_or_known n (own_typ
 module _ (w : Standins) where
   -- ---- a name with what it stands for
 
-  abbrev name_label : Frame → ℕ → Label TypeTree
+  abbrev pub name_label : Frame → ℕ → Label TypeTree
   name_label f i = label (declared_form (scope_of f) (f.around.objects i)) sort.Nothing []
 
   -- A name that is declared, or that was before, at a token at which no variable stands.
@@ -79,7 +79,7 @@ module _ (w : Standins) where
     pub free : w first ≡ None
     pub is : x ≡ typed (new_form f.locals (declared_form (scope_of f) (f.around.objects first))) first last (name_label f first) sort.none
 
-  name_held : (f : Frame) (x : Part) → IsName f x → is_held (form_of x) ≡ false
+  pub name_held : (f : Frame) (x : Part) → IsName f x → is_held (form_of x) ≡ false
   name_held f x h = ap (λ y. is_held (form_of y)) h.is ∙ new_fails is_held f.locals (scope_of f) (f.around.objects h.first) refl (λ r. refl) (λ n. refl) (λ n. refl)
 
   pub name_begun : (f : Frame) (x : Part) → IsName f x → begun w false x ≡ x
@@ -170,7 +170,7 @@ module _ (w : Standins) where
   AllFresh (None ∷ xs) = AllFresh xs
   AllFresh (Some x ∷ xs) = DeclaresFresh x × AllFresh xs
 
-  sort_stands : (f g : Frame) (o : Option ℕ) (z : Stands) → ((n : ℕ) → o ≡ Some n → Fresh w n) → FramesStand w f g → FramesStand w (declares_sort o z f) (declares_sort o z g)
+  pub sort_stands : (f g : Frame) (o : Option ℕ) (z : Stands) → ((n : ℕ) → o ≡ Some n → Fresh w n) → FramesStand w f g → FramesStand w (declares_sort o z f) (declares_sort o z g)
   sort_stands f g None z fresh h = h
   sort_stands f g (Some n) sort.Nothing fresh h = h
   sort_stands f g (Some n) z fresh h = with_local_stands w f g n z (fresh n refl) h

@@ -3,7 +3,7 @@ use Rattle.std.proofs.Common.{◌≡◌, ◌∙◌, ℕ, Bool, true, false, List
 use Rattle.std.specs.Prelude.{◌&&◌, ◌||◌, if◌then◌else◌, not}
 use Rattle.std.specs.List.{list_any}
 use Rattle.go_grammar.specs.declared.kind.Kind.{Kind}
-use Rattle.go_grammar.specs.Trees.{Tree, Trees, node}
+use Rattle.go_grammar.specs.Trees.{Tree, Trees, node, kind_of}
 use Rattle.go_types.specs.Trees.{TypeTree}
 use Rattle.go_typed.specs.declared.form.Form.{Form}
 use Rattle.go_typed.specs.Trees.{Label, Typed, typed, sort_of, row}
@@ -23,7 +23,8 @@ use Rattle.clone_window.specs.Masses as masses
 use Rattle.go_exprs_variables.specs.Variables.{Standins, with_variables, all_with_variables, begun, is_unfolded, any_variable, Fits, AllFit, no_rule_fails}
 use Rattle.go_exprs_variables.proofs.Public.{all_of, found_nothing, news, nothing_found, of_all, settled_sort}
 use Rattle.go_stmts_variables.specs.Frames.{FramesStand}
-use Rattle.go_stmts_variables.specs.Statements.{tree_in, found_in, frame_in}
+use Rattle.go_stmts_variables.proofs.Endings.{Calm}
+use Rattle.go_stmts_variables.specs.Statements.{tree_in, found_in, frame_in, TagAt, Tagged, AllTagged}
 
 module _ (w : Standins) where
   -- A part of a statement that is read with variables in it.
@@ -31,6 +32,7 @@ module _ (w : Standins) where
     pub tree : tree_in (reading g h (with_variables w x)) ≡ begun w false (tree_in (reading f h x))
     pub failing : no_rule_fails (found_in (reading g h (with_variables w x))) ≡ true
     pub frame : FramesStand w (frame_in (reading f h x)) (frame_in (reading g h (with_variables w x)))
+    pub calm : is_statement (kind_of x) ≡ true → Calm w (tree_in (reading f h x))
 
   -- ---- what was read
 
@@ -83,6 +85,11 @@ module _ (w : Standins) where
         let all : Fits w false (made o.form i j sort.Nothing ys zs) = subst (Fits w false) (ap tree_in (old_closed o) ∙ sound_node o.behind o.form ys e) fits in
         subst (λ b. AllFit w b (row zs)) (inside_no o.form (label o.form sort.Nothing ys) refl) all.2
 
+    -- the tags in its parts have types
+    pub old_tagged : (o : Old f h k i j ps) → own_faults o.behind k o.form i j o.laid ≡ [] → Tagged (tree_in (reading f h (node k i j ps))) → TagAt o.form (row (all_given (taking o.behind k o.form o.laid) o.laid))
+        × AllTagged (row (all_given (taking o.behind k o.form o.laid) o.laid))
+    old_tagged o e tags = subst Tagged (ap tree_in (old_closed o) ∙ sound_node o.behind o.form o.laid e) tags
+
     pub rule_of : (s : Frame) (fm : Form) (ys : Parts) → judges k ys ≡ true → own_faults s k fm i j ys ≡ [] → failing s k fm i j ys ≡ []
     rule_of s fm ys n e = sym (ap (λ b. if b then failing s k fm i j ys else []) n) ∙ e
 
@@ -107,6 +114,7 @@ module _ (w : Standins) where
     pub node : made o.form i j sort.Nothing (news w o.laid) (all_given (taking behind k o.form (news w o.laid)) (news w o.laid)) ≡ begun w false (made o.form i j sort.Nothing o.laid (all_given (taking o.behind k o.form o.laid) o.laid))
     pub frame : FramesStand w (leaving k i ps (made o.form i j sort.Nothing o.laid (all_given (taking o.behind k o.form o.laid) o.laid)) (back f o.behind))
         (leaving k i (all_with_variables w ps) (begun w false (made o.form i j sort.Nothing o.laid (all_given (taking o.behind k o.form o.laid) o.laid))) (back g behind))
+    pub calm : Calm w (made o.form i j sort.Nothing o.laid (all_given (taking o.behind k o.form o.laid) o.laid))
 
   pub node_reads : (f g : Frame) (h : Hint) (k : Kind) (i j : ℕ) (ps : Trees) (o : Old f h k i j ps) → is_statement k ≡ true → with_variables w (node k i j ps) ≡ node k i j (all_with_variables w ps)
       → own_faults o.behind k o.form i j o.laid ≡ [] → New f g h k i j ps o → Reads f g h (node k i j ps)
@@ -125,6 +133,7 @@ module _ (w : Standins) where
             (sym (sound_node f h k i j ps statement o.behind o.form o.laid own))
             (subst (λ x. FramesStand w (leaving k i ps (made o.form i j sort.Nothing o.laid (all_given (taking o.behind k o.form o.laid) o.laid)) (back f o.behind)) (leaving k i (all_with_variables w ps) x (back g n.behind)))
             (sym (new_tree ∙ n.node)) n.frame)));
+        calm = λ e. subst (Calm w) (sym old_tree) n.calm;
       }
 
   -- ---- parts that fit are known

@@ -56,7 +56,7 @@ module _ (w : Standins) where
     all_want_none a (sort.more p ps) fits = ap (λ o. or_wanted o (all_wanted w a ps)) (fits_wants_none a p fits.0) ∙ all_want_none a ps fits.1
     all_want_none a (sort.skip ps) fits = all_want_none a ps fits
 
-  begun_as : (x : Part) (o : Option TypeTree) → is_held (form_of x) ≡ false → wanted w false x ≡ o → begun w false x ≡ put_with w false o x
+  pub begun_as : (x : Part) (o : Option TypeTree) → is_held (form_of x) ≡ false → wanted w false x ≡ o → begun w false x ≡ put_with w false o x
   begun_as (typed f i j l ps) o h e = begun_by [] w false f i j l ps o h e
 
   -- What fits already is as it will be.
@@ -139,7 +139,7 @@ module _ (w : Standins) where
   Puts (k ∷ ks) (None ∷ ys) = Puts ks ys
   Puts (k ∷ ks) (Some y ∷ ys) = Put k y × Puts ks ys
 
-  varies_taken : (k : Taking) (x : Part) → (label_of (given_part k x)).varies ≡ (label_of x).varies
+  pub varies_taken : (k : Taking) (x : Part) → (label_of (given_part k x)).varies ≡ (label_of x).varies
   varies_taken (takes k) x = varies_given [] w false k x
   varies_taken (stands z) (typed f i j l ps) = refl
 

@@ -8,13 +8,14 @@ use Rattle.go_types.specs.Trees.{TypeTree}
 use Rattle.go_types.specs.Relations.{Rights}
 use Rattle.go_types_relations.specs.Tests.{is_assignable}
 use Rattle.go_typed.specs.Trees.{sort_of}
+use Rattle.go_typed.specs.declared.sort.Untyped.TheVariants as untyped
 use Rattle.go_typed.specs.Trees as sort
 use Rattle.go_constants.specs.declared.values.Const.TheVariants as const
 use Rattle.go_exprs_rules.specs.declared.family.OpenKind.{OpenKind}
 use Rattle.go_exprs_rules.specs.declared.fault.TypeFault.{TypeFault}
 use Rattle.go_exprs_rules.specs.Faults.{fault_at}
 use Rattle.go_exprs_rules.specs.Settling.{Part, at_part, undefaulted_by, undefaulted}
-use Rattle.go_exprs_rules.specs.Sorts.{Stands, is_text, is_whole, open_kind, kind_of_untyped, kind_of_const, default_type, value_type, form_of_value, element_of, int, rune}
+use Rattle.go_exprs_rules.specs.Sorts.{Stands, is_open, is_constant, is_text, is_whole, open_kind, kind_of_untyped, kind_of_const, default_type, value_type, form_of_value, element_of, int, rune}
 use Rattle.go_stmts_defs.specs.Assigning.{unassigned}
 use Rattle.go_stmts_defs.specs.Rules.{each, not_a_target, target_type, element_types, number_types, range_types, element_unassigned}
 use Rattle.go_stmts_defs.specs.Rules.{elements_unassigned, number_target, is_open_number, number_unassigned, numbers_unassigned, range_assigned, targets_failing}
@@ -94,7 +95,22 @@ module _ (rights : Rights) where
       ∙ ap (λ b. if is_text rights z then Some (int ∷ rune ∷ []) else (if b then number_types (Some t) else element_types (element_of (form_of_value rights (sort.Value t))))) (whole_kept rights (Some t) z (sort.Value t) (early t z k m f))
       ∙ by_tests (is_text rights z) (is_whole rights z) z (sort.Value t) (ap Some same ∙ sym (open_value z k m)) (inr (open_form z k m)) n
 
-  not_none : (i j : ℕ) (ts : List Part) (x : Part) → range_assigned rights i j ts x (range_types rights x) ≡ [] → range_types rights x ≡ None → ⊥
+  -- what takes its default type has the values that it had
+  pub same_range_types : (x y : Part) → Operand rights (given_type None x) x y → (range_types rights x ≡ None → ⊥) → range_types rights y ≡ range_types rights x
+  same_range_types x y o n = same_range (given_type None x) (sort_of x) (sort_of y) o.stands refl n
+
+  -- an untyped integer constant has numbers of its default type
+  number_types_by : (z : Stands) → is_open_number z ≡ true → (k : OpenKind) × (open_kind z ≡ Some k) × (range_in z ≡ Some (default_type k ∷ int ∷ []))
+  number_types_by (sort.OpenConstant (const.Int n true)) e = (kind_of_const (const.Int n true), refl, refl)
+  number_types_by (sort.OpenConstant (const.Int n false)) e = (kind_of_const (const.Int n false), refl, refl)
+  number_types_by (sort.OpenConstant (const.Bool b)) e = cc
+  number_types_by (sort.OpenConstant (const.Text b)) e = cc
+  number_types_by z e = cc
+
+  pub open_number_types : (x : Part) → is_open_number (sort_of x) ≡ true → (k : OpenKind) × (open_kind (sort_of x) ≡ Some k) × (range_types rights x ≡ Some (default_type k ∷ int ∷ []))
+  open_number_types x e = number_types_by (sort_of x) e
+
+  pub not_none : (i j : ℕ) (ts : List Part) (x : Part) → range_assigned rights i j ts x (range_types rights x) ≡ [] → range_types rights x ≡ None → ⊥
   not_none i j ts x f e = no_place code.Operands x (sym (ap (range_assigned rights i j ts x) e) ∙ f)
 
   -- ---- what isn't an untyped integer constant
@@ -216,6 +232,31 @@ module _ (rights : Rights) where
         ∙ f) in
         by_stood (given_type (number_target ts) x) (sort_of x) (sort_of y) o.stands refl refl refl e
         (record { count = ap (λ m. nat_lt 1 m) (length_targets ts us g) ∙ c.0; assigned = sym (ap (λ b. if b then unassigned rights (number_target ts) x else number_unassigned rights ts x (d.0 ∷ int ∷ [])) e) ∙ c.1 }) o
+
+    -- an untyped number is given to the target, if there is one
+    pub open_assigned : is_open_number (sort_of x) ≡ true → range_assigned rights i j ts x (range_types rights x) ≡ [] → unassigned rights (number_target ts) x ≡ []
+    open_assigned e f =
+        let d = default_of (sort_of x) e in
+        let c = few (nat_lt 1 (length ts)) (if is_open_number (sort_of x) then unassigned rights (number_target ts) x else number_unassigned rights ts x (d.0 ∷ int ∷ [])) i j (sym (given_number ts ts x d.0 (number (sort_of x) e) d.1)
+        ∙ f) in
+        sym (ap (λ b. if b then unassigned rights (number_target ts) x else number_unassigned rights ts x (d.0 ∷ int ∷ [])) e) ∙ c.1
+
+    whole_default : (rs : List TypeTree) → is_open_number (sort_of x) ≡ false → is_whole rights (sort_of x) ≡ true → range_assigned rights i j ts x (Some rs) ≡ [] → undefaulted rights x ≡ []
+    whole_default rs n m f =
+        let c = few (nat_lt 1 (length ts)) (if is_open_number (sort_of x) then unassigned rights (number_target ts) x else number_unassigned rights ts x rs) i j
+        (sym (ap (λ b. if b then numbers_unassigned rights i j ts x rs else elements_unassigned rights x ts rs) m) ∙ f) in
+        (both_none (undefaulted rights x) (elements_unassigned rights x ts rs) (sym (ap (λ b. if b then unassigned rights (number_target ts) x else number_unassigned rights ts x rs) n) ∙ c.1)).0
+
+    default_by : (z : Stands) → z ≡ sort_of x → is_open z ≡ true → is_constant z ≡ false → is_open_number (sort_of x) ≡ false → range_assigned rights i j ts x (range_types rights x) ≡ [] → undefaulted rights x ≡ []
+    default_by (sort.Open untyped.Boolean) e o c n f = absurd (no_place code.Operands x (ap (λ z. range_assigned rights i j ts x (range_in z)) e ∙ f))
+    default_by (sort.Open untyped.Integer) e o c n f = whole_default (int ∷ int ∷ []) n (ap (is_whole rights) (sym e)) (ap (λ z. range_assigned rights i j ts x (range_in z)) e ∙ f)
+    default_by (sort.Open untyped.Rune) e o c n f = whole_default (rune ∷ int ∷ []) n (ap (is_whole rights) (sym e)) (ap (λ z. range_assigned rights i j ts x (range_in z)) e ∙ f)
+    default_by (sort.OpenConstant k) e o c n f = cc
+    default_by z e o c n f = cc
+
+    -- any other untyped value that isn't constant has its default type
+    pub default_assigned : is_open (sort_of x) ≡ true → is_constant (sort_of x) ≡ false → is_open_number (sort_of x) ≡ false → range_assigned rights i j ts x (range_types rights x) ≡ [] → undefaulted rights x ≡ []
+    default_assigned o c n f = default_by (sort_of x) refl o c n f
 
     ranged : (b : Bool) → is_open_number (sort_of x) ≡ b → Operand rights (if b then given_type (number_target ts) x else given_type None x) x y → range_assigned rights i j ts x (range_types rights x) ≡ []
         → (range_assigned rights i j us y (range_types rights y) ≡ []) × (number_target ts ≡ None → range_types rights y ≡ range_types rights x)

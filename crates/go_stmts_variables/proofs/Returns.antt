@@ -174,6 +174,7 @@ module _ (w : Standins) where
               ∙ node_put w form.Return i j (returned f.results vs) (each vs) return_form (fits_put w (returned f.results vs) vs (returned_take f.results vs) (all_ready w vs r.values) all)
               ∙ ap (λ ks. begun w false (made form.Return i j sort.Nothing (each vs) (all_given ks (each vs)))) (sym taking_is);
           frame = back_stands w f g f g st st;
+          calm = tt;
         })
 
   module _ (f g : Frame) (h : Hint) (i j : ℕ) (st : FramesStand w f g) where
@@ -199,4 +200,5 @@ module _ (w : Standins) where
           rule = ap (λ q. assignment_failing q i j (wanted_of g.results) []) st.rights ∙ ap (λ q. assignment_failing (rights_of f) i j (wanted_of q) []) st.results ∙ rules.1;
           node = ap (λ ks. made form.Return i j sort.Nothing [] (all_given ks [])) bare_taking ∙ node_put w form.Return i j (returned f.results []) [] return_form tt;
           frame = back_stands w f g f g st st;
+          calm = tt;
         })

@@ -24,10 +24,11 @@ use Rattle.go_stmts_defs.specs.Rules.{own_faults, taking, all_given}
 use Rattle.go_exprs_variables.specs.Over.{any_varies, varies_over}
 use Rattle.go_exprs_variables.specs.Shapes.{IsShaped}
 use Rattle.go_exprs_variables.specs.Variables.{Standins, with_variables, all_with_variables, Proper, begun, all_begun, Fits, no_rule_fails, ExpressionsTyped}
-use Rattle.go_exprs_variables.proofs.Public.{all_of, begun_by, calls_kept, expression_operand, news, not_wanted, of_all}
+use Rattle.go_exprs_variables.proofs.Public.{all_of, begun_by, calls_kept, expression_operand, is_operand, news, not_wanted, of_all}
 use Rattle.go_stmts_variables.specs.Frames.{FramesStand}
-use Rattle.go_stmts_variables.specs.Statements.{tree_in, found_in, frame_in}
-use Rattle.go_stmts_variables.proofs.Expressions.{asks, Will, IsValuePart, new_operand, operand_reading, value_typed}
+use Rattle.go_stmts_variables.specs.Statements.{tree_in, found_in, frame_in, Tagged}
+use Rattle.go_stmts_variables.proofs.Endings.{Calm}
+use Rattle.go_stmts_variables.proofs.Expressions.{asks, Will, IsValuePart, new_operand, operand_reading, plain_operand, value_typed}
 use Rattle.go_stmts_variables.proofs.Frames.{back_stands, scopes_stand}
 use Rattle.go_stmts_variables.proofs.Nodes.{Reads, Old, old_closed, old_rules, sound_node, node_reads}
 use Rattle.go_stmts_variables.proofs.Truths.{truths}
@@ -98,14 +99,21 @@ module _ (w : Standins) where
   PartsRead f (more p ps) = ((g : Frame) → FramesStand w f g → no_rule_fails (found_in (reading f value p)) ≡ true → Reads w f g value p) × PartsRead (frame_in (reading f value p)) ps
   PartsRead f (skip ps) = PartsRead f ps
 
+  -- the statements of a row are calm
+  abbrev pub CalmRow : Frame → Trees → Type 0
+  CalmRow f none = Unit {0}
+  CalmRow f (more p ps) = (is_statement (kind_of p) ≡ true → Calm w (tree_in (reading f value p))) × CalmRow (frame_in (reading f value p)) ps
+  CalmRow f (skip ps) = CalmRow f ps
+
   pub record AnyRow (f g : Frame) (ps : Trees) : Type 0 where
     pub parts : row_parts g (all_with_variables w ps) ≡ news w (row_parts f ps)
     pub good : no_rule_fails (row_found g (all_with_variables w ps)) ≡ true
     pub frame : FramesStand w (row_behind f ps) (row_behind g (all_with_variables w ps))
+    pub calm : CalmRow f ps
 
   pub parts_read : (f g : Frame) (ps : Trees) → PartsRead f ps → FramesStand w f g → no_rule_fails (row_found f ps) ≡ true → AnyRow f g ps
-  parts_read f g none h st good = record { parts = refl; good = refl; frame = st }
-  parts_read f g (skip ps) h st good = let r = parts_read f g ps h st good in record { parts = ap (λ zs. None ∷ zs) r.parts; good = r.good; frame = r.frame }
+  parts_read f g none h st good = record { parts = refl; good = refl; frame = st; calm = tt }
+  parts_read f g (skip ps) h st good = let r = parts_read f g ps h st good in record { parts = ap (λ zs. None ∷ zs) r.parts; good = r.good; frame = r.frame; calm = r.calm }
   parts_read f g (more p ps) h st good =
       let both = all_of (found_in (reading f value p)) (row_found (frame_in (reading f value p)) ps) good in
       let one = h.0 g st both.0 in
@@ -115,9 +123,13 @@ module _ (w : Standins) where
         parts = ap (λ x. Some x ∷ row_parts (frame_in (reading g value q)) (all_with_variables w ps)) one.tree ∙ ap (λ xs. Some (begun w false (tree_in (reading f value p))) ∷ xs) rest.parts;
         good = of_all (found_in (reading g value q)) (row_found (frame_in (reading g value q)) (all_with_variables w ps)) one.failing rest.good;
         frame = rest.frame;
+        calm = (one.calm, rest.calm);
       }
 
   -- ---- an expression that is read
+
+  never_statement : {X : Type 0} (x : Tree) → is_operand (kind_of x) ≡ true → is_statement (kind_of x) ≡ true → X
+  never_statement (node k i j ps) o e = let never : false ≡ true = sym (plain_operand w k o).statement ∙ e in cc
 
   pub record ReadsValue (f g : Frame) (h : Hint) (x : Tree) : Type 0 where
     pub reads : Reads w f g h x
@@ -135,6 +147,7 @@ module _ (w : Standins) where
           tree = ap tree_in new ∙ r.typed.typed ∙ ap (λ z. begun w false (tree_in z)) (sym old);
           failing = ap (λ z. no_rule_fails (found_in z)) new ∙ r.typed.failing;
           frame = subst (λ z. FramesStand w (frame_in z) (frame_in (reading g h (with_variables w x)))) (sym old) (subst (λ z. FramesStand w f (frame_in z)) (sym new) st);
+          calm = λ e. never_statement x o e;
         };
         value = subst (λ z. IsValuePart w (tree_in z)) (sym old) r.value;
       }
@@ -159,7 +172,7 @@ module _ (w : Standins) where
   -- statements fit, and expressions will, whatever right sides there are
   abbrev pub Awaits : List Role → Parts → Type 0
   Awaits [] [] = Unit {0}
-  Awaits (a_statement ∷ rs) (Some x ∷ xs) = Fits w false x × Awaits rs xs
+  Awaits (a_statement ∷ rs) (Some x ∷ xs) = (Fits w false x × Tagged x) × Awaits rs xs
   Awaits (a_value ∷ rs) (Some x ∷ xs) = ((r : Rights) → Will w r x) × Awaits rs xs
   Awaits (r ∷ rs) (None ∷ xs) = Awaits rs xs
   Awaits rs xs = ⊥
@@ -201,16 +214,20 @@ module _ (w : Standins) where
     pub values : Values rs (row_parts f ps)
 
   pub roles_read : ExpressionsTyped → (rs : List Role) (f g : Frame) (ps : Trees) → AreRoles rs ps → FramesStand w f g → no_rule_fails (row_found f ps) ≡ true → Awaits rs (row_parts f ps) → RolesRead rs f g ps
-  roles_read law [] f g none e st good a = record { row = record { parts = refl; good = refl; frame = st }; values = tt }
+  roles_read law [] f g none e st good a = record { row = record { parts = refl; good = refl; frame = st; calm = tt }; values = tt }
   roles_read law [] f g (more p ps) e st good a = elim e [ ]
   roles_read law [] f g (skip ps) e st good a = elim e [ ]
   roles_read law (a_statement ∷ rs) f g none e st good a = elim e [ ]
   roles_read law (a_value ∷ rs) f g none e st good a = elim e [ ]
-  roles_read law (a_statement ∷ rs) f g (skip ps) e st good a = let r = roles_read law rs f g ps e st good a in record { row = record { parts = ap (λ zs. None ∷ zs) r.row.parts; good = r.row.good; frame = r.row.frame }; values = r.values }
-  roles_read law (a_value ∷ rs) f g (skip ps) e st good a = let r = roles_read law rs f g ps e st good a in record { row = record { parts = ap (λ zs. None ∷ zs) r.row.parts; good = r.row.good; frame = r.row.frame }; values = r.values }
+  roles_read law (a_statement ∷ rs) f g (skip ps) e st good a =
+      let r = roles_read law rs f g ps e st good a in
+      record { row = record { parts = ap (λ zs. None ∷ zs) r.row.parts; good = r.row.good; frame = r.row.frame; calm = r.row.calm }; values = r.values }
+  roles_read law (a_value ∷ rs) f g (skip ps) e st good a =
+      let r = roles_read law rs f g ps e st good a in
+      record { row = record { parts = ap (λ zs. None ∷ zs) r.row.parts; good = r.row.good; frame = r.row.frame; calm = r.row.calm }; values = r.values }
   roles_read law (a_statement ∷ rs) f g (more p ps) e st good a =
       let both = all_of (found_in (reading f value p)) (row_found (frame_in (reading f value p)) ps) good in
-      let one = e.0.reads f g value st both.0 a.0 in
+      let one = e.0.reads f g value st both.0 a.0.0 a.0.1 in
       let q = with_variables w p in
       let rest = roles_read law rs (frame_in (reading f value p)) (frame_in (reading g value q)) ps e.1 one.frame both.1 a.1 in
       record {
@@ -218,6 +235,7 @@ module _ (w : Standins) where
           parts = ap (λ x. Some x ∷ row_parts (frame_in (reading g value q)) (all_with_variables w ps)) one.tree ∙ ap (λ xs. Some (begun w false (tree_in (reading f value p))) ∷ xs) rest.row.parts;
           good = of_all (found_in (reading g value q)) (row_found (frame_in (reading g value q)) (all_with_variables w ps)) one.failing rest.row.good;
           frame = rest.row.frame;
+          calm = (one.calm, rest.row.calm);
         };
         values = rest.values;
       }
@@ -232,13 +250,14 @@ module _ (w : Standins) where
           parts = ap (λ x. Some x ∷ row_parts (frame_in (reading g value q)) (all_with_variables w ps)) one.tree ∙ ap (λ xs. Some (begun w false (tree_in (reading f value p))) ∷ xs) rest.row.parts;
           good = of_all (found_in (reading g value q)) (row_found (frame_in (reading g value q)) (all_with_variables w ps)) one.failing rest.row.good;
           frame = rest.row.frame;
+          calm = (one.calm, rest.row.calm);
         };
         values = (v.value, rest.values);
       }
 
   -- ---- nodes that hold a row
 
-  row_begun : (ys : Parts) → row (news w ys) ≡ all_begun w false (row ys)
+  pub row_begun : (ys : Parts) → row (news w ys) ≡ all_begun w false (row ys)
   row_begun [] = refl
   row_begun (Some x ∷ ys) = ap (sort.more (begun w false x)) (row_begun ys)
   row_begun (None ∷ ys) = ap sort.skip (row_begun ys)
@@ -260,7 +279,7 @@ module _ (w : Standins) where
   varies_more : (x : Part) (qs : Typeds TypeTree) → any_varies (sort.more x qs) ≡ ((label_of x).varies || any_varies qs)
   varies_more (typed f i j l ps) qs = refl
 
-  varies_row : (ys : Parts) → list_any varies_in ys ≡ any_varies (row ys)
+  pub varies_row : (ys : Parts) → list_any varies_in ys ≡ any_varies (row ys)
   varies_row [] = refl
   varies_row (None ∷ ys) = varies_row ys
   varies_row (Some x ∷ ys) = ap (λ b. (label_of x).varies || b) (varies_row ys) ∙ sym (varies_more x (row ys))
@@ -291,6 +310,7 @@ module _ (w : Standins) where
   pub record HeldReads (rs : List Role) (f g : Frame) (h : Hint) (k : Kind) (i j : ℕ) (ps : Trees) : Type 0 where
     pub reads : Reads w f g h (node k i j ps)
     pub values : Values rs (row_parts f ps)
+    pub row : AnyRow f g ps
 
   module _ (f g : Frame) (h : Hint) (k : Kind) (i j : ℕ) (ps : Trees) (is : IsHolder k) where
     holder_old : Old w f h k i j ps
@@ -338,6 +358,8 @@ module _ (w : Standins) where
                 frame = subst (λ z. FramesStand w z (leaving k i new (begun w false (made (form.Held k) i j sort.Nothing ys (all_given (taking S k (form.Held k) ys) ys))) (back g T)))
                     (sym (is.leaves i ps (made (form.Held k) i j sort.Nothing ys (all_given (taking S k (form.Held k) ys) ys)) (back f S)))
                     (subst (λ z. FramesStand w (back f S) z) (sym (is.leaves i new (begun w false (made (form.Held k) i j sort.Nothing ys (all_given (taking S k (form.Held k) ys) ys))) (back g T))) (back_stands w f g S T st r.row.frame));
+                calm = tt;
               });
           values = r.values;
+          row = r.row;
         }

@@ -24,9 +24,10 @@ use Rattle.go_stmts_defs.specs.Rules.{own_faults, built_by}
 use Rattle.go_exprs_variables.specs.Variables.{Standins, ends_at, may_be_constant, node_with, at_hole, put_over, put, all_put, with_variables, all_with_variables, begun, Fits, AllFit, no_rule_fails}
 use Rattle.go_exprs_variables.proofs.Public.{all_new, all_of, each, new_part, news, news_each, of_all}
 use Rattle.go_stmts_variables.specs.Frames.{FramesStand}
-use Rattle.go_stmts_variables.specs.Statements.{tree_in, found_in, frame_in}
+use Rattle.go_stmts_variables.specs.Statements.{tree_in, found_in, frame_in, Tagged, AllTagged}
+use Rattle.go_stmts_variables.proofs.Endings.{AllCalm}
 use Rattle.go_stmts_variables.proofs.Frames.{back_stands}
-use Rattle.go_stmts_variables.proofs.Nodes.{Reads, Old, old_rules, old_fits, node_reads}
+use Rattle.go_stmts_variables.proofs.Nodes.{Reads, Old, old_rules, old_fits, old_tagged, node_reads}
 use Rattle.go_stmts_variables.proofs.Puts.{Put, Puts, IsStatementForm, fitting_put, no_hole, node_put}
 
 pub after_is : (r : Reading) (next : Part → Found → Frame → Readings) → after r next ≡ next (tree_in r) (found_in r) (frame_in r)
@@ -51,6 +52,7 @@ is_stated kind.Assignment = true
 is_stated (kind.OperatorAssignment o) = true
 is_stated kind.Define = true
 is_stated (kind.Declaration d) = true
+is_stated (kind.Specification declaring.Variable) = true
 is_stated k = false
 
 -- a statement, typed
@@ -86,12 +88,13 @@ form_plain (kind.StepStatement s) xs e = refl
 form_plain kind.Assignment xs e = refl
 form_plain (kind.OperatorAssignment o) xs e = refl
 form_plain kind.Define xs e = refl
+form_plain (kind.Specification declaring.Variable) xs e = refl
 form_plain (kind.Declaration declaring.Variable) xs e = refl
 form_plain (kind.Declaration declaring.Constant) xs e = refl
 form_plain (kind.Declaration declaring.Type) xs e = refl
 form_plain k xs e = cc
 
-stated_kind : (k : Kind) → is_stated k ≡ true → is_statement k ≡ true
+pub stated_kind : (k : Kind) → is_stated k ≡ true → is_statement k ≡ true
 stated_kind kind.Return e = refl
 stated_kind kind.Break e = refl
 stated_kind kind.Continue e = refl
@@ -108,6 +111,7 @@ stated_kind kind.Assignment e = refl
 stated_kind (kind.OperatorAssignment o) e = refl
 stated_kind kind.Define e = refl
 stated_kind (kind.Declaration d) e = refl
+stated_kind (kind.Specification d) e = refl
 stated_kind k e = cc
 
 built_stated : (s : Frame) (k : Kind) (f : Form) (i j : ℕ) (ys : Parts) (own : List TypeFault) → is_held f ≡ false → IsStated (built_by s k f i j ys own)
@@ -180,7 +184,12 @@ module _ (w : Standins) where
 
   pub record Stated (p : Tree) : Type 0 where
     pub kind : is_stated (kind_of p) ≡ true
-    pub reads : (f g : Frame) (h : Hint) → FramesStand w f g → no_rule_fails (found_in (reading f h p)) ≡ true → Fits w false (tree_in (reading f h p)) → Reads w f g h p
+    pub reads : (f g : Frame) (h : Hint) → FramesStand w f g → no_rule_fails (found_in (reading f h p)) ≡ true → Fits w false (tree_in (reading f h p)) → Tagged (tree_in (reading f h p)) → Reads w f g h p
+
+  -- a statement whose tags don't matter
+  pub stated_by : (p : Tree) → is_stated (kind_of p) ≡ true
+      → ((f g : Frame) (h : Hint) → FramesStand w f g → no_rule_fails (found_in (reading f h p)) ≡ true → Fits w false (tree_in (reading f h p)) → Reads w f g h p) → Stated p
+  stated_by p k r = record { kind = k; reads = λ f g h st good fits tags. r f g h st good fits }
 
   abbrev pub AllStated : Trees → Type 0
   AllStated none = Unit {0}
@@ -210,7 +219,7 @@ module _ (w : Standins) where
       by false m = e
       by true m = cc
 
-  new_stated_kind : (p : Tree) → is_stated (kind_of p) ≡ true → is_stated (kind_of (with_variables w p)) ≡ true
+  pub new_stated_kind : (p : Tree) → is_stated (kind_of p) ≡ true → is_stated (kind_of (with_variables w p)) ≡ true
   new_stated_kind (node k i j ps) e = new_kind k i j ps e
 
   pub new_stated : (ps : Trees) → AreStated ps → AreStated (all_with_variables w ps)
@@ -222,19 +231,22 @@ module _ (w : Standins) where
     pub trees : statements_of g (all_with_variables w ps) ≡ all_new w (statements_of f ps)
     pub good : no_rule_fails (statement_faults g (all_with_variables w ps)) ≡ true
     pub frame : FramesStand w (frame_behind f ps) (frame_behind g (all_with_variables w ps))
+    pub calm : AllCalm w (row (each (statements_of f ps)))
 
-  pub statements_read : (f g : Frame) (ps : Trees) → AllStated ps → FramesStand w f g → no_rule_fails (statement_faults f ps) ≡ true → AllFit w false (row (each (statements_of f ps))) → RowReads f g ps
-  statements_read f g none s st good fits = record { trees = refl; good = refl; frame = st }
-  statements_read f g (skip ps) s st good fits = elim s [ ]
-  statements_read f g (more p ps) s st good fits =
+  pub statements_read : (f g : Frame) (ps : Trees) → AllStated ps → FramesStand w f g → no_rule_fails (statement_faults f ps) ≡ true → AllFit w false (row (each (statements_of f ps)))
+      → AllTagged (row (each (statements_of f ps))) → RowReads f g ps
+  statements_read f g none s st good fits tags = record { trees = refl; good = refl; frame = st; calm = tt }
+  statements_read f g (skip ps) s st good fits tags = elim s [ ]
+  statements_read f g (more p ps) s st good fits tags =
       let both = all_of (found_in (reading f value p)) (statement_faults (frame_in (reading f value p)) ps) good in
-      let one = s.0.reads f g value st both.0 fits.0 in
+      let one = s.0.reads f g value st both.0 fits.0 tags.0 in
       let q = with_variables w p in
-      let rest = statements_read (frame_in (reading f value p)) (frame_in (reading g value q)) ps s.1 one.frame both.1 fits.1 in
+      let rest = statements_read (frame_in (reading f value p)) (frame_in (reading g value q)) ps s.1 one.frame both.1 fits.1 tags.1 in
       record {
         trees = ap (λ x. x ∷ statements_of (frame_in (reading g value q)) (all_with_variables w ps)) one.tree ∙ ap (λ xs. begun w false (tree_in (reading f value p)) ∷ xs) rest.trees;
         good = of_all (found_in (reading g value q)) (statement_faults (frame_in (reading g value q)) (all_with_variables w ps)) one.failing rest.good;
         frame = rest.frame;
+        calm = (one.calm (stated_kind (kind_of p) s.0.kind), rest.calm);
       }
 
   pub statements_put : (f : Frame) (ps : Trees) → AreStated ps → AllFit w false (row (each (statements_of f ps))) → Puts w [] (each (statements_of f ps))
@@ -270,12 +282,13 @@ module _ (w : Standins) where
       form_is = refl;
     }
 
-    pub block_reads : no_rule_fails (found_in (reading f h (node kind.Block i j ps))) ≡ true → Fits w false (tree_in (reading f h (node kind.Block i j ps))) → Reads w f g h (node kind.Block i j ps)
+    pub block_reads : no_rule_fails (found_in (reading f h (node kind.Block i j ps))) ≡ true → Fits w false (tree_in (reading f h (node kind.Block i j ps))) → Tagged (tree_in (reading f h (node kind.Block i j ps)))
+        → Reads w f g h (node kind.Block i j ps)
     unfolding block_old
-    block_reads good fits =
+    block_reads good fits tags =
         let own = old_rules w f h kind.Block i j ps refl block_old good in
         let all = old_fits w f h kind.Block i j ps refl block_old own.1 fits in
-        let r = statements_read f g ps s st own.0 all in
+        let r = statements_read f g ps s st own.0 all (old_tagged w f h kind.Block i j ps refl block_old own.1 tags).1 in
         node_reads w f g h kind.Block i j ps block_old refl refl own.1
         (record {
           parts = each (statements_of g new);
@@ -288,6 +301,7 @@ module _ (w : Standins) where
           rule = nothing_wrong (is_judged (news w (each (statements_of f ps))));
           node = node_put w form.Block i j [] (each (statements_of f ps)) block_form (statements_put f ps (are_stated ps s) all);
           frame = back_stands w f g (frame_behind f ps) (frame_behind g new) st r.frame;
+          calm = r.calm;
         })
 
     default_old : Old w f h kind.Default i j ps
@@ -302,12 +316,13 @@ module _ (w : Standins) where
       form_is = refl;
     }
 
-    pub default_reads : no_rule_fails (found_in (reading f h (node kind.Default i j ps))) ≡ true → Fits w false (tree_in (reading f h (node kind.Default i j ps))) → Reads w f g h (node kind.Default i j ps)
+    pub default_reads : no_rule_fails (found_in (reading f h (node kind.Default i j ps))) ≡ true → Fits w false (tree_in (reading f h (node kind.Default i j ps))) → Tagged (tree_in (reading f h (node kind.Default i j ps)))
+        → Reads w f g h (node kind.Default i j ps)
     unfolding default_old
-    default_reads good fits =
+    default_reads good fits tags =
         let own = old_rules w f h kind.Default i j ps refl default_old good in
         let all = old_fits w f h kind.Default i j ps refl default_old own.1 fits in
-        let r = statements_read f g ps s st own.0 all in
+        let r = statements_read f g ps s st own.0 all (old_tagged w f h kind.Default i j ps refl default_old own.1 tags).1 in
         node_reads w f g h kind.Default i j ps default_old refl refl own.1
         (record {
           parts = each (statements_of g new);
@@ -320,6 +335,7 @@ module _ (w : Standins) where
           rule = nothing_wrong (is_judged (news w (each (statements_of f ps))));
           node = node_put w form.Default i j [] (each (statements_of f ps)) default_form (statements_put f ps (are_stated ps s) all);
           frame = back_stands w f g (frame_behind f ps) (frame_behind g new) st r.frame;
+          calm = r.calm;
         })
 
   -- ---- branches without parts
@@ -337,14 +353,14 @@ module _ (w : Standins) where
     pub break_reads : Reads w f g h (node kind.Break i j none)
     break_reads =
         node_reads w f g h kind.Break i j none (record { parts = []; found = []; behind = f; form = form.Break; laid = []; is = refl; laid_is = refl; form_is = refl }) refl refl refl
-        (record { parts = []; found = []; behind = g; is = refl; laid_is = refl; form_is = refl; good = refl; rule = refl; node = node_put w form.Break i j [] [] break_form tt; frame = back_stands w f g f g st st })
+        (record { parts = []; found = []; behind = g; is = refl; laid_is = refl; form_is = refl; good = refl; rule = refl; node = node_put w form.Break i j [] [] break_form tt; frame = back_stands w f g f g st st; calm = tt })
 
     pub continue_reads : Reads w f g h (node kind.Continue i j none)
     continue_reads =
         node_reads w f g h kind.Continue i j none (record { parts = []; found = []; behind = f; form = form.Continue; laid = []; is = refl; laid_is = refl; form_is = refl }) refl refl refl
-        (record { parts = []; found = []; behind = g; is = refl; laid_is = refl; form_is = refl; good = refl; rule = refl; node = node_put w form.Continue i j [] [] continue_form tt; frame = back_stands w f g f g st st })
+        (record { parts = []; found = []; behind = g; is = refl; laid_is = refl; form_is = refl; good = refl; rule = refl; node = node_put w form.Continue i j [] [] continue_form tt; frame = back_stands w f g f g st st; calm = tt })
 
     pub fallthrough_reads : Reads w f g h (node kind.Fallthrough i j none)
     fallthrough_reads =
         node_reads w f g h kind.Fallthrough i j none (record { parts = []; found = []; behind = f; form = form.Fallthrough; laid = []; is = refl; laid_is = refl; form_is = refl }) refl refl refl
-        (record { parts = []; found = []; behind = g; is = refl; laid_is = refl; form_is = refl; good = refl; rule = refl; node = node_put w form.Fallthrough i j [] [] fallthrough_form tt; frame = back_stands w f g f g st st })
+        (record { parts = []; found = []; behind = g; is = refl; laid_is = refl; form_is = refl; good = refl; rule = refl; node = node_put w form.Fallthrough i j [] [] fallthrough_form tt; frame = back_stands w f g f g st st; calm = tt })

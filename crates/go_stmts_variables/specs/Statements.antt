@@ -1,5 +1,5 @@
 -- Statements in which variables stand in place of constants, and how they are read.
-use Rattle.std.specs.Prelude.{◌≡◌, ℕ, Bool, true, false, ◌&&◌, not, None}
+use Rattle.std.specs.Prelude.{◌≡◌, ℕ, Bool, true, false, ◌&&◌, not, None, is_some}
 use Rattle.go_grammar.specs.declared.kind.Category.TheVariants as category
 use Rattle.go_grammar.specs.declared.kind.Kind.{Kind}
 use Rattle.go_grammar.specs.declared.kind.Kind.TheVariants as kind
@@ -7,9 +7,17 @@ use Rattle.go_grammar.specs.declared.kind.Sort.TheVariants as declaring
 use Rattle.go_grammar.specs.Categories.{is_type}
 use Rattle.go_grammar.specs.Trees.{Tree, node, Trees, none, more, skip, kind_of}
 use Rattle.go_exprs_rules.specs.Scopes.{Hint}
+use Rattle.go_types.specs.Trees.{TypeTree}
+use Rattle.go_typed.specs.declared.form.Form.{Form}
+use Rattle.go_typed.specs.declared.form.Form.TheVariants as form
+use Rattle.go_typed.specs.Trees.{typed, Typeds, sort_of}
+use Rattle.go_typed.specs.Trees as sort
 use Rattle.go_exprs_rules.specs.Settling.{Part}
+use Rattle.go_exprs_rules.specs.Sorts.{own_type}
+use Rattle.go_stmts_defs.specs.Ending.{terminates}
 use Rattle.go_stmts_defs.specs.Frames.{Frame}
 use Rattle.go_stmts_defs.specs.Reading.{Found, Reading, read, reading}
+use Rattle.go_stmts_defs.specs.Rules.{function_failing}
 use Rattle.go_exprs_variables.specs.Shapes.{IsShaped}
 use Rattle.go_exprs_variables.specs.Variables.{Standins, with_variables, Free, AllFree, FirstFree, Proper, put, Fits, no_rule_fails}
 use Rattle.go_stmts_variables.specs.Frames.{FramesStand}
@@ -28,7 +36,7 @@ frame_in (read x fs s) = s
 -- ---- names, types and constants that are declared
 
 abbrev pub declares_type : Kind → Bool
-declares_type (kind.Declaration declaring.Type) = true
+declares_type (kind.Specification declaring.Type) = true
 declares_type k = false
 
 abbrev mutual
@@ -50,8 +58,25 @@ abbrev pub SecondFree : Standins → Trees → Type 0
 SecondFree w (more ns (more r ps)) = FreeType (is_type (kind_of r)) w r
 SecondFree w ps = Unit {0}
 
+-- no range clause
+abbrev pub is_clause : Kind → Bool
+is_clause kind.Range = false
+is_clause kind.AssigningRange = false
+is_clause kind.DefiningRange = false
+is_clause k = true
+
+-- whether a loop goes over a value
+abbrev pub goes_over : Trees → Bool
+goes_over (more hd ps) = not (is_clause (kind_of hd))
+goes_over ps = false
+
+abbrev pub TypelessIf : Bool → Trees → Type 0
+TypelessIf true ps = are_typeless ps ≡ true
+TypelessIf false ps = Unit {0}
+
 -- Names that are declared and types are none in place of which a variable stands; nor does one stand in a declaration of constants or
--- types. The clauses of a switch and the body of a loop declare no types.
+-- types. The clauses of a switch, and loops that go over a value, declare no types: their values are read with the right sides that are
+-- known in front of their statements, and judged with those behind.
 abbrev pub Declared : Standins → Kind → ℕ → Trees → Type 0
 Declared w kind.DeclaredName i ps = w i ≡ None
 Declared w kind.NewNames i ps = AllFree w ps
@@ -61,7 +86,7 @@ Declared w (kind.Specification declaring.Type) i ps = w i ≡ None
 Declared w (kind.Declaration declaring.Constant) i ps = AllFree w ps
 Declared w (kind.Declaration declaring.Type) i ps = AllFree w ps
 Declared w kind.Case i ps = are_typeless ps ≡ true
-Declared w kind.For i ps = are_typeless ps ≡ true
+Declared w kind.For i ps = TypelessIf (goes_over ps) ps
 Declared w k i ps = Unit {0}
 
 abbrev mutual
@@ -73,61 +98,49 @@ abbrev mutual
   AllDeclare w (more p ps) = Declares w p × AllDeclare w ps
   AllDeclare w (skip ps) = AllDeclare w ps
 
--- ---- the statements of which the law is stated
+-- ---- tags
 
--- no range clause
-abbrev pub is_clause : Kind → Bool
-is_clause kind.Range = false
-is_clause kind.AssigningRange = false
-is_clause kind.DefiningRange = false
-is_clause k = true
+-- a second part, if it is there, stands for a value of a type
+abbrev pub SecondTyped : Typeds TypeTree → Type 0
+SecondTyped (sort.more a (sort.more x ps)) = is_some (own_type (sort_of x)) ≡ true
+SecondTyped (sort.skip (sort.more x ps)) = is_some (own_type (sort_of x)) ≡ true
+SecondTyped ps = Unit {0}
+
+abbrev pub TagAt : Form → Typeds TypeTree → Type 0
+TagAt form.Switch ps = SecondTyped ps
+TagAt f ps = Unit {0}
 
 abbrev mutual
-  -- Returns, branches, blocks, `if`, and loops that go over nothing, which hold such statements alone.
-  pub is_covered : Tree → Bool
-  is_covered (node kind.Return i j ps) = true
-  is_covered (node kind.Break i j ps) = true
-  is_covered (node kind.Continue i j ps) = true
-  is_covered (node kind.Fallthrough i j ps) = true
-  is_covered (node kind.Block i j ps) = are_covered ps
-  is_covered (node kind.If i j (more hd (more b es))) = header_covered hd && (is_covered b && else_covered es)
-  is_covered (node kind.For i j (skip (more b ps))) = is_covered b
-  is_covered (node kind.For i j (more hd (more b ps))) = is_clause (kind_of hd) && (header_covered hd && is_covered b)
-  is_covered (node k i j ps) = false
+  -- The tag of each switch in it has a type. Without one the values of its cases aren't judged, so constants in them may be out of range.
+  pub Tagged : Part → Type 0
+  Tagged (typed f i j l ps) = TagAt f ps × AllTagged ps
 
-  pub are_covered : Trees → Bool
-  are_covered none = true
-  are_covered (more p ps) = is_covered p && are_covered ps
-  are_covered (skip ps) = are_covered ps
-
-  pub header_covered : Tree → Bool
-  header_covered (node kind.InitializedCondition i j (more x ps)) = is_covered x
-  header_covered (node kind.InitializedForClause i j (more x ps)) = is_covered x && clause_covered ps
-  header_covered (node kind.ForClause i j ps) = clause_covered ps
-  header_covered x = true
-
-  pub clause_covered : Trees → Bool
-  clause_covered none = true
-  clause_covered (more x ps) = post_covered ps
-  clause_covered (skip ps) = post_covered ps
-
-  pub post_covered : Trees → Bool
-  post_covered (more x ps) = is_covered x
-  post_covered ps = true
-
-  pub else_covered : Trees → Bool
-  else_covered (more (node k i j (more b ps)) es) = is_covered b
-  else_covered es = true
+  pub AllTagged : Typeds TypeTree → Type 0
+  AllTagged sort.none = Unit {0}
+  AllTagged (sort.more p ps) = Tagged p × AllTagged ps
+  AllTagged (sort.skip ps) = AllTagged ps
 
 -- ---- the law on statements
 
--- With variables in place of constants the statement is read the same, with the variables in place of the holes; no rule fails; and what is
--- known behind it is the same.
+-- With variables in place of constants the statement is read the same, with the variables in place of the holes; no rule fails; it
+-- terminates where it did; and what is known behind it is the same.
 pub record IsReadWithVariables (w : Standins) (s t : Frame) (h : Hint) (x : Tree) : Type 0 where
   pub tree : tree_in (reading t h (with_variables w x)) ≡ put w false (tree_in (reading s h x))
   pub failing : no_rule_fails (found_in (reading t h (with_variables w x))) ≡ true
+  pub terminating : terminates (tree_in (reading t h (with_variables w x))) ≡ terminates (tree_in (reading s h x))
   pub frame : FramesStand w (frame_in (reading s h x)) (frame_in (reading t h (with_variables w x)))
 
 abbrev pub StatementsRead : Type 0
-StatementsRead = (w : Standins) (s t : Frame) (h : Hint) (x : Tree) → IsShaped category.Statement x → is_covered x ≡ true → FramesStand w s t → Proper w x → Declares w x
-    → no_rule_fails (found_in (reading s h x)) ≡ true → Fits w false (tree_in (reading s h x)) → IsReadWithVariables w s t h x
+StatementsRead = (w : Standins) (s t : Frame) (h : Hint) (x : Tree) → IsShaped category.Statement x → FramesStand w s t → Proper w x → Declares w x
+    → no_rule_fails (found_in (reading s h x)) ≡ true → Fits w false (tree_in (reading s h x)) → Tagged (tree_in (reading s h x)) → IsReadWithVariables w s t h x
+
+-- ---- the law on bodies
+
+-- So is a body in a function with the same results, in which the return that is missing, if one is, was missing before.
+pub record IsBodyReadWithVariables (w : Standins) (s t : Frame) (h : Hint) (x : Tree) : Type 0 where
+  pub body : IsReadWithVariables w s t h x
+  pub missing : (j : ℕ) → function_failing t.results j (tree_in (reading t h (with_variables w x))) ≡ function_failing s.results j (tree_in (reading s h x))
+
+abbrev pub BodiesRead : Type 0
+BodiesRead = (w : Standins) (s t : Frame) (h : Hint) (x : Tree) → IsShaped category.Block x → FramesStand w s t → Proper w x → Declares w x
+    → no_rule_fails (found_in (reading s h x)) ≡ true → Fits w false (tree_in (reading s h x)) → Tagged (tree_in (reading s h x)) → IsBodyReadWithVariables w s t h x

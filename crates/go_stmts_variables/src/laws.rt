@@ -1,7 +1,10 @@
 //! Laws of variables in place of constants in statements, for the crates above. The functions do nothing: their contracts are the laws.
 
+ghost use Rattle.go_stmts_variables.specs.Asked.{AskedIsMet};
 ghost use Rattle.go_stmts_variables.specs.Rules.{ConditionKept, TagKept, CaseKept, ValuesKept, RangeKept};
-ghost use Rattle.go_stmts_variables.specs.Statements.{StatementsRead};
+ghost use Rattle.go_stmts_variables.specs.Statements.{StatementsRead, BodiesRead};
+ghost use Rattle.go_stmts_variables.specs.Untyped.{TagsNeedTypes};
+ghost use Rattle.go_stmts_variables.specs.WorkedFunctions.{WorkedFunctions};
 
 /// A condition is a truth value still.
 pub fn conditions()
@@ -28,7 +31,28 @@ pub fn range_clauses()
     ensures { RangeKept }
 {}
 
-/// The law on statements: with variables in place of holes a statement that is covered is read the same, with that change alone, and no rule fails.
+/// The law on statements: with variables in place of holes a statement is read the same, with that change alone, no rule fails, and it
+/// terminates where it did.
 pub fn statements_are_read()
     ensures { StatementsRead }
+{}
+
+/// So it is of the body of a function, which ends in a terminating statement where it did.
+pub fn bodies_are_read()
+    ensures { BodiesRead }
+{}
+
+/// All that the law on bodies asks holds of a body with a switch, which so is read with a variable in place of the value of its case.
+pub fn asked_is_met()
+    ensures { AskedIsMet }
+{}
+
+/// The law asks that tags have types: where one has none, a rule may fail with a variable that failed with none.
+pub fn tags_need_types()
+    ensures { TagsNeedTypes }
+{}
+
+/// Worked functions, lexed and parsed.
+pub fn worked_functions()
+    ensures { WorkedFunctions }
 {}
