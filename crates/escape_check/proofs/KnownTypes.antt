@@ -1,7 +1,7 @@
 -- The types of locals, and of what is handed over, are types of the package's table.
-use Rattle.std.proofs.Common.{◌≡◌, ◌∙◌, ℕ, zero, suc, ◌+◌, ◌<◌, Bool, true, false, List, [], ◌∷◌, ◌++◌, length, map, take, drop, Option, Some, None, slice_get, refl, sym, ap, subst}
+use Rattle.std.proofs.Common.{◌≡◌, ◌∙◌, ℕ, zero, suc, ◌+◌, ◌<◌, Bool, true, false, List, [], ◌∷◌, ◌++◌, length, map, take, drop, Some, slice_get, refl, sym, ap, subst}
 use Rattle.std.proofs.lemmas.Bool.{and_parts, ltb-true}
-use Rattle.std.specs.Prelude.{◌&&◌, ◌||◌, nat_lt, if◌then◌else◌}
+use Rattle.std.specs.Prelude.{◌&&◌, nat_lt, if◌then◌else◌}
 use Rattle.std.specs.List.{AllByRecursion, list_all}
 use Rattle.go_typed.specs.declared.window.Window.{Window}
 use Rattle.go_typed.specs.Forms.{is_statement_list, values_count}
@@ -20,7 +20,7 @@ use Rattle.param_choose.specs.Members.{Member, member_over, uses_within}
 use Rattle.param_choose.specs.Shown.{array_in}
 use Rattle.escape_check.specs.declared.member.Member.{Member as Found}
 use Rattle.escape_check.specs.Shown.{IsSound, member_view}
-use Rattle.escape_check.specs.Types.{hole_types, local_types, parameter_types, result_types, variable_types}
+use Rattle.escape_check.specs.Types.{hole_types, local_types, variable_types}
 use Rattle.escape_check.specs.Written.{AreKnownTypes, handed_types}
 
 -- the numbers are below n

@@ -11,5 +11,6 @@ pub mod Tokens
 pub mod Texts
 pub mod Written
 pub mod Called
+pub mod Keeping
 pub mod Examples
 pub mod Collecting

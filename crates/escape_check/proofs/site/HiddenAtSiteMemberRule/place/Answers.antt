@@ -1,4 +1,4 @@
-use Rattle.std.proofs.Common.{◌≡◌, ◌∙◌, ◌++◌, ℕ, Bool, List, Some, None, filter, map, sym, ap, subst}
+use Rattle.std.proofs.Common.{◌∙◌, ◌++◌, ℕ, List, Some, filter, map, sym, ap, subst}
 use Rattle.std.specs.List.{list_any}
 use Rattle.go_types.specs.Tables.{type_of}
 use Rattle.param_choose.specs.Members.{occurs_later}
