@@ -262,3 +262,13 @@ choice_known p i w f e ms =
 pub handed_known : (p : PackageView) → IsPackage p → (w : Window) (f : FuncView) → slice_get p.functions w.func ≡ Some f → (ms : List (Member ℕ)) (h : Handed ℕ) →
     h ≡ handed (choice (array_in p.types) ms (member_over p.uses w f.locals f.tokens (tree_of f))) → AreKnownTypes p h
 handed_known p i w f e ms h same = subst (AreKnownTypes p) (sym same) (choice_known p i w f e ms)
+
+-- the types of the results that a template declares
+behind : {A : Type 0} (P : A → Type 0) (xs ys : List A) → AllByRecursion P (xs ++ ys) → AllByRecursion P ys
+behind P [] ys h = h
+behind P (x ∷ xs) ys h = behind P xs ys h.1
+
+pub declared_known : (p : PackageView) (h : Handed ℕ) → AreKnownTypes p h → AllByRecursion (λ t. t < length p.types.shapes) (variable_types h.declared)
+declared_known p h known =
+    let P : ℕ → Type 0 = λ t. t < length p.types.shapes in
+    behind P (variable_types h.assigned) (variable_types h.declared) (behind P (variable_types h.free ++ map (λ x. x.type) h.holes) (variable_types h.assigned ++ variable_types h.declared) known)

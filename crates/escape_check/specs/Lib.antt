@@ -7,6 +7,7 @@ pub mod Lookups
 pub mod Types
 pub mod Refusals
 pub mod Shown
+pub mod Sites
 pub mod Tokens
 pub mod Texts
 pub mod Written
