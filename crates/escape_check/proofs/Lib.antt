@@ -22,6 +22,7 @@ pub mod Parts
 pub mod Public
 pub mod Refusing
 pub mod Shadowing
+pub mod Sharing
 pub mod Sparing
 pub mod Staying
 pub mod Steps

@@ -1,8 +1,8 @@
 -- Ends that stay wherever a call takes the place of a window that leaves some tokens.
 use Rattle.std.proofs.Common.{◌≡◌, ◌∙◌, ℕ, ◌-◌, drop, take, zero, suc, ◌+◌, ◌<◌, ◌≤◌, Bool, true, false, List, [], ◌∷◌, ◌++◌, length, map, get_or, Option, Some, None, slice_get, refl, sym, ap, subst, arith, inl, inr}
 use Rattle.std.proofs.lemmas.List.{drop_all, take_all}
-use Rattle.std.proofs.lemmas.Bool.{and_parts, both_ways, cases_lt, eq-eqb, le-ltb, ne_eqb}
-use Rattle.std.specs.Prelude.{◌&&◌, ◌||◌, not, nat_eq, nat_le, nat_lt, if◌then◌else◌, IfOk, OnOk, Result, Ok, Err}
+use Rattle.std.proofs.lemmas.Bool.{both_ways, cases_lt}
+use Rattle.std.specs.Prelude.{◌&&◌, ◌||◌, not, nat_eq, nat_lt, if◌then◌else◌, IfOk, OnOk, Result, Ok, Err}
 use Rattle.std.specs.HashSet.{HashSet}
 use Rattle.std.specs.HashSet as set
 use Rattle.std.specs.List.{AllByRecursion, list_all, list_any}
@@ -14,13 +14,13 @@ use Rattle.go_typed.specs.declared.form.Form.TheVariants as form
 use Rattle.go_typed.specs.declared.node.TypedNode.{TypedNode}
 use Rattle.go_typed.specs.declared.node.TypedNode.TheViews.{out-TypedNode}
 use Rattle.go_typed.specs.Funcs.{FuncView}
-use Rattle.go_typed.specs.Trees.{Typed, typed, Typeds, none, more, skip, first_of, form_of, sort_of, parts_of, list_of}
+use Rattle.go_typed.specs.Trees.{Typed, typed, more, first_of, form_of, sort_of, parts_of, list_of}
 use Rattle.go_typed.specs.Views.{seen, view}
 use Rattle.go_exprs_rules.specs.Tables.{on_one}
 use Rattle.go_stmts_defs.specs.Targets.{is_panic, is_panic_call}
 use Rattle.go_stmts_defs.specs.Ending.{breaks, is_default_clause, is_fallthrough, is_fallthrough_part, last_falls, lets_break, part_breaks, terminates}
 use Rattle.go_stmts_parts.specs.Rows.{all_clauses_end, both_branches, last_ends, part_ends}
-use Rattle.go_exprs_rules.proofs.Public.{drop_step, seen_out}
+use Rattle.go_exprs_rules.proofs.Public.{drop_step}
 use Rattle.escape_check.specs.declared.ends.Gap.{Gap as Found}
 use Rattle.escape_check.specs.Called.{all_called, called, ends_over, last_or, staying}
 use Rattle.escape_check.specs.Keeping.{Extends, KeepEnds, Keeps, KeepsEnd, LeavesOut, Spares, begins_by}

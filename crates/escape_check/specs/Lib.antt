@@ -9,6 +9,7 @@ pub mod Refusals
 pub mod Shown
 pub mod Sites
 pub mod Tokens
+pub mod Apart
 pub mod Texts
 pub mod Written
 pub mod Called

@@ -1,4 +1,4 @@
-use Rattle.std.proofs.Common.{◌≡◌, ◌∙◌, ◌-◌, length, map, take, drop, refl, sym, ap, arith, inl, inr}
+use Rattle.std.proofs.Common.{◌∙◌, ◌-◌, length, map, take, drop, refl, sym, ap, arith, inl, inr}
 use Rattle.std.specs.Prelude.{◌||◌}
 use Rattle.std.specs.List.{list_all}
 use Rattle.std.specs.Option.{option_map}

@@ -1,7 +1,6 @@
-use Rattle.std.proofs.Common.{◌≡◌, ◌∙◌, Some, map, sym, ap, subst, arith, true, false, List, Option, refl, inl, inr}
+use Rattle.std.proofs.Common.{◌≡◌, ◌∙◌, sym, ap, subst, arith, true, false, refl, inl, inr}
 use Rattle.std.specs.Option.{option_map}
-use Rattle.go_types.specs.Trees.{TypeTree}
-use Rattle.go_typed.specs.Trees.{Typed, form_of}
+use Rattle.go_typed.specs.Trees.{form_of}
 use Rattle.go_typed.specs.Views.{seen}
 use Rattle.go_typed.specs.declared.form.Form.{Form}
 use Rattle.go_typed.specs.declared.form.Form.TheVariants as form

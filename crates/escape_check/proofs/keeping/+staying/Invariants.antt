@@ -1,10 +1,7 @@
-use Rattle.std.proofs.Common.{◌≡◌, ◌*◌, ◌+◌, false, drop, map, true}
-use Rattle.std.specs.List.{AllByRecursion}
+use Rattle.std.proofs.Common.{◌*◌, ◌+◌, drop, map}
 use Rattle.std.specs.Option.{option_map}
 use Rattle.go_typed.specs.Funcs.{size, sizes}
 use Rattle.go_typed.specs.Views.{seen, view, views}
-use Rattle.go_stmts_defs.specs.Ending.{part_breaks}
-use Rattle.escape_check.specs.Called.{called}
 use Rattle.escape_check.specs.declared.ends.Gap.{Gap as Found}
 use Rattle.escape_check.proofs.Sparing.{NoneBreaks}
 use Rattle.escape_check.proofs.keeping.+staying.Given as goal

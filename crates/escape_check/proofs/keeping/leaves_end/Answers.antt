@@ -1,5 +1,4 @@
-use Rattle.std.proofs.Common.{◌≡◌, ◌∙◌, Option, Some, slice_get, ap}
-use Rattle.std.specs.Borrow.{Bor}
+use Rattle.std.proofs.Common.{◌≡◌, ◌∙◌, Some, slice_get, ap}
 use Rattle.std.specs.Option.{option_map}
 use Rattle.escape_check.proofs.Sparing.{kept_at}
 use Rattle.escape_check.proofs.keeping.leaves_end.Goals as goal
