@@ -1,10 +1,18 @@
 -- What is refused for what names mean at sites, for what is no longer used and for types, from what the program finds.
 use Rattle.std.proofs.Common.{◌≡◌, ◌∙◌, ℕ, suc, ◌+◌, ◌<◌, ◌≤◌, Bool, true, false, cond, nat_eq, List, [], ◌∷◌, ◌++◌, filter, map, length, drop, get_or, Option, Some, None, slice_get, Result, Ok, Err, refl, sym, ap, subst, arith}
-use Rattle.std.proofs.lemmas.List.{append_assoc, drop_all, drop_more, length-map}
+use Rattle.std.proofs.lemmas.List.{drop_all, drop_more, length-map}
 use Rattle.std.proofs.lemmas.List.Folds.{list_any-append}
 use Rattle.std.proofs.lemmas.Option.{slice_get-map}
-use Rattle.std.specs.Prelude.{◌&&◌, ◌||◌, not, IfOk}
-use Rattle.std.specs.Borrow.{Bor}
+use Rattle.std.specs.Prelude.{◌&&◌, ◌||◌, not, if◌then◌else◌, IfOk, IfSome}
+use Rattle.std.specs.HashMap.{HashMap, get}
+use Rattle.std.specs.HashSet.{HashSet}
+use Rattle.std.specs.HashSet as set
+use Rattle.std.specs.declared.vec.Vec.{Vec}
+use Rattle.std.proofs.lemmas.Bool.{eqb-true}
+use Rattle.go_print.specs.Literals.{boolean_text}
+use Rattle.escape_check.specs.declared.site.Truths.{Truths}
+use Rattle.escape_check.specs.Collecting.{KnowsTypes, names_of_type, names_of_types}
+use Rattle.escape_check.specs.Sites.{is_value, truth_named, truths_named}
 use Rattle.std.specs.Cmp.Lexicographic.{pointwise}
 use Rattle.std.specs.List.{list_any}
 use Rattle.std.specs.Option.{option_map}
@@ -31,7 +39,7 @@ use Rattle.escape_check.specs.Lookups.{imports, is_left_unused, keeps_import, le
 use Rattle.escape_check.specs.Names.{declaring_places}
 use Rattle.escape_check.specs.Places.{Place, Refused, Sources, each_refused, file_of, first_of, first_refused, local_text, or_refused, place_if, refused_at, refused_from, sources_in, template_refused, window_place}
 use Rattle.escape_check.specs.Shown.{member_view, results_in}
-use Rattle.escape_check.specs.Types.{TypeName, hidden_at_site, hole_numbers, hole_types, is_hidden, is_spelled, local_types, meant_there, means_type, names_of_all, needed_truths, parameter_types, result_types, truth_at, variable_types, written_names}
+use Rattle.escape_check.specs.Types.{TypeName, hidden_at_site, hole_numbers, hole_types, is_hidden, is_spelled, local_types, meant_there, means_type, names_of_all, needed_truths, parameter_types, result_types, truth_at, universal, variable_types, written_names}
 use Rattle.escape_check.specs.Written.{handed_types, hidden_by, later_in, type_name_view, written_at}
 
 -- ---- texts
@@ -67,20 +75,77 @@ text_more text ns i n d v w before now l e t a h =
 pub truth_there : (hs : List FoundHole) (m : Member ℕ) (n : ℕ) → holes_view hs ≡ holes m → truth_at (option_map hole_view (slice_get hs n)) ≡ truth_at (slice_get (holes m) n)
 truth_there hs m n e = ap truth_at (sym (slice_get-map hole_view hs n) ∙ ap (λ gs. slice_get gs n) e)
 
-pub truth_more : (hs : List FoundHole) (m : Member ℕ) (ns : List ℕ) (i n d : ℕ) (before now whole : List TypeName) → i < length ns → n ≡ get_or ns i d → holes_view hs ≡ holes m →
-    now ≡ before ++ truth_at (option_map hole_view (slice_get hs n)) → before ++ needed_truths (drop i ns) m ≡ whole → now ++ needed_truths (drop (i + 1) ns) m ≡ whole
-truth_more hs m ns i n d before now whole l e v a h =
-    let rest = needed_truths (drop (i + 1) ns) m in
-    ap (λ xs. xs ++ rest) (a ∙ ap (λ xs. before ++ xs) (truth_there hs m n v))
-    ∙ append_assoc before (truth_at (slice_get (holes m) n)) rest
-    ∙ ap (λ ks. before ++ needed_truths ks m) (sym (drop_more ns i d l ∙ ap (λ k. k ∷ drop (i + 1) ns) (sym e)))
-    ∙ h
+or-false : (b : Bool) → (b || false) ≡ b
+or-false true = refl
+or-false false = refl
 
--- names that were found, with truth values behind them
-pub needed_told : (test : TypeName → Bool) (old new truths written : List TypeName) → new ≡ old ++ truths → list_any test old ≡ list_any test written →
-    list_any test new ≡ list_any test (written ++ truths)
-needed_told test old new truths written e f =
-    ap (list_any test) e ∙ list_any-append test old truths ∙ ap (λ b. b || list_any test truths) f ∙ sym (list_any-append test written truths)
+or-group : (a b c : Bool) → ((a || b) || c) ≡ (a || (b || c))
+or-group true b c = refl
+or-group false b c = refl
+
+mixed : (a b c d y n : Bool) → (((a || c) && y) || ((b || d) && n)) ≡ (((a && y) || (b && n)) || ((c && y) || (d && n)))
+mixed false false c d y n = refl
+mixed true b c d true n = refl
+mixed true false true d false n = refl
+mixed true false false d false n = refl
+mixed true true true d false true = refl
+mixed true true false d false true = refl
+mixed true true true true false false = refl
+mixed true true true false false false = refl
+mixed true true false true false false = refl
+mixed true true false false false false = refl
+mixed false true true d true true = refl
+mixed false true true d false true = refl
+mixed false true false d y true = refl
+mixed false true true true true false = refl
+mixed false true true true false false = refl
+mixed false true true false true false = refl
+mixed false true true false false false = refl
+mixed false true false true y false = refl
+mixed false true false false y false = refl
+
+module _ (test : TypeName → Bool) where
+  abbrev yes : Bool
+  yes = test (record { name = boolean_text true; type = None })
+
+  abbrev no : Bool
+  no = test (record { name = boolean_text false; type = None })
+
+  named-any : (a b : Bool) → list_any test ((if a then universal (boolean_text true) else []) ++ (if b then universal (boolean_text false) else [])) ≡ ((a && yes) || (b && no))
+  named-any true true = ap (λ b. yes || b) (or-false no)
+  named-any true false = refl
+  named-any false true = or-false no
+  named-any false false = refl
+
+  value-any : (o : Option Bool) → list_any test (truth_named o) ≡ ((is_value true o && yes) || (is_value false o && no))
+  value-any None = refl
+  value-any (Some true) = refl
+  value-any (Some false) = or-false no
+
+  -- one truth value more
+  truths-more : (t u : Truths) (o : Option Bool) → u.yes ≡ (t.yes || is_value true o) → u.no ≡ (t.no || is_value false o) →
+      list_any test (truths_named u) ≡ (list_any test (truths_named t) || list_any test (truth_named o))
+  truths-more t u o e f =
+      named-any u.yes u.no
+      ∙ ap (λ b. (b && yes) || (u.no && no)) e
+      ∙ ap (λ b. ((t.yes || is_value true o) && yes) || (b && no)) f
+      ∙ mixed t.yes t.no (is_value true o) (is_value false o) yes no
+      ∙ sym (ap (λ b. b || list_any test (truth_named o)) (named-any t.yes t.no) ∙ ap (λ b. ((t.yes && yes) || (t.no && no)) || b) (value-any o))
+
+  pub truth_more : (hs : List FoundHole) (m : Member ℕ) (ns : List ℕ) (i n d : ℕ) (t u : Truths) (o : Option Bool) (whole : Bool) → i < length ns → n ≡ get_or ns i d → holes_view hs ≡ holes m →
+      u.yes ≡ (t.yes || is_value true o) → u.no ≡ (t.no || is_value false o) → truth_named o ≡ truth_at (option_map hole_view (slice_get hs n)) →
+      (list_any test (truths_named t) || list_any test (needed_truths (drop i ns) m)) ≡ whole → (list_any test (truths_named u) || list_any test (needed_truths (drop (i + 1) ns) m)) ≡ whole
+  truth_more hs m ns i n d t u o whole l e v yes no is h =
+      let before = list_any test (truths_named t) in
+      let rest = needed_truths (drop (i + 1) ns) m in
+      let here = truth_at (slice_get (holes m) n) in
+      ap (λ b. b || list_any test rest) (truths-more t u o yes no ∙ ap (λ xs. before || list_any test xs) (is ∙ truth_there hs m n v))
+      ∙ or-group before (list_any test here) (list_any test rest)
+      ∙ ap (λ b. before || b) (sym (list_any-append test here rest) ∙ ap (λ ks. list_any test (needed_truths ks m)) (sym (drop_more ns i d l ∙ ap (λ k. k ∷ drop (i + 1) ns) (sym e))))
+      ∙ h
+
+  pub truths_left : (m : Member ℕ) (ns : List ℕ) (i : ℕ) (b whole : Bool) → length ns ≤ i → (b || list_any test (needed_truths (drop i ns) m)) ≡ whole → b ≡ whole
+  truths_left m ns i b whole le h = sym (or-false b) ∙ sym (ap (λ ks. b || list_any test (needed_truths ks m)) (drop_all i ns le)) ∙ h
 
 -- ---- names
 
@@ -119,15 +184,63 @@ no_names_left test xs i l = ap (λ ys. list_any test (map type_name_view ys)) (d
 
 -- ---- one member
 
--- whether a name is hidden at its site
-pub hidden_told : (p : PackageView) (d : Declared) (ks : List ℕ) (m : Member ℕ) (results later : List ℕ) (names : List TypeName) (b : Bool) →
-    results ≡ results_in d m → later ≡ filter (occurs_later m) results →
-    ((test : TypeName → Bool) → list_any test names ≡ list_any test (names_of_all (type_of p.types.shapes) (sources_in p) (local_types m later) ++ needed_truths ks m)) →
-    b ≡ list_any (is_hidden (sources_in p) m later) names → b ≡ list_any (is_hidden (sources_in p) m (later_in d m)) (written_at p d ks m)
-hidden_told p d ks m results later names b e f g h =
+-- the names that are written at its site, by those in types and by truth values
+pub hidden_told : (p : PackageView) (d : Declared) (ks : List ℕ) (m : Member ℕ) (results later types : List ℕ) → results ≡ results_in d m → later ≡ filter (occurs_later m) results → types ≡ local_types m later →
+    (list_any (is_hidden (sources_in p) m later) (names_of_types p types) || list_any (is_hidden (sources_in p) m later) (needed_truths ks m)) ≡ list_any (is_hidden (sources_in p) m (later_in d m)) (written_at p d ks m)
+hidden_told p d ks m results later types e f g =
     let s = sources_in p in
-    let written : List ℕ → List TypeName = λ ns. names_of_all (type_of p.types.shapes) s (local_types m ns) ++ needed_truths ks m in
-    h ∙ g (is_hidden s m later) ∙ ap (λ ns. list_any (is_hidden s m ns) (written ns)) (f ∙ ap (filter (occurs_later m)) e)
+    let hidden = is_hidden s m later in
+    let truths = needed_truths ks m in
+    ap (λ ts. list_any hidden (names_of_types p ts) || list_any hidden truths) g
+    ∙ sym (list_any-append hidden (names_of_types p (local_types m later)) truths)
+    ∙ ap (λ ns. list_any (is_hidden s m ns) (names_of_types p (local_types m ns) ++ truths)) (f ∙ ap (filter (occurs_later m)) e)
+
+-- a type more, whose names aren't hidden
+pub type_passed : (p : PackageView) (test : TypeName → Bool) (ts : List ℕ) (i t d : ℕ) → i < length ts → t ≡ get_or ts i d → list_any test (names_of_type p t) ≡ false →
+    list_any test (names_of_types p (drop i ts)) ≡ list_any test (names_of_types p (drop (i + 1) ts))
+type_passed p test ts i t d l e h =
+    ap (λ ks. list_any test (names_of_types p ks)) (drop_more ts i d l ∙ ap (λ k. k ∷ drop (i + 1) ts) (sym e))
+    ∙ list_any-append test (names_of_type p t) (names_of_types p (drop (i + 1) ts))
+    ∙ ap (λ b. b || list_any test (names_of_types p (drop (i + 1) ts))) h
+
+-- or are
+pub type_found : (p : PackageView) (test : TypeName → Bool) (ts : List ℕ) (i t d : ℕ) → i < length ts → t ≡ get_or ts i d → list_any test (names_of_type p t) ≡ true → list_any test (names_of_types p (drop i ts)) ≡ true
+type_found p test ts i t d l e h =
+    ap (λ ks. list_any test (names_of_types p ks)) (drop_more ts i d l ∙ ap (λ k. k ∷ drop (i + 1) ts) (sym e))
+    ∙ list_any-append test (names_of_type p t) (names_of_types p (drop (i + 1) ts))
+    ∙ ap (λ b. b || list_any test (names_of_types p (drop (i + 1) ts))) h
+
+-- one type more in a map of names
+module _ {A S : Type 0} (p : PackageView) (m n : HashMap ℕ (Vec Found A) S) (t : ℕ) (names : Vec Found A) where
+  abbrev Told : ℕ → Option (Vec Found A) → Type 0
+  Told q o = IfSome o (λ v. (test : TypeName → Bool) → list_any test (map type_name_view v.items) ≡ list_any test (names_of_type p q))
+
+  told-more : (q : ℕ) (b : Bool) → nat_eq t q ≡ b → get nat_eq n q ≡ cond (nat_eq t q) (Some names) (get nat_eq m q) →
+      ((test : TypeName → Bool) → list_any test (map type_name_view names.items) ≡ list_any test (names_of_type p t)) → Told q (get nat_eq m q) → Told q (get nat_eq n q)
+  told-more q true e put told h =
+      subst (Told q) (sym (put ∙ ap (λ c. cond c (Some names) (get nat_eq m q)) e)) (λ (test : TypeName → Bool). told test ∙ ap (λ k. list_any test (names_of_type p k)) (eqb-true t q e))
+  told-more q false e put told h = subst (Told q) (sym (put ∙ ap (λ c. cond c (Some names) (get nat_eq m q)) e)) h
+
+  pub types_more : ((q : ℕ) → get nat_eq n q ≡ cond (nat_eq t q) (Some names) (get nat_eq m q)) →
+      ((test : TypeName → Bool) → list_any test (map type_name_view names.items) ≡ list_any test (names_of_type p t)) → KnowsTypes p m → KnowsTypes p n
+  types_more put told h = λ q. told-more q (nat_eq t q) refl (put q) told (h q)
+
+-- the names that a map has for a type
+module _ {A S : Type 0} (p : PackageView) (m : HashMap ℕ (Vec Found A) S) where
+  pub told_there : (t : ℕ) (names : Vec Found A) → get nat_eq m t ≡ Some names → KnowsTypes p m → (test : TypeName → Bool) → list_any test (map type_name_view names.items) ≡ list_any test (names_of_type p t)
+  told_there t names e h =
+      subst (λ (o : Option (Vec Found A)). IfSome o (λ v. (test : TypeName → Bool) → list_any test (map type_name_view v.items) ≡ list_any test (names_of_type p t))) e (h t)
+
+-- one type more in a set
+module _ {S : Type 0} (P : ℕ → Bool) (old new : HashSet ℕ S) (t : ℕ) where
+  passed-more : (q : ℕ) (b : Bool) → nat_eq t q ≡ b → set.contains nat_eq new q ≡ cond (nat_eq t q) true (set.contains nat_eq old q) →
+      (set.contains nat_eq old q ≡ true → P q ≡ false) → P t ≡ false → set.contains nat_eq new q ≡ true → P q ≡ false
+  passed-more q true e put h none there = subst (λ (k : ℕ). P k ≡ false) (eqb-true t q e) none
+  passed-more q false e put h none there = h (sym (put ∙ ap (λ c. cond c true (set.contains nat_eq old q)) e) ∙ there)
+
+  pub passed_more : ((q : ℕ) → set.contains nat_eq new q ≡ cond (nat_eq t q) true (set.contains nat_eq old q)) →
+      ((q : ℕ) → set.contains nat_eq old q ≡ true → P q ≡ false) → P t ≡ false → (q : ℕ) → set.contains nat_eq new q ≡ true → P q ≡ false
+  passed_more put h none q there = passed-more q (nat_eq t q) refl (put q) (h q) none there
 
 pub place_there : (b : Bool) (w : Place) → b ≡ true → Some w ≡ first_of (place_if b w)
 place_there b w e = sym (ap (λ c. first_of (place_if c w)) e)

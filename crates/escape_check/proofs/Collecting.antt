@@ -1,5 +1,5 @@
 -- What is known of names while they are collected.
-use Rattle.std.proofs.Common.{◌≡◌, ◌∙◌, ℕ, ◌<◌, Bool, true, false, nat_eq, List, [], ◌∷◌, ◌++◌, map, ap, refl, sym}
+use Rattle.std.proofs.Common.{◌≡◌, ◌∙◌, ℕ, ◌<◌, Bool, true, false, List, [], ◌∷◌, ◌++◌, map, ap, refl, sym}
 use Rattle.std.proofs.Math.Bool.{or_assoc}
 use Rattle.std.proofs.lemmas.List.Folds.{list_any-append}
 use Rattle.std.specs.Prelude.{◌||◌}
@@ -11,7 +11,7 @@ use Rattle.go_types.specs.Tables.{HasPartsBelow, type_of, tree_of}
 use Rattle.go_typed.specs.Packages.{PackageView}
 use Rattle.escape_check.specs.Collecting.{names_of_type, names_of_types}
 use Rattle.escape_check.specs.Places.{sources_in}
-use Rattle.escape_check.specs.Types.{TypeName, declared_text, names_of_all, row_names, type_names}
+use Rattle.escape_check.specs.Types.{TypeName, declared_text, row_names, type_names}
 
 -- the names in a row of types are those in its types
 pub row_of_names : (p : PackageView) (ts : List ℕ) → row_names (declared_text (sources_in p)) (row (map (type_of p.types.shapes) ts)) ≡ names_of_types p ts

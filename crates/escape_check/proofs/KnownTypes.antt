@@ -1,7 +1,7 @@
 -- The types of locals, and of what is handed over, are types of the package's table.
-use Rattle.std.proofs.Common.{◌≡◌, ◌∙◌, ℕ, zero, suc, ◌+◌, ◌<◌, Bool, true, false, List, [], ◌∷◌, ◌++◌, length, map, take, drop, Option, Some, None, slice_get, refl, sym, ap, subst}
+use Rattle.std.proofs.Common.{◌≡◌, ◌∙◌, ℕ, zero, suc, ◌+◌, ◌<◌, Bool, true, false, List, [], ◌∷◌, ◌++◌, length, map, take, drop, Some, slice_get, refl, sym, ap, subst}
 use Rattle.std.proofs.lemmas.Bool.{and_parts, ltb-true}
-use Rattle.std.specs.Prelude.{◌&&◌, ◌||◌, nat_lt, if◌then◌else◌}
+use Rattle.std.specs.Prelude.{◌&&◌, nat_lt, if◌then◌else◌}
 use Rattle.std.specs.List.{AllByRecursion, list_all}
 use Rattle.go_typed.specs.declared.window.Window.{Window}
 use Rattle.go_typed.specs.Forms.{is_statement_list, values_count}
@@ -20,7 +20,7 @@ use Rattle.param_choose.specs.Members.{Member, member_over, uses_within}
 use Rattle.param_choose.specs.Shown.{array_in}
 use Rattle.escape_check.specs.declared.member.Member.{Member as Found}
 use Rattle.escape_check.specs.Shown.{IsSound, member_view}
-use Rattle.escape_check.specs.Types.{hole_types, local_types, parameter_types, result_types, variable_types}
+use Rattle.escape_check.specs.Types.{hole_types, local_types, variable_types}
 use Rattle.escape_check.specs.Written.{AreKnownTypes, handed_types}
 
 -- the numbers are below n
@@ -262,3 +262,13 @@ choice_known p i w f e ms =
 pub handed_known : (p : PackageView) → IsPackage p → (w : Window) (f : FuncView) → slice_get p.functions w.func ≡ Some f → (ms : List (Member ℕ)) (h : Handed ℕ) →
     h ≡ handed (choice (array_in p.types) ms (member_over p.uses w f.locals f.tokens (tree_of f))) → AreKnownTypes p h
 handed_known p i w f e ms h same = subst (AreKnownTypes p) (sym same) (choice_known p i w f e ms)
+
+-- the types of the results that a template declares
+behind : {A : Type 0} (P : A → Type 0) (xs ys : List A) → AllByRecursion P (xs ++ ys) → AllByRecursion P ys
+behind P [] ys h = h
+behind P (x ∷ xs) ys h = behind P xs ys h.1
+
+pub declared_known : (p : PackageView) (h : Handed ℕ) → AreKnownTypes p h → AllByRecursion (λ t. t < length p.types.shapes) (variable_types h.declared)
+declared_known p h known =
+    let P : ℕ → Type 0 = λ t. t < length p.types.shapes in
+    behind P (variable_types h.assigned) (variable_types h.declared) (behind P (variable_types h.free ++ map (λ x. x.type) h.holes) (variable_types h.assigned ++ variable_types h.declared) known)

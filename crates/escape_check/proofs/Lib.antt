@@ -22,6 +22,8 @@ pub mod Parts
 pub mod Public
 pub mod Refusing
 pub mod Shadowing
+pub mod Sharing
+pub mod Sparing
 pub mod Staying
 pub mod Steps
 pub mod Unnumbered

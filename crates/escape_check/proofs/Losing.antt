@@ -9,11 +9,11 @@ use Rattle.go_types.specs.Tables.{Table, type_of}
 use Rattle.go_typed.specs.Contents.{content, func_content}
 use Rattle.go_typed.specs.Funcs.{FuncView, tree_of}
 use Rattle.go_typed.specs.Packages.{PackageView, IsPackage, counts, is_known_func, is_known_tree, is_below}
-use Rattle.go_typed.specs.Trees.{mapped, sort_has}
+use Rattle.go_typed.specs.Trees.{sort_has}
 use Rattle.go_typed.specs.Views.{seen}
 use Rattle.escape_check.specs.declared.member.Member.{Member as Found}
 use Rattle.escape_check.specs.Called.{called}
-use Rattle.escape_check.specs.Endings.{has_results, loses_end, lost_ends, tree_terminates, with_call}
+use Rattle.escape_check.specs.Endings.{has_results, loses_end, lost_ends, tree_terminates}
 use Rattle.escape_check.specs.Places.{Place, first_of, place_if, sources_in, window_place}
 use Rattle.escape_check.specs.Shown.{member_view}
 
@@ -49,11 +49,10 @@ module _ (p : PackageView) (m : Found) (e : slice_get p.functions m.window.func 
       ap (λ x. told x b) (sym (has ∙ ap (λ (u : Table). has_results (type_of u.shapes n)) types ∙ ap (λ k. has_results (type_of p.types.shapes k)) same))
 
   pub lost_by : (t : Table) (n : ℕ) (a b : Bool) → t ≡ p.types → n ≡ m.func.now.signature → a ≡ has_results (type_of t.shapes n) →
-      b ≡ tree_terminates (called (record { from = m.from; upto = m.upto }) (seen t m.func.now.root)) → lost ≡ told a b
+      b ≡ tree_terminates (called (record { from = m.from; upto = m.upto }) (seen p.types m.func.now.root)) → lost ≡ told a b
   lost_by t n a b types same has ends =
       let end = tree_terminates (called (record { from = m.from; upto = m.upto }) (seen p.types m.func.now.root)) in
-      by_function ∙ with_results t n a end types same has
-      ∙ ap (told a) (sym (ends ∙ ap (λ (u : Table). tree_terminates (called (record { from = m.from; upto = m.upto }) (seen u m.func.now.root))) types))
+      by_function ∙ with_results t n a end types same has ∙ ap (told a) (sym ends)
 
   pub none_lost : (t : Table) (n : ℕ) (a : Bool) → t ≡ p.types → n ≡ m.func.now.signature → a ≡ has_results (type_of t.shapes n) → a ≡ false → lost ≡ None
   none_lost t n a types same has without =

@@ -10,8 +10,7 @@ use Rattle.go_typed.specs.Packages.{PackageView}
 use Rattle.go_typed.specs.Trees.{Sort, sort_mapped}
 use Rattle.param_choose.specs.Choosing.{Choice, choice}
 use Rattle.param_choose.specs.Locals.{is_array}
-use Rattle.param_choose.specs.Members.{Member, member_over, members_in, members_of, template_in, template_of}
-use Rattle.param_choose.specs.Shown.{array_in}
+use Rattle.param_choose.specs.Members.{Member, member_over, members_in, members_of, template_in}
 use Rattle.param_choose.proofs.Public.{choice_mapped, choice-mapped, member_mapped, members-seen, template-seen}
 use Rattle.escape_check.specs.Endings.{lost_ends}
 use Rattle.escape_check.specs.Lookups.{left_unused, lost_imports}

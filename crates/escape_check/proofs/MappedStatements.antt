@@ -1,5 +1,5 @@
 -- Refusals for what statements do, and for ends of functions, are the same over other words for types.
-use Rattle.std.proofs.Common.{◌≡◌, ◌∙◌, ℕ, Bool, true, false, List, [], ◌∷◌, ◌++◌, map, refl, sym, ap}
+use Rattle.std.proofs.Common.{◌≡◌, ◌∙◌, Bool, true, false, List, [], ◌∷◌, ◌++◌, map, refl, sym, ap}
 use Rattle.std.proofs.lemmas.List.{map-append}
 use Rattle.std.specs.Prelude.{◌||◌, filter, if◌then◌else◌}
 use Rattle.go_typed.specs.declared.form.Form.{Form}

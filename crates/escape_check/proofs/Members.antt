@@ -1,9 +1,11 @@
 -- Members one by one.
-use Rattle.std.proofs.Common.{◌≡◌, ◌∙◌, ℕ, zero, suc, ◌+◌, ◌<◌, List, [], ◌∷◌, ◌++◌, length, map, drop, get_or, Option, Some, None, slice_get, refl, ap, arith}
+use Rattle.std.proofs.Common.{◌≡◌, ◌∙◌, ℕ, zero, suc, ◌+◌, ◌<◌, Bool, true, false, cond, List, [], ◌∷◌, ◌++◌, length, map, drop, get_or, Option, Some, None, slice_get, refl, sym, ap, append_assoc, arith}
+use Rattle.std.proofs.lemmas.List.{drop_more}
 use Rattle.std.proofs.lemmas.Option.{slice_get_read, slice_get-map}
 use Rattle.std.specs.List.{AllByRecursion}
 use Rattle.std.specs.Option.{option_map, option_to_list}
 use Rattle.go_tree.specs.declared.object.Declared.{Declared}
+use Rattle.go_tree.specs.Declarations.{is_function}
 use Rattle.go_tree.specs.Uses.{UsesView, functions_among}
 use Rattle.go_typed.specs.declared.window.Window.{Window}
 use Rattle.go_typed.specs.Funcs.{FuncView, tree_of}
@@ -40,6 +42,19 @@ member_missing p ws i w l e h =
 pub sound_more : {A : Type 0} (P : A → Type 0) (xs : List A) (x : A) → AllByRecursion P xs → P x → AllByRecursion P (xs ++ x ∷ [])
 sound_more P [] x h e = (e, tt)
 sound_more P (y ∷ xs) x h e = (h.0, sound_more P xs x h.1 e)
+
+-- ---- functions among objects
+
+-- the functions of a list from one object on
+pub functions_next : (fs ds : List Declared) (i : ℕ) (d : Declared) → i < length ds → (fs ++ functions_among (get_or ds i d ∷ [])) ++ functions_among (drop (i + 1) ds) ≡ fs ++ functions_among (drop i ds)
+functions_next fs ds i d lt =
+    let next = get_or ds i d in
+    append_assoc fs (functions_among (next ∷ [])) (functions_among (drop (i + 1) ds))
+    ∙ ap (λ xs. fs ++ xs) (one_more next (drop (i + 1) ds) (is_function next.entity) refl ∙ ap functions_among (sym (drop_more ds i d lt)))
+  where
+    one_more : (x : Declared) (xs : List Declared) (b : Bool) → is_function x.entity ≡ b → functions_among (x ∷ []) ++ functions_among xs ≡ functions_among (x ∷ xs)
+    one_more x xs true is = ap (λ c. cond c (x ∷ []) [] ++ functions_among xs) is ∙ sym (ap (λ c. cond c (x ∷ functions_among xs) (functions_among xs)) is)
+    one_more x xs false is = ap (λ c. cond c (x ∷ []) [] ++ functions_among xs) is ∙ sym (ap (λ c. cond c (x ∷ functions_among xs) (functions_among xs)) is)
 
 -- what is read of a window's function, part by part
 pub shown_by : (u : UsesView) (w : Window) (locals : List (Sort ℕ)) (tokens : List (Option ℕ)) (root : Typed ℕ) (ds : List Declared) (first : ℕ) (ps : Typeds ℕ) (i j : ℕ) →

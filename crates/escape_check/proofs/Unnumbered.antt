@@ -1,8 +1,7 @@
 -- No refusal speaks of the numbers of nodes.
-use Rattle.std.proofs.Common.{◌≡◌, ◌∙◌, ℕ, Bool, List, [], ◌∷◌, ◌++◌, map, Option, refl, sym, ap}
+use Rattle.std.proofs.Common.{◌≡◌, ◌∙◌, ℕ, List, [], ◌∷◌, ◌++◌, map, refl, ap}
 use Rattle.std.specs.Prelude.{◌&&◌, ◌||◌, not, filter, slice_get}
 use Rattle.std.specs.List.{list_any}
-use Rattle.go_tree.specs.Lookups.{Asked}
 use Rattle.go_types.specs.Trees.{TypeTree}
 use Rattle.go_typed.specs.Contents.{FuncContent}
 use Rattle.go_scopes.specs.Resolve.{units_of}
@@ -12,12 +11,12 @@ use Rattle.param_choose.specs.Locals.{declared_names, variable_at}
 use Rattle.param_choose.specs.Members.{Member}
 use Rattle.escape_check.specs.Endings.{lost_ends}
 use Rattle.escape_check.specs.Lookups.{all_asked, imports, is_import_in, is_left_unused, keeps_import, left_unused, locals_at, lost_imports, stands_in, stays}
-use Rattle.escape_check.specs.Names.{declaring_places, escaping, is_shadowing, local_names, shadowing}
-use Rattle.escape_check.specs.Places.{Sources, Place, file_of, place_if, refused_if, each_refused, template_refused, window_place}
+use Rattle.escape_check.specs.Names.{escaping, is_shadowing, local_names, shadowing}
+use Rattle.escape_check.specs.Places.{Sources, Place, file_of, place_if, each_refused, window_place}
 use Rattle.escape_check.specs.Refusals.{escape_refusals, name_refusals, site_refusals, statement_refusals}
 use Rattle.escape_check.specs.Shown.{unnumbered}
-use Rattle.escape_check.specs.Statements.{branches, falls, overlap_refused, returns}
-use Rattle.escape_check.specs.Types.{hidden_at_site, hidden_types_written, hole_numbers, is_hidden, later_results, local_types, local_types_written, names_of_all, needed_truths, truth_at, variable_types}
+use Rattle.escape_check.specs.Statements.{branches, falls, returns}
+use Rattle.escape_check.specs.Types.{hidden_at_site, hole_numbers, is_hidden, later_results, local_types, names_of_all, needed_truths, truth_at, variable_types}
 use Rattle.escape_check.proofs.Alike.{any_alike, any_mapped, cons_alike, declaring_alike, overlap_alike, refused_alike}
 
 module _ {T : Type 0} where

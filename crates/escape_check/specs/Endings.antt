@@ -3,7 +3,7 @@ use Rattle.std.specs.Prelude.{ℕ, Bool, true, false, ◌&&◌, not, List, [], �
 use Rattle.go_types.specs.Trees.{TypeTree, function}
 use Rattle.go_typed.specs.declared.form.Form.TheVariants as form
 use Rattle.go_typed.specs.Contents.{FuncContent}
-use Rattle.go_typed.specs.Trees.{Nothing, Unknown, Typed, typed, Typeds, none, more, skip}
+use Rattle.go_typed.specs.Trees.{Nothing, Unknown, Typed, typed, Typeds, none, more}
 use Rattle.go_exprs_rules.specs.Names.{is_row_empty}
 use Rattle.go_stmts_defs.specs.Ending.{terminates}
 use Rattle.extract_trees.specs.Filled.{Gap, filled}

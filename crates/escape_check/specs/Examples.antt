@@ -1,5 +1,5 @@
 -- Refusals of windows of small functions, worked out by hand.
-use Rattle.std.specs.Prelude.{◌≡◌, ℕ, Bool, true, false, List, [], ◌∷◌, map, Option, Some, None, codes}
+use Rattle.std.specs.Prelude.{◌≡◌, ℕ, List, [], ◌∷◌, map, Option, Some, None}
 use Rattle.go_grammar.specs.declared.kind.Step.TheVariants as steps
 use Rattle.go_types.specs.Trees.{TypeTree}
 use Rattle.go_typed.specs.declared.form.Form.TheVariants as form
@@ -9,7 +9,7 @@ use Rattle.param_choose.specs.Members.{Member, members_of}
 use Rattle.escape_check.specs.Places.{Sources, sources_of, Place, Refused, each_refused}
 use Rattle.escape_check.specs.Statements.{returns, branches, falls, overlap_refused}
 use Rattle.escape_check.specs.Endings.{lost_ends}
-use Rattle.escape_check.specs.Names.{escaping, local_names, is_in_use}
+use Rattle.escape_check.specs.Names.{escaping, local_names}
 
 abbrev pub sources : Sources
 sources = sources_of content

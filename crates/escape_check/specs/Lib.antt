@@ -7,9 +7,12 @@ pub mod Lookups
 pub mod Types
 pub mod Refusals
 pub mod Shown
+pub mod Sites
 pub mod Tokens
+pub mod Apart
 pub mod Texts
 pub mod Written
 pub mod Called
+pub mod Keeping
 pub mod Examples
 pub mod Collecting

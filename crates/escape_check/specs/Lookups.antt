@@ -1,15 +1,11 @@
 -- Refusals for what is no longer used: an import, and a declared result.
-use Rattle.std.specs.Prelude.{ℕ, ◌+◌, Bool, true, false, ◌&&◌, ◌||◌, not, nat_eq, nat_le, nat_lt, List, [], ◌∷◌, map, filter, Option, Some, None, slice_get}
+use Rattle.std.specs.Prelude.{ℕ, ◌+◌, Bool, false, ◌&&◌, ◌||◌, not, nat_eq, nat_le, nat_lt, List, map, filter, Option, Some, None, slice_get}
 use Rattle.std.specs.List.{list_any}
-use Rattle.go_grammar.specs.Trees.{Tree, last}
-use Rattle.go_tokens.specs.Tokens.{TokenList}
-use Rattle.go_tree.specs.Contexts.{file_context}
 use Rattle.go_tree.specs.declared.object.Object.{Object}
 use Rattle.go_tree.specs.declared.object.Object.TheVariants as object
-use Rattle.go_tree.specs.Events.{events}
 use Rattle.go_tree.specs.Imports.{imports_fmt}
 use Rattle.go_tree.specs.Lookups.{Asked, asked_from, is_assigned, is_import, object_asked}
-use Rattle.go_tree.specs.Meanings.{Meaning, meanings}
+use Rattle.go_tree.specs.Meanings.{meanings}
 use Rattle.go_tree.specs.Units.{Unit}
 use Rattle.go_scopes.specs.Resolve.{units_of}
 use Rattle.param_choose.specs.Members.{Member, occurs_later, local_at}

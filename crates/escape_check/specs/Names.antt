@@ -1,6 +1,6 @@
 -- Refusals for names: what escapes from the window, what its new function can't name, what is spelled alike, and the name of the new
 -- function.
-use Rattle.std.specs.Prelude.{ℕ, suc, ◌+◌, ◌-◌, Bool, true, false, ◌&&◌, ◌||◌, not, is_some, nat_eq, nat_le, nat_lt, List, [], ◌∷◌, ◌++◌, map, filter, length, Option, Some, None, codes, slice_get}
+use Rattle.std.specs.Prelude.{ℕ, ◌-◌, Bool, true, false, ◌&&◌, ◌||◌, not, is_some, nat_eq, nat_le, nat_lt, List, [], ◌∷◌, ◌++◌, map, filter, length, codes, slice_get}
 use Rattle.std.specs.List.{list_any, list_all}
 use Rattle.std.specs.Str.{chars, is_utf8}
 use Rattle.go_tokens.specs.declared.token.Token.{Token}
@@ -14,11 +14,11 @@ use Rattle.go_typed.specs.declared.form.Form.{Form}
 use Rattle.go_typed.specs.declared.form.Form.TheVariants as form
 use Rattle.go_typed.specs.declared.walk.LocalUse.{LocalUse}
 use Rattle.go_typed.specs.Places.{nodes_among, covers}
-use Rattle.go_typed.specs.Trees.{Typed, form_of}
+use Rattle.go_typed.specs.Trees.{form_of}
 use Rattle.go_typed.specs.Windows.{uses_from}
 use Rattle.clone_window.specs.Sameness.{sort_at, standing}
-use Rattle.param_choose.specs.Members.{Member, uses_within, is_declared_inside}
-use Rattle.param_choose.specs.Locals.{Variable, free_locals, declared_names, has, is_outside}
+use Rattle.param_choose.specs.Members.{Member, uses_within}
+use Rattle.param_choose.specs.Locals.{free_locals, declared_names, has, is_outside}
 use Rattle.param_choose.specs.Holes.{Hole, holes, is_fixed, is_outer}
 use Rattle.escape_check.specs.Places.{Sources, Place, token_place, declaring_place, local_text}
 

@@ -1,6 +1,6 @@
 -- Refusals for what statements do: members overlap, or their statements return, leave a loop or a switch around the window, or fall
 -- through to the next clause of a switch around it.
-use Rattle.std.specs.Prelude.{ℕ, suc, Bool, true, false, ◌&&◌, ◌||◌, not, nat_eq, nat_lt, if◌then◌else◌, List, [], ◌∷◌, ◌++◌, map, filter, Option, Some, None}
+use Rattle.std.specs.Prelude.{ℕ, suc, Bool, true, false, ◌&&◌, ◌||◌, not, nat_eq, nat_lt, if◌then◌else◌, List, [], ◌∷◌, ◌++◌, map, filter, Option, None}
 use Rattle.std.specs.List.{list_any}
 use Rattle.go_typed.specs.declared.form.Form.{Form}
 use Rattle.go_typed.specs.declared.form.Form.TheVariants as form

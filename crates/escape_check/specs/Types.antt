@@ -1,23 +1,21 @@
 -- Refusals for types: what the written types of parameters and results name, and what names mean at a site.
-use Rattle.std.specs.Prelude.{ℕ, ◌+◌, Bool, true, false, ◌&&◌, ◌||◌, not, nat_eq, if◌then◌else◌, List, [], ◌∷◌, ◌++◌, map, filter, Option, Some, None, slice_get, codes}
+use Rattle.std.specs.Prelude.{ℕ, ◌+◌, Bool, true, false, ◌&&◌, ◌||◌, not, nat_eq, List, [], ◌∷◌, ◌++◌, map, filter, Option, Some, None, slice_get, codes}
 use Rattle.std.specs.List.{list_any}
 use Rattle.std.specs.Option.{option_map}
 use Rattle.go_constants.specs.declared.values.Const.{Const}
 use Rattle.go_constants.specs.declared.values.Const.TheVariants as const
 use Rattle.go_tokens.specs.Spellings.{same_text}
-use Rattle.go_tree.specs.declared.object.Declared.{Declared}
 use Rattle.go_tree.specs.declared.object.Object.{Object}
 use Rattle.go_tree.specs.declared.object.Object.TheVariants as object
 use Rattle.go_tree.specs.Meanings.{meanings}
 use Rattle.go_tree.specs.Objects.{object_at}
 use Rattle.go_tree.specs.Uses.{declared_as}
 use Rattle.go_types.specs.Trees.{TypeTree, TypeRow, boolean, text, integer, array, slice, structure, function, declared, none, more}
-use Rattle.go_typed.specs.declared.origin.Origin.{Origin}
 use Rattle.go_print.specs.Names as print
 use Rattle.go_print.specs.Texts.{kind_text}
 use Rattle.go_print.specs.Literals.{boolean_text}
 use Rattle.go_scopes.specs.Resolve.{units_of}
-use Rattle.param_choose.specs.Members.{Member, occurs_later, local_at}
+use Rattle.param_choose.specs.Members.{Member, occurs_later}
 use Rattle.param_choose.specs.Locals.{Variable, variable_at}
 use Rattle.param_choose.specs.Holes.{Hole, holes, hole_value}
 use Rattle.param_choose.specs.Choosing.{Choice, HoleParameter}

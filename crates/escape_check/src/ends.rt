@@ -27,7 +27,7 @@ pub(crate) struct Gap {
 }
 
 /// What the node is.
-fn form_of(types: &Types, node: &TypedNode) -> Form
+pub(crate) fn form_of(types: &Types, node: &TypedNode) -> Form
     ensures { result ≡ form_of (seen types.now node.now) }
 {
     let _types = types;
@@ -166,7 +166,7 @@ fn is_panic_call(types: &Types, gap: Gap, node: &TypedNode) -> bool
 }
 
 /// Whether the one part of an expression statement calls `panic`.
-fn is_panic_statement(types: &Types, gap: Gap, parts: &[Option<TypedNode>]) -> bool
+pub(crate) fn is_panic_statement(types: &Types, gap: Gap, parts: &[Option<TypedNode>]) -> bool
     ensures { result ≡ on_one false is_panic_call (all_called gap (map (option_map (seen types.now)) parts.now)) }
 {
     match parts {
@@ -203,7 +203,7 @@ fn last_part<'a>(types: &Types, gap: Gap, parts: &'a [Option<TypedNode>]) -> Opt
 }
 
 /// Whether a node of this form is a `fallthrough`.
-fn is_fallthrough(form: Form) -> bool
+pub(crate) fn is_fallthrough(form: Form) -> bool
     ensures { result ≡ is_fallthrough form }
 {
     matches!(form, Form::Fallthrough)
@@ -230,7 +230,7 @@ fn is_default(types: &Types, gap: Gap, part: &Option<TypedNode>) -> bool
 }
 
 /// Whether one of the clauses is the default one.
-fn has_default(types: &Types, gap: Gap, clauses: &[Option<TypedNode>]) -> bool
+pub(crate) fn has_default(types: &Types, gap: Gap, clauses: &[Option<TypedNode>]) -> bool
     ensures { result ≡ list_any is_default_clause (all_called gap (map (option_map (seen types.now)) clauses.now)) }
 {
     for clause in clauses {

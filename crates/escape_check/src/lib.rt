@@ -8,6 +8,7 @@ mod branches;
 mod ends;
 mod escapes;
 mod imports;
+mod keeping;
 pub mod laws;
 mod lost;
 pub mod member;

@@ -9,8 +9,11 @@ ghost use Rattle.go_typed.specs.Trees.{form_of};
 ghost use Rattle.go_typed.specs.Views.{seen, view};
 ghost use Rattle.escape_check.specs.Called.{called};
 ghost use Rattle.escape_check.specs.Endings.{has_results, tree_terminates};
+ghost use Rattle.escape_check.specs.Keeping.{KeepEnds};
+ghost use Rattle.escape_check.specs.Shown.{IsSound};
 
 use crate::ends::{Gap, first_there, parts_of, terminates};
+use crate::keeping::leaves_end;
 use crate::member::Member;
 use crate::place::Place;
 use crate::rule::MemberRule;
@@ -20,19 +23,25 @@ use go_typed::node::TypedNode;
 use go_types::{Shape, TypeId, Types};
 use go_types_relations::shape;
 use std::alloc::Global;
+use std::collections::HashSet;
 
 /// With the window replaced by a call statement, a function with results doesn't end in a terminating statement (Go specification:
 /// Terminating statements).
-pub(crate) struct LostEnds;
+#[derive(Clone, Copy)]
+pub(crate) struct LostEnds<'a> {
+    /// For each function of the package the first tokens of the statements on whose places its end rests.
+    pub ends: &'a [Option<HashSet<u32>>],
+}
 
-impl MemberRule for LostEnds {
+impl MemberRule for LostEnds<'_> {
     ghost use Rattle.go_typed.specs.Contents.{content};
     ghost use Rattle.escape_check.specs.Endings.{lost_ends};
+    ghost use Rattle.escape_check.specs.Keeping.{KeepEnds};
     ghost use Rattle.escape_check.specs.Places.{sources_in};
 
     ghost places = { λ _ p m. lost_ends (sources_in p) (content p).functions m };
 
-    ghost knows = { λ _ _. Unit };
+    ghost knows = { λ rule p. KeepEnds p.types p.functions rule.ends.now };
 
     fn place(
         &self,
@@ -41,7 +50,9 @@ impl MemberRule for LostEnds {
         member: &Member<'_>,
     ) -> Result<Option<Place>, Memory> {
         let types = checked.types();
-        if has_results(types, member.func.signature()) && !ends_with_call(types, member) {
+        if has_results(types, member.func.signature())
+            && !ends_with_call(checked, self.ends, member)
+        {
             return Ok(Some(member.window_place(checked)));
         }
         Ok(None)
@@ -68,15 +79,18 @@ fn is_empty(_types: &Types, types: &[TypeId]) -> bool
     }
 }
 
-/// Whether the body of a member's function ends in a terminating statement, where a call stands in place of the window.
-fn ends_with_call(types: &Types, member: &Member<'_>) -> bool
-    ensures { result ≡ tree_terminates (called (record { from = member.now.from; upto = member.now.upto }) (seen types.now member.now.func.now.root)) }
+/// Whether the body of a member's function ends in a terminating statement, where a call stands in place of the window. The body is looked
+/// at only where the window has tokens on which its end rests.
+fn ends_with_call(checked: &Checked, ends: &[Option<HashSet<u32>>], member: &Member<'_>) -> bool
+    requires ends { KeepEnds checked.now.types checked.now.functions ends.now }
+    requires sound { IsSound checked.now member.now }
+    ensures { result ≡ tree_terminates (called (record { from = member.now.from; upto = member.now.upto }) (seen checked.now.types member.now.func.now.root)) }
 {
     let gap = Gap {
         from: member.from,
         upto: member.upto,
     };
-    body_ends(types, gap, member.func.root())
+    leaves_end(ends, member.window.func, gap) || body_ends(checked.types(), gap, member.func.root())
 }
 
 /// Whether the body of a function ends so.

@@ -1,23 +1,26 @@
 //! Members: windows with what is read of their functions.
 
-ghost use Rattle.std.specs.Prelude.{◌≡◌, Some, map, slice_get, IfOk};
+ghost use Rattle.std.specs.Prelude.{◌≡◌, ◌++◌, [], ◌∷◌, Some, map, slice_get, IfOk, OnOk};
 ghost use Rattle.std.specs.List.{AllByRecursion};
 ghost use Rattle.go_tree.specs.Uses.{functions_among};
 ghost use Rattle.go_typed.specs.Funcs.{tree_of};
 ghost use Rattle.param_choose.specs.Ends.{ends_of};
-ghost use Rattle.param_choose.specs.Members.{is_declared_inside, member_over, members_in};
+ghost use Rattle.go_typed.specs.Views.{views};
+ghost use Rattle.param_choose.specs.Members.{first_in, first_token, is_declared_inside, member_over, members_in};
 ghost use Rattle.escape_check.specs.Places.{file_in, local_text, place, sources_in, token_place, window_place};
 ghost use Rattle.escape_check.specs.Shown.{IsSound, covers_token, member_view, place_view, unnumbered};
 
 use crate::place::{Place, name_text};
 use clone_window::run::statements;
+use clone_window::span::last_from;
+use go_tree::context::Entity;
 use go_tree::object::Declared;
 use go_typed::checked::Checked;
 use go_typed::func::TypedFunc;
 use go_typed::node::TypedNode;
 use go_typed::window::Window;
 use param_choose::later::ends_at;
-use param_choose::template::{declared_in, extent_of, function_at};
+use param_choose::template::{declared_in, function_at};
 use param_choose::variables::{Extent, is_inside};
 use std::alloc::{AllocError, Global};
 
@@ -42,7 +45,8 @@ pub struct Member<'a> {
     pub ends: &'a [usize],
 }
 
-/// The windows whose functions the package has. The rows say for each function where its locals occur last.
+/// The windows whose functions the package has. The rows say for each function where its locals occur last. Each declaration of the
+/// package block is looked at once, and each window.
 ///
 /// # Errors
 ///
@@ -58,10 +62,12 @@ pub fn members_of<'a>(
     ensures members { IfOk result (λ v. map member_view v.items ≡ map unnumbered (members_in checked.now windows.now)) }
     ensures sound { IfOk result (λ v. AllByRecursion (IsSound checked.entry.now) v.items) }
 {
+    let functions = functions_of(alloc, checked.uses().package_objects())?;
     let mut members = Vec::new(alloc);
     for window in windows {
         if let Some(func) = checked.function(window.func) {
-            members.push(member_of(checked, ends, func, *window))?;
+            let object = function_in(&functions, window.func);
+            members.push(member_at(checked, ends, object, func, *window))?;
         }
     }
     Ok(members)
@@ -81,30 +87,97 @@ pub fn member_of<'a>(
     ensures shown { member_view result ≡ unnumbered (member_over checked.entry.now.uses window func.entry.now.locals func.entry.now.tokens (tree_of func.entry.now)) }
     ensures sound { IsSound checked.entry.now result }
 {
+    let object = function_at(checked.uses().package_objects(), window.func);
+    member_at(checked, ends, object, func, window)
+}
+
+/// The same, where it is known where the function is declared.
+fn member_at<'a>(
+    checked: &'a Checked,
+    ends: &'a [Vec<usize>],
+    object: Option<Declared>,
+    func: &'a TypedFunc,
+    window: Window,
+) -> Member<'a>
+    requires ends { map (λ row. row.items) ends.now ≡ map ends_of checked.now.functions }
+    requires object { object ≡ slice_get (functions_among checked.now.uses.package_level) window.func }
+    requires function { slice_get checked.now.functions window.func ≡ Some func.now }
+    ensures window { result.window ≡ window }
+    ensures func { result.func.now ≡ func.entry.now }
+    ensures shown { member_view result ≡ unnumbered (member_over checked.entry.now.uses window func.entry.now.locals func.entry.now.tokens (tree_of func.entry.now)) }
+    ensures sound { IsSound checked.entry.now result }
+{
     let statements = statements(func, &window);
     let uses = checked.uses();
-    let extent = extent_of(uses, window.func, statements, 0);
     Member {
         window,
         func,
         declared: declared_in(uses, window.func),
         statements,
-        file: file_of(checked, window.func),
-        first: extent.first,
-        from: extent.from,
-        upto: extent.upto,
+        file: file_in(object),
+        first: first_token(object),
+        from: first_in(statements),
+        upto: last_from(0, statements),
         ends: ends_at(ends, window.func),
     }
 }
 
-/// The file of the function of this number; the first one where there is no such function.
-fn file_of(checked: &Checked, function: u32) -> u32
-    ensures { result ≡ file_in (slice_get (functions_among checked.now.uses.package_level) function) }
+/// The file of a function; the first one where there is no such function.
+fn file_in(function: Option<Declared>) -> u32
+    ensures { result ≡ file_in function }
 {
-    match function_at(checked.uses().package_objects(), function) {
+    match function {
         Some(declared) => declared.file,
         None => 0,
     }
+}
+
+/// The number of a function's first token in its file: a function is named behind it (Go specification: Function declarations).
+fn first_token(function: Option<Declared>) -> u32
+    ensures { result ≡ first_token function }
+{
+    match function {
+        Some(declared) => declared.name.saturating_sub(1),
+        None => 0,
+    }
+}
+
+/// The first token of statements; 0 where the first one is not there.
+fn first_in(statements: &[Option<TypedNode>]) -> u32
+    ensures { result ≡ first_in (views statements.now) }
+{
+    match statements {
+        [Some(first), ..] => first.first,
+        _ => 0,
+    }
+}
+
+/// The functions of the package, in order.
+fn functions_of(alloc: Global, objects: &[Declared]) -> Result<Vec<Declared>, AllocError>
+    ensures { IfOk result (λ v. v.items ≡ functions_among objects.now) }
+{
+    let mut functions = Vec::new(alloc);
+    for object in objects {
+        push_function(*object, &mut functions)?;
+    }
+    Ok(functions)
+}
+
+/// Puts an object behind the others, if it is a function.
+fn push_function(object: Declared, functions: &mut Vec<Declared>) -> Result<(), AllocError>
+    ensures { OnOk result (functions.new.items ≡ functions.old.items ++ functions_among (object ∷ [])) }
+{
+    if matches!(object.entity, Entity::Function) {
+        functions.push(object)?;
+    }
+    Ok(())
+}
+
+/// The function of a number among functions, if there are so many.
+fn function_in(functions: &[Declared], number: u32) -> Option<Declared>
+    ensures { result ≡ slice_get functions.now number }
+{
+    functions.get(number as usize).copied()
 }
 
 impl Member<'_> {

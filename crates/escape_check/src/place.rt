@@ -4,7 +4,6 @@ ghost use Rattle.std.specs.Prelude.{◌≡◌, ◌+◌, suc, slice_get};
 ghost use Rattle.go_tree.specs.Units as units;
 ghost use Rattle.go_scopes_lookup.specs.Views.{place_of};
 ghost use Rattle.escape_check.specs.Places.{bytes_of, sources_in, text_at};
-ghost use Rattle.escape_check.specs.Places as specs;
 ghost use Rattle.escape_check.specs.Shown.{place_view};
 
 use go_base::Span;

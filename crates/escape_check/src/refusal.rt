@@ -12,6 +12,7 @@ ghost use Rattle.escape_check.specs.Shown.{IsSound, member_view, refusal_view, r
 
 use crate::branches::{Branches, Falls, Returns};
 use crate::escapes::Escapes;
+use crate::keeping::ends_of;
 use crate::lost::LostEnds;
 use crate::member::{Member, member_of, members_of};
 use crate::overlap::first_overlap;
@@ -34,7 +35,7 @@ use std::alloc::Global;
 /// code that applies, with the first window to which it applies and the first place there; none where no code applies. Where the package
 /// doesn't have the first window's function there is none.
 ///
-/// It looks at each token of the package and of the windows, at each node of the windows and at each node of their functions.
+/// It looks at each token of the package and of the windows, and at each node of the package and of the windows.
 ///
 /// # Errors
 ///
@@ -147,7 +148,9 @@ fn escape_refusal(
     if let Some(refused) = first_refused(alloc, checked, 8, &LocalNames, members)? {
         return Ok(Some(refused));
     }
-    first_refused(alloc, checked, 9, &LostEnds, members)
+    let ends = ends_of(alloc, checked.types(), checked.functions())?;
+    let rule = LostEnds { ends: &ends };
+    first_refused(alloc, checked, 9, &rule, members)
 }
 
 /// The first refusal for names that are spelled alike.

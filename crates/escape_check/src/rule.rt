@@ -5,7 +5,7 @@ ghost use Rattle.std.specs.List.{AllByRecursion};
 ghost use Rattle.std.specs.Option.{option_map};
 ghost use Rattle.go_typed.specs.Packages.{PackageView};
 ghost use Rattle.param_choose.specs.Members.{Member as Chosen};
-ghost use Rattle.escape_check.specs.Places.{each_refused, first_of, refused_if, template_refused};
+ghost use Rattle.escape_check.specs.Places.{each_refused, first_of};
 ghost use Rattle.escape_check.specs.Places as places;
 ghost use Rattle.escape_check.specs.Shown.{IsSound, member_view, place_view, refused_view};
 

@@ -1,13 +1,12 @@
 //! Names that mean something else at a site, or that a declared result hides there.
 
-ghost use Rattle.std.specs.Prelude.{◌≡◌, ◌+◌, ◌++◌, ℕ, List, Bool, Some, None, map, slice_get, IfOk, OnOk};
-ghost use Rattle.std.specs.List.{list_any};
+ghost use Rattle.std.specs.Prelude.{◌≡◌, ◌<◌, ◌+◌, ◌++◌, ◌||◌, ℕ, List, Bool, true, false, Some, None, length, map, slice_get, IfOk, OnOk};
+ghost use Rattle.std.specs.List.{AllByRecursion, list_any};
 ghost use Rattle.std.specs.Option.{option_map, option_to_list};
 ghost use Rattle.clone_window.specs.Sameness.{value_of};
 ghost use Rattle.go_tree.specs.Meanings.{meanings};
 ghost use Rattle.go_scopes.specs.Resolve.{units_of};
 ghost use Rattle.go_scopes_lookup.specs.Named.{IsNamed, all_meanings};
-ghost use Rattle.go_types.specs.Tables.{type_of};
 ghost use Rattle.go_typed.specs.Views.{sort_view};
 ghost use Rattle.param_choose.specs.Holes as chosen;
 ghost use Rattle.param_choose.specs.Locals.{variable_at};
@@ -17,13 +16,15 @@ ghost use Rattle.escape_check.specs.Places.{local_text, sources_in};
 ghost use Rattle.escape_check.specs.Shown.{IsSound, member_view};
 ghost use Rattle.escape_check.specs.Texts.{AreTexts};
 ghost use Rattle.escape_check.specs.Types as specs;
-ghost use Rattle.escape_check.specs.Written.{type_name_view};
+ghost use Rattle.escape_check.specs.Collecting.{names_of_type, names_of_types};
+ghost use Rattle.escape_check.specs.Sites.{KnowsSite, is_value, truth_named, truths_named};
+ghost use Rattle.escape_check.specs.Written.{later_in, type_name_view, written_at};
 
 use crate::member::Member;
 use crate::place::Place;
 use crate::results::{Declared, later_among};
 use crate::rule::MemberRule;
-use crate::type_names::{TypeName, names_of_all, type_object};
+use crate::type_names::{TypeName, names_in, type_object};
 use go_base::Memory;
 use go_constants::Const;
 use go_scopes_lookup::by_name::Named;
@@ -34,7 +35,7 @@ use go_typed::sort::Sort;
 use go_types::TypeId;
 use param_choose::holes::{Hole, holes_of};
 use std::alloc::{AllocError, Global};
-use std::collections::HashSet;
+use std::collections::{HashMap, HashSet};
 
 /// At a window's start a type's name, `true` or `false` doesn't mean what is needed, or is a declared result itself.
 #[derive(Clone, Copy)]
@@ -44,19 +45,17 @@ pub(crate) struct HiddenAtSite<'a> {
     pub holes: &'a [u32],
     /// What names mean at any token.
     pub named: &'a Named<'a>,
+    /// The names in the types of the template's results.
+    pub names: &'a HashMap<TypeId, Vec<TypeName<'a>>>,
 }
 
 impl MemberRule for HiddenAtSite<'_> {
-    ghost use Rattle.std.specs.Prelude.{◌≡◌};
-    ghost use Rattle.go_scopes.specs.Resolve.{units_of};
-    ghost use Rattle.go_scopes_lookup.specs.Named.{IsNamed, all_meanings};
-    ghost use Rattle.go_tree.specs.Meanings.{meanings};
-    ghost use Rattle.escape_check.specs.Shown.{KnowsPlaces};
+    ghost use Rattle.escape_check.specs.Sites.{KnowsSite};
     ghost use Rattle.escape_check.specs.Written.{hidden_by};
 
     ghost places = { λ rule p m. hidden_by p rule.declared rule.holes.now m };
 
-    ghost knows = { λ rule p. KnowsPlaces rule.declared × IsNamed rule.named.now × (all_meanings rule.named.now ≡ meanings (units_of p.files)) };
+    ghost knows = { λ rule p. KnowsSite rule p };
 
     fn place(
         &self,
@@ -64,37 +63,86 @@ impl MemberRule for HiddenAtSite<'_> {
         checked: &Checked,
         member: &Member<'_>,
     ) -> Result<Option<Place>, Memory> {
-        let results = self.declared.in_member(alloc, member)?;
-        let later = later_among(alloc, member, &results)?;
-        let names = needed_names(alloc, checked, member, &later, self.holes)?;
-        let texts = texts_of(alloc, checked, member, &later)?;
-        if any_hidden(checked, self.named, member, &texts, &names)? {
+        if self.hides(alloc, checked, member)? {
             return Ok(Some(member.window_place(checked)));
         }
         Ok(None)
     }
 }
 
-/// What is written at a member's site: the names in the types of its results that occur later, and `true` and `false` among its
-/// holes of these numbers.
-#[tactic(auto, using(crate::proofs::AtSites::needed_told))]
-fn needed_names<'c>(
-    alloc: Global,
-    checked: &'c Checked,
-    member: &Member<'_>,
-    results: &[u32],
-    holes: &[u32],
-) -> Result<Vec<TypeName<'c>>, Memory>
-    requires { IsSound checked.now member.now }
-    ensures { (test : specs.TypeName → Bool) → IfOk result (λ v. list_any test (map type_name_view v.items)
-        ≡ list_any test (specs.names_of_all (type_of checked.entry.now.types.shapes) (sources_in checked.entry.now) (specs.local_types (member_view member.now) results.now)
-        ++ specs.needed_truths holes.now (member_view member.now))) }
-{
-    checked.types();
-    let types = types_of(alloc, member, results)?;
-    let mut names = names_of_all(alloc, checked, &types)?;
-    push_truths(&holes_of(alloc, member.statements)?, holes, &mut names)?;
-    Ok(names)
+impl HiddenAtSite<'_> {
+    /// Whether a name that is written at a member's site is hidden there: one in the types of its results that occur later, or `true` or
+    /// `false` among its holes that are parameters.
+    fn hides(&self, alloc: Global, checked: &Checked, member: &Member<'_>) -> Result<bool, Memory>
+        requires knows { KnowsSite self.now checked.now }
+        requires sound { IsSound checked.now member.now }
+        ensures { IfOk result (λ b. b ≡ list_any (specs.is_hidden (sources_in checked.now) (member_view member.now) (later_in self.now.declared (member_view member.now)))
+            (written_at checked.now self.now.declared self.now.holes.now (member_view member.now))) }
+    {
+        let results = self.declared.in_member(alloc, member)?;
+        let later = later_among(alloc, member, &results)?;
+        let texts = texts_of(alloc, checked, member, &later)?;
+        let types = types_of(alloc, member, &later)?;
+        // The types of locals are in the package's own table.
+        let _ = checked.types();
+        if self.hides_any(alloc, checked, member, &texts, &types)? {
+            return Ok(true);
+        }
+        let truths = truths_of(alloc, &holes_of(alloc, member.statements)?, self.holes)?;
+        any_hidden(checked, self.named, member, &texts, &truths)
+    }
+
+    /// Whether a name in one of some types is hidden at a member's start, where the texts are the names of its results. Each type is looked
+    /// at once.
+    fn hides_any(
+        &self,
+        alloc: Global,
+        checked: &Checked,
+        member: &Member<'_>,
+        texts: &HashSet<&[u8]>,
+        types: &[TypeId],
+    ) -> Result<bool, Memory>
+        requires knows { KnowsSite self.now checked.now }
+        requires sound { IsSound checked.now member.now }
+        requires below { AllByRecursion (λ t. t < length checked.now.types.shapes) types.now }
+        ensures { (locals : List ℕ) → AreTexts texts.now (map (local_text (sources_in checked.now) (member_view member.now)) locals)
+            → IfOk result (λ b. b ≡ list_any (specs.is_hidden (sources_in checked.now) (member_view member.now) locals) (names_of_types checked.now types.now)) }
+    {
+        let mut passed = HashSet::new(alloc);
+        for of in types {
+            if !passed.contains(of) {
+                if self.hides_one(alloc, checked, member, texts, *of)? {
+                    return Ok(true);
+                }
+                passed.insert(*of)?;
+            }
+        }
+        Ok(false)
+    }
+
+    /// Whether a name in a type is hidden so.
+    fn hides_one(
+        &self,
+        alloc: Global,
+        checked: &Checked,
+        member: &Member<'_>,
+        texts: &HashSet<&[u8]>,
+        of: TypeId,
+    ) -> Result<bool, Memory>
+        requires knows { KnowsSite self.now checked.now }
+        requires sound { IsSound checked.now member.now }
+        requires below { of < length checked.now.types.shapes }
+        ensures { (locals : List ℕ) → AreTexts texts.now (map (local_text (sources_in checked.now) (member_view member.now)) locals)
+            → IfOk result (λ b. b ≡ list_any (specs.is_hidden (sources_in checked.now) (member_view member.now) locals) (names_of_type checked.now of)) }
+    {
+        match self.names.get(&of) {
+            Some(names) => any_hidden(checked, self.named, member, texts, names),
+            None => {
+                let names = names_in(alloc, checked, of)?;
+                any_hidden(checked, self.named, member, texts, &names)
+            }
+        }
+    }
 }
 
 /// The types of those of some locals that are variables.
@@ -128,18 +176,63 @@ fn type_at(func: &TypedFunc, local: u32) -> Option<TypeId>
     }
 }
 
-/// Puts the names of truth values among holes of these numbers behind the others.
-fn push_truths(
+/// The names of the truth values among holes of these numbers, each once.
+fn truths_of(
+    alloc: Global,
     holes: &[Hole<'_>],
     numbers: &[u32],
-    names: &mut Vec<TypeName<'_>>,
-) -> Result<(), AllocError>
-    ensures { (m : Chosen ℕ) → holes_view holes.now ≡ chosen.holes m → OnOk result (map type_name_view names.new.items ≡ map type_name_view names.old.items ++ specs.needed_truths numbers.now m) }
+) -> Result<Vec<TypeName<'static>>, AllocError>
+    ensures { (m : Chosen ℕ) (test : specs.TypeName → Bool) → holes_view holes.now ≡ chosen.holes m → IfOk result (λ v. list_any test (map type_name_view v.items) ≡ list_any test (specs.needed_truths numbers.now m)) }
 {
+    let mut found = Truths {
+        yes: false,
+        no: false,
+    };
     for number in numbers {
-        push_truth(hole_at(holes, *number), names)?;
+        found = found.with(truth_at(hole_at(holes, *number)));
     }
-    Ok(())
+    found.names(alloc)
+}
+
+/// Which truth values there are.
+#[derive(Clone, Copy)]
+struct Truths {
+    yes: bool,
+    no: bool,
+}
+
+impl Truths {
+    /// One more.
+    fn with(self, truth: Option<bool>) -> Truths
+        ensures yes { result.yes ≡ (self.yes || is_value true truth) }
+        ensures no { result.no ≡ (self.no || is_value false truth) }
+    {
+        match truth {
+            Some(true) => Truths {
+                yes: true,
+                no: self.no,
+            },
+            Some(false) => Truths {
+                yes: self.yes,
+                no: true,
+            },
+            None => self,
+        }
+    }
+
+    /// Their names.
+    fn names(self, alloc: Global) -> Result<Vec<TypeName<'static>>, AllocError>
+        ensures { IfOk result (λ v. map type_name_view v.items ≡ truths_named self) }
+    {
+        let mut names = Vec::new(alloc);
+        if self.yes {
+            names.push(predeclared(b"true"))?;
+        }
+        if self.no {
+            names.push(predeclared(b"false"))?;
+        }
+        Ok(names)
+    }
 }
 
 /// The hole of a number, if there is one.
@@ -149,21 +242,19 @@ fn hole_at<'h, 'a>(holes: &'h [Hole<'a>], number: u32) -> Option<&'h Hole<'a>>
     holes.get(number as usize)
 }
 
-/// Puts the name of a hole's truth value behind the others, if there is a hole and it stands for one.
-fn push_truth(hole: Option<&Hole<'_>>, names: &mut Vec<TypeName<'_>>) -> Result<(), AllocError>
-    ensures { OnOk result (map type_name_view names.new.items ≡ map type_name_view names.old.items ++ specs.truth_at (option_map hole_view (option_map (λ h. h.now) hole.entry))) }
+/// The truth value for which a hole stands, if there is a hole and it stands for one.
+fn truth_at(hole: Option<&Hole<'_>>) -> Option<bool>
+    ensures { truth_named result ≡ specs.truth_at (option_map hole_view (option_map (λ h. h.now) hole.entry)) }
 {
-    if let Some(hole) = hole {
-        if let Some(name) = truth_in(hole.sort) {
-            names.push(name)?;
-        }
+    match hole {
+        Some(hole) => truth_in(hole.sort),
+        None => None,
     }
-    Ok(())
 }
 
-/// The name of a truth value, if it is one (Go specification: Boolean types).
-fn truth_in(sort: &Sort) -> Option<TypeName<'static>>
-    ensures { map type_name_view (option_to_list result) ≡ specs.truth_in (value_of (sort_view sort.now)) }
+/// The truth value that is a constant (Go specification: Boolean types).
+fn truth_in(sort: &Sort) -> Option<bool>
+    ensures { truth_named result ≡ specs.truth_in (value_of (sort_view sort.now)) }
 {
     match sort {
         Sort::Constant(_, value) => truth_of(value.get()),
@@ -172,12 +263,11 @@ fn truth_in(sort: &Sort) -> Option<TypeName<'static>>
     }
 }
 
-fn truth_of(value: &Const) -> Option<TypeName<'static>>
-    ensures { map type_name_view (option_to_list result) ≡ specs.truth_in (Some value.now) }
+fn truth_of(value: &Const) -> Option<bool>
+    ensures { truth_named result ≡ specs.truth_in (Some value.now) }
 {
     match value {
-        Const::Bool(true) => Some(predeclared(b"true")),
-        Const::Bool(false) => Some(predeclared(b"false")),
+        Const::Bool(truth) => Some(*truth),
         _ => None,
     }
 }

@@ -1,6 +1,6 @@
 //! Refusals for what names mean at sites, for what is no longer used, and for types that are written.
 
-ghost use Rattle.std.specs.Prelude.{◌≡◌, ◌≤◌, ◌++◌, ℕ, map, length, IfOk, OnOk};
+ghost use Rattle.std.specs.Prelude.{◌≡◌, ◌<◌, ◌≤◌, ◌++◌, ℕ, map, length, IfOk, OnOk};
 ghost use Rattle.std.specs.List.{AllByRecursion};
 ghost use Rattle.std.specs.Option.{option_map};
 ghost use Rattle.go_scopes.specs.Resolve as trees;
@@ -11,6 +11,7 @@ ghost use Rattle.go_types.specs.Tables.{type_of};
 ghost use Rattle.param_choose.specs.Choosing.{Choice as Chosen};
 ghost use Rattle.param_choose.specs.Handed.{HandedHole, choice_shown, handed, hole_shown};
 ghost use Rattle.param_choose.specs.Shown.{variable_view};
+ghost use Rattle.escape_check.specs.Collecting.{KnowsTypes};
 ghost use Rattle.escape_check.specs.Lookups.{all_asked, left_unused, lost_imports};
 ghost use Rattle.escape_check.specs.Places.{each_refused, first_refused, or_refused, sources_in, template_refused};
 ghost use Rattle.escape_check.specs.Refusals.{site_refusals};
@@ -24,7 +25,7 @@ use crate::place::Refused;
 use crate::results::Declared;
 use crate::rule::{first_refused, refused_in};
 use crate::site::HiddenAtSite;
-use crate::type_names::names_of_all;
+use crate::type_names::{TypeName, names_by_type, names_of_all};
 use crate::types::{any_local, any_taken};
 use crate::unused::{LeftUnused, last_uses};
 use clone_window::locals::locals_of;
@@ -41,6 +42,7 @@ use param_choose::choice::{Choice, HoleParameter};
 use param_choose::later::places_of;
 use param_choose::variables::Variable;
 use std::alloc::{AllocError, Global};
+use std::collections::HashMap;
 
 /// The first refusal for what names mean at sites, for what is no longer used, and for types that are written.
 #[tactic(auto, using(crate::proofs::AtSites::numbers_shown, crate::proofs::AtSites::of_five, crate::proofs::AtSites::first_found, crate::proofs::AtSites::later_found))]
@@ -69,7 +71,10 @@ pub(crate) fn site_refusal(
         places: &places,
     };
     let holes = numbers_of(alloc, &choice.holes)?;
-    if let Some(refused) = hidden_refusal(alloc, checked, &named, declared, &holes, members)? {
+    let results = &choice.declared;
+    if let Some(refused) = hidden_refusal(
+        alloc, checked, &named, declared, results, &holes, members,
+    )? {
         return Ok(Some(refused));
     }
     let asked = looked_up(alloc, &units, &entries)?.asked;
@@ -79,16 +84,19 @@ pub(crate) fn site_refusal(
     type_refusal(alloc, checked, template, choice)
 }
 
-/// The first refusal for what names mean at sites. The numbers are those of the template's holes that are parameters.
+/// The first refusal for what names mean at sites. The results are those that the template declares, and the numbers are those of its holes
+/// that are parameters.
 #[tactic(auto, using(crate::proofs::AtSites::hidden_each))]
 fn hidden_refusal(
     alloc: Global,
     checked: &Checked,
     named: &Named<'_>,
     declared: Declared<'_>,
+    results: &[Variable],
     holes: &[u32],
     members: &[Member<'_>],
 ) -> Result<Option<Refused>, Memory>
+    requires types { AllByRecursion (λ t. t < length checked.now.types.shapes) (variable_types (map variable_view results.now)) }
     requires named { IsNamed named.now }
     requires meanings { all_meanings named.now ≡ meanings (trees.units_of checked.now.files) }
     requires places { KnowsPlaces declared }
@@ -96,12 +104,28 @@ fn hidden_refusal(
     ensures { (h : Chosen ℕ) → map (λ v. v.local) h.declared ≡ declared.entry.locals.now → hole_numbers h.holes ≡ holes.now → IfOk result (λ r. option_map refused_view r
         ≡ each_refused 12 (hidden_at_site (type_of checked.now.types.shapes) (sources_in checked.now) (member_view declared.entry.template.now) h) (map member_view members.now)) }
 {
+    let names = names_of_results(alloc, checked, results)?;
     let rule = HiddenAtSite {
         declared,
         holes,
         named,
+        names: &names,
     };
     first_refused(alloc, checked, 12, &rule, members)
+}
+
+/// The names in the types of some variables.
+fn names_of_results<'a>(
+    alloc: Global,
+    checked: &'a Checked,
+    variables: &[Variable],
+) -> Result<HashMap<TypeId, Vec<TypeName<'a>>>, AllocError>
+    requires { AllByRecursion (λ t. t < length checked.now.types.shapes) (variable_types (map variable_view variables.now)) }
+    ensures { IfOk result (λ m. KnowsTypes checked.entry.now m) }
+{
+    let mut types = Vec::new(alloc);
+    push_types(variables, &mut types)?;
+    names_by_type(alloc, checked, &types)
 }
 
 /// The first refusal for an import or a result that is no longer used.

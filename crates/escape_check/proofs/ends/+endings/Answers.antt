@@ -1,4 +1,4 @@
-use Rattle.std.proofs.Common.{◌≡◌, ◌∙◌, ◌<◌, ◌≤◌, Option, map, sym, ap, arith}
+use Rattle.std.proofs.Common.{◌∙◌, Option, map, sym, ap, arith}
 use Rattle.std.specs.Borrow.{Bor}
 use Rattle.std.specs.Option.{option_map}
 use Rattle.go_types.specs.Trees.{TypeTree}

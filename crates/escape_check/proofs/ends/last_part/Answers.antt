@@ -1,4 +1,4 @@
-use Rattle.std.proofs.Common.{◌≡◌, ◌∙◌, ◌+◌, ◌≤◌, List, Option, Some, None, drop, get_or, sym, ap, subst}
+use Rattle.std.proofs.Common.{◌∙◌, ◌+◌, ◌≤◌, Option, drop, sym, ap, subst}
 use Rattle.std.specs.Prelude.{IfSome}
 use Rattle.std.specs.Borrow.{Bor}
 use Rattle.std.specs.Option.{option_map}

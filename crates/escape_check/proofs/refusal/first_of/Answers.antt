@@ -1,8 +1,7 @@
-use Rattle.std.proofs.Common.{◌≡◌, ◌∙◌, Some, None, ap, map, sym}
+use Rattle.std.proofs.Common.{◌≡◌, ◌∙◌, None, ap, map, sym}
 use Rattle.std.specs.Option.{option_map}
 use Rattle.go_typed.specs.Funcs.{tree_of}
 use Rattle.param_choose.specs.Choosing.{choice}
-use Rattle.param_choose.specs.Handed.{choice_shown}
 use Rattle.param_choose.specs.Members.{member_over, members_in}
 use Rattle.param_choose.specs.Shown.{array_in}
 use Rattle.escape_check.specs.Shown.{member_view, refused_view, unnumbered}

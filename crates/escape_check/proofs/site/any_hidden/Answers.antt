@@ -1,4 +1,4 @@
-use Rattle.std.proofs.Common.{◌≡◌, ◌∙◌, ◌≤◌, Bool, List, length, sym, arith}
+use Rattle.std.proofs.Common.{◌∙◌, Bool, sym, arith}
 use Rattle.escape_check.specs.Places.{sources_in}
 use Rattle.escape_check.specs.Shown.{member_view}
 use Rattle.escape_check.specs.Types.{TypeName, is_hidden}

@@ -1,5 +1,4 @@
-use Rattle.std.proofs.Common.{◌≡◌, ◌∙◌, Bool, sym, ap}
-use Rattle.std.specs.List.{list_any}
+use Rattle.std.proofs.Common.{◌∙◌, sym, ap}
 use Rattle.go_scopes_lookup.specs.Named.{all_meanings}
 use Rattle.escape_check.specs.Places.{sources_in}
 use Rattle.escape_check.specs.Shown.{member_view}

@@ -1,10 +1,10 @@
-use Rattle.std.proofs.Common.{◌≡◌, ◌∙◌, Bool, Some, None, map, sym, ap}
+use Rattle.std.proofs.Common.{◌∙◌, Some, None, map, sym, ap}
 use Rattle.std.specs.List.{list_any}
 use Rattle.go_types.specs.Tables.{type_of}
 use Rattle.param_choose.specs.Handed.{choice_shown}
 use Rattle.escape_check.specs.Places.{Place, sources_in, template_refused, window_place}
 use Rattle.escape_check.specs.Shown.{member_view, refused_view}
-use Rattle.escape_check.specs.Types.{TypeName, hidden_types_written, is_local_type, is_taken, local_types_written, written_names}
+use Rattle.escape_check.specs.Types.{hidden_types_written, is_local_type, is_taken, local_types_written, written_names}
 use Rattle.escape_check.specs.Written.{type_name_view}
 use Rattle.escape_check.proofs.AtSites.{first_found, later_found, names_told, refused_with, template_free, template_there}
 use Rattle.escape_check.proofs.sites.type_refusal.Goals as goal

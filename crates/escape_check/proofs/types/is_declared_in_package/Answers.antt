@@ -1,4 +1,4 @@
-use Rattle.std.proofs.Common.{◌≡◌, ◌∙◌, ◌≤◌, Bool, Some, drop, length, sym, ap, arith}
+use Rattle.std.proofs.Common.{◌∙◌, Bool, Some, sym, ap, arith}
 use Rattle.std.proofs.lemmas.List.{drop_all}
 use Rattle.std.specs.List.{list_any}
 use Rattle.go_tokens.specs.Spellings.{same_text}

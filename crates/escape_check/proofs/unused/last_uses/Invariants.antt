@@ -1,4 +1,4 @@
-use Rattle.std.proofs.Common.{◌≡◌, map, take}
+use Rattle.std.proofs.Common.{map, take}
 use Rattle.go_scopes_lookup.specs.Views.{asked_view}
 use Rattle.escape_check.specs.Texts.{AreLastUses}
 use Rattle.escape_check.proofs.unused.last_uses.Given as goal

@@ -1,8 +1,5 @@
-use Rattle.std.proofs.Common.{◌≡◌, ◌∙◌, ◌<◌, ℕ, Bool, true, Some, length, sym, ap, subst}
-use Rattle.std.specs.Prelude.{◌&&◌, not}
+use Rattle.std.proofs.Common.{◌∙◌, ◌<◌, ℕ, Bool, true, Some, length, sym, ap, subst}
 use Rattle.go_types.specs.Tables.{Table}
-use Rattle.escape_check.specs.Places.{first_of, place_if, sources_in, window_place}
-use Rattle.escape_check.specs.Shown.{member_view}
 use Rattle.escape_check.proofs.Losing.{known_signature, lost_by, none_lost, told}
 use Rattle.escape_check.proofs.lost.LostEndsMemberRule.place.Goals as goal
 use Rattle.escape_check.proofs.lost.LostEndsMemberRule.place.Goals.{else-has_results-via-then-has_results+else-not-ends_with_call, else-has_results-via-else-has_results}
