@@ -1,1 +1,5 @@
 mod Stages
+mod Failing
+mod Shapes
+mod Rights
+mod Environments
