@@ -3,3 +3,4 @@ mod Failing
 mod Shapes
 mod Rights
 mod Environments
+mod Examples

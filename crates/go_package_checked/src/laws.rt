@@ -12,6 +12,7 @@ ghost use Rattle.go_exprs_rules.specs.Scopes.{Scope};
 ghost use Rattle.go_package_defs.specs.Checked.{Typing, sources_answer, IsChecked, IsCheckedPackage};
 ghost use Rattle.go_package_defs.specs.Sources.{Source, source_of};
 ghost use Rattle.go_stmts_limits.specs.Packages.{AllFunctionsWithin};
+ghost use Rattle.go_package_checked.specs.Examples.{Examples};
 ghost use Rattle.go_package_checked.specs.Checked.{HasSettled, PackageIsWithin};
 
 use go_package_settled::laws::{faultless_packages_settle, settled_packages_are_within_limits};
@@ -43,3 +44,9 @@ pub fn checked_packages_are_within_limits()
     limits::written_types_are_within_limits();
     limits::checked_packages_are_within_limits();
 }
+
+/// Worked examples: specifications of constants that need one another in a ring, so that no fault of theirs is reported, and a hole behind them
+/// that has no final type.
+pub fn examples()
+    ensures { Examples }
+{}
