@@ -12,3 +12,10 @@ mod Longer
 mod Blocks
 mod Imports
 mod Lying
+mod Within
+mod Files
+mod Own
+mod Texts
+mod Redeclared
+mod Asks
+mod Faultless

@@ -5,7 +5,7 @@ use Rattle.go_tokens.specs.Tokens.{TokenList}
 use Rattle.go_tokens.specs.declared.token.TokenKind.{TokenKind}
 use Rattle.go_grammar.specs.declared.kind.Category.TheVariants as category
 use Rattle.go_grammar.specs.declared.kind.Kind.TheVariants as kind
-use Rattle.go_grammar.specs.Trees.{Tree, node, Trees, more, first, last}
+use Rattle.go_grammar.specs.Trees.{Tree, node, Trees, first, last}
 use Rattle.go_grammar.specs.Grammar.{IsFile, Derives}
 use Rattle.go_rewriting.specs.Places.{with_declaration}
 use Rattle.go_tree.specs.declared.context.Block.TheVariants as block

@@ -50,7 +50,7 @@ imported_moved k end g j (u ∷ us) = by (imports_fmt u.tokens u.events) (import
 -- ---- the function and its parameters
 
 module _ (k n : ℕ) where
-  parameters_new : (all ps : List Found) → AllByRecursion (IsParameter k n) ps → AllByRecursion (IsParameter k n) (new_among all ps)
+  pub parameters_new : (all ps : List Found) → AllByRecursion (IsParameter k n) ps → AllByRecursion (IsParameter k n) (new_among all ps)
   parameters_new all [] a = tt
   parameters_new all (p ∷ ps) a = by (is_new all p) (parameters_new all ps a.1)
     where
@@ -126,32 +126,32 @@ package_count l (d ∷ ds) = by d.it.block (package_count (numbers_behind l d.it
 -- ---- all
 
 module _ (k n : ℕ) (name : List ℕ) (old new : List Unit) (h : IsAdded k n name old new) (i : LiesIn k n name old new h) where
-  abbrev end : ℕ
+  abbrev pub end : ℕ
   end = h.longer.end
 
-  abbrev g : Gap
+  abbrev pub g : Gap
   g = gap_in k n name old new h
 
-  abbrev front : List Found
+  abbrev pub front : List Found
   front = found_from 0 h.before ++ found_in k h.a.tokens h.a.events
 
-  abbrev rest : List Found
+  abbrev pub rest : List Found
   rest = found_from (suc k) h.behind
 
-  abbrev between : List Found
+  abbrev pub between : List Found
   between = h.longer.function ∷ h.longer.parameters
 
-  abbrev all : List Found
+  abbrev pub all : List Found
   all = map (longer k end) front ++ (between ++ map (longer k end) rest)
 
-  abbrev kept : List Found
+  abbrev pub kept : List Found
   kept = new_among (front ++ rest) front
 
-  abbrev others : List Found
+  abbrev pub others : List Found
   others = new_among (front ++ rest) rest
 
   -- the function is declared, and those of its parameters that have a name
-  abbrev added : List Found
+  abbrev pub added : List Found
   added = h.longer.function ∷ new_among all h.longer.parameters
 
   function_new : is_new all h.longer.function ≡ true
@@ -181,10 +181,10 @@ module _ (k n : ℕ) (name : List ℕ) (old new : List Unit) (h : IsAdded k n na
       false_true : false ≡ true → ⊥
       false_true z = cc
 
-  declarations_were : declarations old ≡ kept ++ others
+  pub declarations_were : declarations old ≡ kept ++ others
   declarations_were = ap (λ ds. new_among ds ds) (found_before k n name old new h i) ∙ new_append (front ++ rest) front rest
 
-  declarations_are : declarations new ≡ map (longer k end) kept ++ (added ++ map (longer k end) others)
+  pub declarations_are : declarations new ≡ map (longer k end) kept ++ (added ++ map (longer k end) others)
   declarations_are =
       ap (λ ds. new_among ds ds) (found_after k n name old new h i)
       ∙ declarations_added k end front between rest (all_apart k n name old new h i front i.front_blocks) (all_apart k n name old new h i rest i.rest_blocks)
@@ -208,16 +208,16 @@ module _ (k n : ℕ) (name : List ℕ) (old new : List Unit) (h : IsAdded k n na
     place = (let c = package_count first_numbers kept in let e = ap (λ ds. (behind first_numbers (new_among ds front)).shared) (found_before k n name old new h i) in omega (arith, c, e));
   }
 
-  abbrev first_meanings : List Meaning
+  abbrev pub first_meanings : List Meaning
   first_meanings = imported_from 0 old ++ numbered first_numbers kept
 
-  abbrev new_meanings : List Meaning
+  abbrev pub new_meanings : List Meaning
   new_meanings = numbered (behind first_numbers kept) added
 
-  abbrev other_meanings : List Meaning
+  abbrev pub other_meanings : List Meaning
   other_meanings = numbered (behind first_numbers kept) others
 
-  meanings_were : meanings old ≡ first_meanings ++ other_meanings
+  pub meanings_were : meanings old ≡ first_meanings ++ other_meanings
   meanings_were =
       ap (λ ds. imported_from 0 old ++ numbered first_numbers (new_among ds ds)) (found_before k n name old new h i)
       ∙ ap (λ ds. imported_from 0 old ++ numbered first_numbers ds) (new_append (front ++ rest) front rest)
@@ -227,7 +227,7 @@ module _ (k n : ℕ) (name : List ℕ) (old new : List Unit) (h : IsAdded k n na
   imports_kept : imported_from 0 new ≡ map (moved k end g) (imported_from 0 old)
   imports_kept = ap (imported_from 0) h.is ∙ imported_same h.a h.b i.imports 0 h.before h.behind ∙ ap (imported_from 0) (sym h.was) ∙ sym (imported_moved k end g 0 old)
 
-  meanings_are : meanings new ≡ map (moved k end g) first_meanings ++ (new_meanings ++ map (moved k end g) other_meanings)
+  pub meanings_are : meanings new ≡ map (moved k end g) first_meanings ++ (new_meanings ++ map (moved k end g) other_meanings)
   meanings_are =
       ap (λ ds. imported_from 0 new ++ numbered first_numbers (new_among ds ds)) (found_after k n name old new h i)
       ∙ ap (λ ds. imported_from 0 new ++ numbered first_numbers ds)
@@ -240,7 +240,7 @@ module _ (k n : ℕ) (name : List ℕ) (old new : List Unit) (h : IsAdded k n na
       ∙ sym (append_assoc (map (moved k end g) (imported_from 0 old)) (map (moved k end g) (numbered first_numbers kept)) (new_meanings ++ map (moved k end g) other_meanings))
       ∙ ap (λ l. l ++ (new_meanings ++ map (moved k end g) other_meanings)) (sym (map_append (moved k end g) (record { name = λ x. refl; extent = λ x. refl }) (imported_from 0 old) (numbered first_numbers kept)))
 
-  new_aside : AreAside k n name end g first_meanings new_meanings other_meanings
+  pub new_aside : AreAside k n name end g first_meanings new_meanings other_meanings
   new_aside =
       let f = h.longer.is_function in
       let ps = parameters_new k n all h.longer.parameters h.longer.are_parameters in

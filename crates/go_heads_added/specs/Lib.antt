@@ -1,3 +1,5 @@
 pub mod Added
 pub mod Appended
 pub mod Examples
+pub mod Within
+pub mod Faults

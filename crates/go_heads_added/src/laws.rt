@@ -1,6 +1,6 @@
 //! Laws of a package with one function more, for the crates above. The functions do nothing: their contracts are the laws.
 
-ghost use Rattle.std.specs.Prelude.{◌≡◌, ℕ, suc, ◌≤◌, false, List, ◌∷◌, ◌++◌, length, map};
+ghost use Rattle.std.specs.Prelude.{◌≡◌, ℕ, suc, ◌≤◌, false, List, [], ◌∷◌, ◌++◌, length, map, None};
 ghost use Rattle.std.specs.List.{AllByRecursion};
 ghost use Rattle.go_tokens.specs.Tokens.{TokenList};
 ghost use Rattle.go_tokens.specs.declared.token.TokenKind.{TokenKind};
@@ -12,12 +12,15 @@ ghost use Rattle.go_rewriting.specs.Places.{with_declaration};
 ghost use Rattle.go_tree.specs.declared.event.Event.{Event};
 ghost use Rattle.go_tree.specs.Contexts.{file_context};
 ghost use Rattle.go_tree.specs.Events.{events, function_declared};
+ghost use Rattle.go_tree.specs.Faults.{reported};
 ghost use Rattle.go_tree.specs.Imports.{imports_fmt};
 ghost use Rattle.go_scopes_events.specs.Orders.{EachDeclared};
 ghost use Rattle.go_tree.specs.Units.{Unit, word, is_blank};
 ghost use Rattle.go_heads_added.specs.Added.{IsAdded, LiesIn, NoneSays, KeepsAll, KeepsDeclared, AreEarlier, BlockWithin, gap_in, reaching};
 ghost use Rattle.go_heads_added.specs.Appended.{AreAdded, HasNames, IsFront, IsParameterOf, IsParsed, TellsMore, context_behind, empty_function, unit_of};
 ghost use Rattle.go_heads_added.specs.Examples.{Examples};
+ghost use Rattle.go_heads_added.specs.Faults.{FunctionIsFine, FileIsWithin, circles};
+ghost use Rattle.go_heads_added.specs.Within.{EventWithin};
 
 use go_scopes_events::laws::locals_stand_in_functions;
 
@@ -29,6 +32,13 @@ pub fn added_names()
         → KeepsAll k n (gap_in k n name old new h) old new }
     ensures declared { (k n : ℕ) (name : List ℕ) (old new : List Unit) (h : IsAdded k n name old new) → LiesIn k n name old new h → NoneSays name old
         → KeepsDeclared k h.longer.end (gap_in k n name old new h) old new }
+{}
+
+/// Behind an appended function whose name no token says, and at which no rule fails, no rule on names fails that did not, where no declaration
+/// needs itself.
+pub fn added_functions_fail_no_rule()
+    ensures { (k n : ℕ) (name : List ℕ) (old new : List Unit) (h : IsAdded k n name old new) → LiesIn k n name old new h → NoneSays name old
+        → FileIsWithin k n name old new h → FunctionIsFine k n name old new h → reported old ≡ None → circles new ≡ [] → reported new ≡ None }
 {}
 
 /// A file with a declaration behind all others tells what it told, to its own end, and then what that declaration tells. This holds of any
@@ -59,6 +69,11 @@ pub fn names_stand_in_files()
 /// The blocks in which a file declares names begin in front of its end.
 pub fn blocks_begin_in_files()
     ensures { (ts : List TokenKind) (t : Tree) (n : ℕ) → IsFile ts t → last t ≤ n → EachDeclared (λ d. BlockWithin n d.block) (events (file_context (last t)) t) }
+{}
+
+/// What a file tells of names, imports, members and missing bodies is of tokens in front of its end.
+pub fn events_stand_in_files()
+    ensures { (ts : List TokenKind) (t : Tree) (n : ℕ) → IsFile ts t → last t ≤ n → AllByRecursion (EventWithin n) (events (file_context (last t)) t) }
 {}
 
 /// A file with a declaration behind all others, the tokens in front of which say what they said, imports what it imported.

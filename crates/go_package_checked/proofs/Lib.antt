@@ -1,1 +1,6 @@
 mod Stages
+mod Failing
+mod Shapes
+mod Rights
+mod Environments
+mod Examples

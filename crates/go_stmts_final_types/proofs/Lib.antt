@@ -35,3 +35,4 @@ mod Sources
 mod Bodies
 mod Named
 mod Examples
+mod Fewer

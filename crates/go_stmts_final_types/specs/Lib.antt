@@ -5,3 +5,4 @@ pub mod Packages
 pub mod Names
 pub mod PackageNames
 pub mod Examples
+pub mod Fewer

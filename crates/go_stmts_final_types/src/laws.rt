@@ -1,17 +1,22 @@
 //! Laws of final types, for the crates above. The functions do nothing: their contracts are the laws.
 
-ghost use Rattle.std.specs.Prelude.{◌≡◌, ℕ, false, List, map, Ok};
+ghost use Rattle.std.specs.Prelude.{◌≡◌, ℕ, ◌⊎◌, true, false, List, map, Ok};
 ghost use Rattle.go_tokens.specs.declared.token.TokenKind.{TokenKind};
 ghost use Rattle.go_grammar.specs.declared.kind.Category.{Category};
 ghost use Rattle.go_grammar.specs.declared.kind.Category.TheVariants as category;
 ghost use Rattle.go_grammar.specs.Grammar.{Derives};
 ghost use Rattle.go_grammar.specs.Trees.{Tree};
+ghost use Rattle.go_tree.specs.declared.object.Object.{Object};
 ghost use Rattle.go_typed.specs.Contents.{FuncContent, content};
+ghost use Rattle.go_typed.specs.Trees.{sort_of};
 ghost use Rattle.go_typed.specs.Packages.{PackageView};
 ghost use Rattle.go_package_defs.specs.Checked.{IsCheckedPackage};
 ghost use Rattle.go_package_defs.specs.Sources.{source_of};
 ghost use Rattle.go_stmts_final_types.specs.Packages.{AllTyped};
-ghost use Rattle.go_exprs_rules.specs.Scopes.{Scope, free};
+ghost use Rattle.go_exprs_rules.specs.Scopes.{Needed, Scope, Hint, free};
+ghost use Rattle.go_exprs_rules.specs.Sorts.{Stands, is_unknown};
+ghost use Rattle.go_exprs_rules.specs.Typing.{typing};
+ghost use Rattle.go_stmts_final_types.specs.Fewer.{KnowsLess, knowing};
 ghost use Rattle.go_stmts_defs.specs.Bodies.{based, start, body_answer};
 ghost use Rattle.go_stmts_final_types.specs.Examples.{Examples};
 ghost use Rattle.go_stmts_final_types.specs.Holes.{HolesTyped};
@@ -22,7 +27,14 @@ ghost use Rattle.go_stmts_final_types.specs.Shapes.{IsShaped};
 
 /// A derivation has the kinds that its grammar gives it, wherever its tokens are counted from.
 pub fn derivations_are_shaped()
-    ensures { (ts : List TokenKind) (c : Category) (b : ℕ) (t : Tree) → Derives ts c t → IsShaped c (based b t) }
+    ensures here { (ts : List TokenKind) (c : Category) (t : Tree) → Derives ts c t → IsShaped c t }
+    ensures based { (ts : List TokenKind) (c : Category) (b : ℕ) (t : Tree) → Derives ts c t → IsShaped c (based b t) }
+{}
+
+/// A type is typed the same in a scope in which less is known, or stands for nothing known there: what isn't known is not judged.
+pub fn less_known_types_are_the_same()
+    ensures { (s : Scope) (sorts : Needed → Object → Stands) (h : Hint) (t : Tree) → KnowsLess s sorts → IsShaped category.Type t
+        → (typing s h t ≡ typing (knowing s sorts) h t) ⊎ (is_unknown (sort_of (typing s h t)) ≡ true) }
 {}
 
 /// In a function without faults whose names stand for something known each hole is a constant of a final type.

@@ -76,14 +76,14 @@ fewer m n c l = by (nat_eq c 0)
     by true = l
     by false = times
 
-module _ (limit s : Scope) (a : JudgesWithin limit s) where
+module _ (limit s : Scope) (judged : s.limits ≡ true) (counted : (t : TypeTree) (n : ℕ) → scalars_of limit.rights t ≡ Some n → scalars_of s.rights t ≡ Some n) where
   passes : (n : ℕ) (t : TypeTree) → exceeds (scalars_of s.rights (array n t)) ≡ false → exceeds (scalars_of limit.rights (array (kept_length n) t)) ≡ false
   passes n t e = by (scalars_of limit.rights t) refl
     where
       by : (o : Option ℕ) → scalars_of limit.rights t ≡ o → exceeds (option_map (array_scalars (kept_length n)) o) ≡ false
       by None h = refl
       by (Some c) h =
-          let f : nat_lt most_scalars (array_scalars n c) ≡ false = sym (ap (λ o. exceeds (option_map (array_scalars n) o)) (a.counted t c h)) ∙ e in
+          let f : nat_lt most_scalars (array_scalars n c) ≡ false = sym (ap (λ o. exceeds (option_map (array_scalars n) o)) (counted t c h)) ∙ e in
           not_over most_scalars (array_scalars (kept_length n) c) (array_scalars n c) (fewer (kept_length n) n c (kept_most n)) f
 
   -- ---- where no rule fails
@@ -113,13 +113,13 @@ module _ (limit s : Scope) (a : JudgesWithin limit s) where
   slice_within None w = tt
   slice_within (Some t) w = w
 
-  pub sequence_within : (i j : ℕ) (n e : Option Part) → MaybePart limit e → sequence_failing s.rights s.limits i j n e ≡ [] → MaybeWithin limit (sequence_type n (part_type e))
-  sequence_within i j None e w f = slice_within (part_type e) (part_type_within limit e w)
+  pub sequence_within : (i j : ℕ) (n e : Option Part) → MaybeWithin limit (part_type e) → sequence_failing s.rights s.limits i j n e ≡ [] → MaybeWithin limit (sequence_type n (part_type e))
+  sequence_within i j None e w f = slice_within (part_type e) w
   sequence_within i j (Some n) e w f =
       let c = length_in (constant_of (sort_of n)) in
       let g : limit_failing s.rights s.limits i j c (part_type e) ≡ [] =
       limit_alone (is_constant (sort_of n) && is_whole s.rights (sort_of n)) (is_negative (constant_of (sort_of n))) n (unrepresented s.rights int n) (limit_failing s.rights s.limits i j c (part_type e)) f in
-      array_within i j c (part_type e) (part_type_within limit e w) (subst (λ b. limit_failing s.rights b i j c (part_type e) ≡ []) a.judged g)
+      array_within i j c (part_type e) w (subst (λ b. limit_failing s.rights b i j c (part_type e) ≡ []) judged g)
 
 -- a node that stands for something is judged, and no rule of its own fails
 pub none_failing : (b : Bool) (fs gs : List TypeFault) → (b && no_faults (cond b (or_else fs gs) [])) ≡ true → fs ≡ []

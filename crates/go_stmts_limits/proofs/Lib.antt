@@ -17,3 +17,5 @@ mod Packages
 mod Renamed
 mod Longer
 mod Examples
+mod Unjudged
+mod Written

@@ -241,7 +241,7 @@ module _ (limit s : Scope) (a : JudgesWithin limit s) where
 
   sequence_sort_within : (i j : ℕ) (ys : Parts) → PartsWithin limit ys → on_optional [] (sequence_failing s.rights s.limits i j) ys ≡ []
       → StandsIsWithin limit (on_optional sort.Unknown (λ n e. type_sort (sequence_type n (part_type e))) ys)
-  sequence_sort_within i j (x ∷ y ∷ []) v e = type_sort_within limit (sequence_type x (part_type y)) (sequence_within limit s a i j x y v.1.0 e)
+  sequence_sort_within i j (x ∷ y ∷ []) v e = type_sort_within limit (sequence_type x (part_type y)) (sequence_within limit s a.judged a.counted i j x y (part_type_within limit y v.1.0) e)
   sequence_sort_within i j ys v e = tt
 
   abbrev Sound : Kind → Hint → ℕ → ℕ → Parts → Bool

@@ -138,7 +138,7 @@ module _ (limit : Scope) where
       (part_type_within (second (list_of (parts_of x))) (second_within (list_of (parts_of x)) (list_within (parts_of x) (inner_within x w))))
       (entry_type_within (sort_of x) o (sort_within x w) h)
 
-  first_within : (os : List (Option TypeTree)) → EntriesWithin os → MaybeWithin limit (first_entry os)
+  pub first_within : (os : List (Option TypeTree)) → EntriesWithin os → MaybeWithin limit (first_entry os)
   first_within [] w = tt
   first_within (o ∷ os) w = w.0
 
@@ -147,7 +147,7 @@ module _ (limit : Scope) where
   entries_within (None ∷ xs) w = entries_within xs w.1
   entries_within (Some x ∷ xs) w = (entry_within x (first_entry (entry_types xs)) w.0 (first_within (entry_types xs) (entries_within xs w.1)), entries_within xs w.1)
 
-  abbrev RowOf : Option (List TypeTree) → Type 0
+  abbrev pub RowOf : Option (List TypeTree) → Type 0
   RowOf None = Unit {0}
   RowOf (Some ts) = RowIsWithin limit (row ts)
 
@@ -155,7 +155,7 @@ module _ (limit : Scope) where
   front_within (Some t) (Some ts) w h = (w, h)
   front_within o ts w h = tt
 
-  all_within : (os : List (Option TypeTree)) → EntriesWithin os → RowOf (all_types os)
+  pub all_within : (os : List (Option TypeTree)) → EntriesWithin os → RowOf (all_types os)
   all_within [] w = tt
   all_within (o ∷ os) w = front_within o (all_types os) w.0 (all_within os w.1)
 
@@ -169,7 +169,7 @@ module _ (limit : Scope) where
   parts_in_within None w = tt
   parts_in_within (Some x) w = list_within (parts_of x) (inner_within x w)
 
-  function_within : (ps rs : Option (List TypeTree)) → RowOf ps → RowOf rs → MaybeWithin limit (function_of ps rs)
+  pub function_within : (ps rs : Option (List TypeTree)) → RowOf ps → RowOf rs → MaybeWithin limit (function_of ps rs)
   function_within (Some ps) (Some rs) w h = (w, h)
   function_within ps rs w h = tt
 
@@ -178,11 +178,11 @@ module _ (limit : Scope) where
       function_within (all_types (entry_types (parts_in ps))) (all_types (result_types rs))
       (all_within (entry_types (parts_in ps)) (entries_within (parts_in ps) (parts_in_within ps w))) (all_within (result_types rs) (results_within rs h))
 
-  abbrev FieldsWithin : Fields → Type 0
+  abbrev pub FieldsWithin : Fields → Type 0
   FieldsWithin [] = Unit {0}
   FieldsWithin (f ∷ fs) = IsWithin limit f.1 × FieldsWithin fs
 
-  line_within : (ns : List (List ℕ)) (o : Option TypeTree) (fs : Fields) → MaybeWithin limit o → FieldsWithin fs → FieldsWithin (fields_of ns o fs)
+  pub line_within : (ns : List (List ℕ)) (o : Option TypeTree) (fs : Fields) → MaybeWithin limit o → FieldsWithin fs → FieldsWithin (fields_of ns o fs)
   line_within [] o fs w h = h
   line_within (n ∷ ns) None fs w h = h
   line_within (n ∷ ns) (Some t) fs w h = (w, line_within ns (Some t) fs w h)
@@ -195,7 +195,7 @@ module _ (limit : Scope) where
       (fields_within texts (ns ++ texts (first_of x) ∷ []) xs w.1)
       (line_within ns (named_type (sort_of x)) (fields_from texts [] xs) (named_within (sort_of x) (sort_within x w.0)) (fields_within texts [] xs w.1))
 
-  types_within : (fs : Fields) → FieldsWithin fs → RowIsWithin limit (row (types_of fs))
+  pub types_within : (fs : Fields) → FieldsWithin fs → RowIsWithin limit (row (types_of fs))
   types_within [] w = tt
   types_within (f ∷ fs) w = (w.0, types_within fs w.1)
 

@@ -2,3 +2,4 @@ pub mod Limits
 pub mod Packages
 pub mod Longer
 pub mod Examples
+pub mod Written

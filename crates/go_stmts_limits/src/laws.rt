@@ -1,7 +1,8 @@
 //! Laws of the limit on scalars, for the crates above. The functions do nothing: their contracts are the laws.
 
-ghost use Rattle.std.specs.Prelude.{◌≡◌, ℕ, ◌<◌, true, List, length, map, slice_get, Some, Ok};
+ghost use Rattle.std.specs.Prelude.{◌≡◌, ℕ, ◌<◌, true, List, [], length, map, slice_get, Some, Ok};
 ghost use Rattle.go_base.specs.declared.bytes.FileText.{FileText};
+ghost use Rattle.go_grammar.specs.declared.kind.Category.TheVariants as category;
 ghost use Rattle.go_grammar.specs.Trees.{Tree};
 ghost use Rattle.go_tree.specs.Uses.{UsesView};
 ghost use Rattle.go_types.specs.Trees.{TypeTree};
@@ -10,7 +11,13 @@ ghost use Rattle.go_typed.specs.Contents.{FuncContent, Content, content};
 ghost use Rattle.go_typed.specs.Packages.{PackageView};
 ghost use Rattle.go_print_laws.specs.Reading.{IsWithin};
 ghost use Rattle.go_exprs_rules.specs.declared.fault.TypeFault.{TypeFault};
-ghost use Rattle.go_exprs_rules.specs.Scopes.{Scope};
+ghost use Rattle.go_typed.specs.Trees.{sort_of};
+ghost use Rattle.go_exprs_rules.specs.Faults.{joined};
+ghost use Rattle.go_exprs_rules.specs.Scopes.{Scope, Hint};
+ghost use Rattle.go_exprs_rules.specs.Sorts.{named_type};
+ghost use Rattle.go_exprs_rules.specs.Typing.{typing, faults};
+ghost use Rattle.go_stmts_final_types.specs.Shapes.{IsShaped};
+ghost use Rattle.go_stmts_limits.specs.Written.{unjudged, TypeIsWithin, NamesTypesWithin};
 ghost use Rattle.go_exprs_rules.specs.TypeNodes.{part_type};
 ghost use Rattle.go_stmts_defs.specs.Bodies.{body_answer};
 ghost use Rattle.go_package_defs.specs.Answer.{Environment, specifications, package_answer, environment_of};
@@ -68,6 +75,19 @@ pub fn checked_packages_are_within_limits()
     ensures renamed { (p : PackageView) (h : IsCheckedPackage p) (limit other : Scope) (t : Typing) → sources_answer (map source_of h.checked.files) ≡ Ok t
         → EnvironmentIsWithin limit t.environment → AreRenamed h.same.0 limit.rights other.rights → other.limits ≡ limit.limits
         → AllFunctionsWithin other (content p).functions }
+{
+    functions_are_the_relations();
+}
+
+/// Where no rule fails, a tree is typed the same where the limit on scalars isn't judged.
+pub fn unjudged_types_are_the_same()
+    ensures { (s : Scope) (h : Hint) (t : Tree) → s.limits ≡ true → joined (faults s h t) ≡ [] → typing (unjudged s) h t ≡ typing s h t }
+{}
+
+/// A type that is written where the limit on scalars is judged is within it, where the types are that its names stand for. Nothing is asked of
+/// right sides, so it may be a right side itself.
+pub fn written_types_are_within_limits()
+    ensures { (limit s : Scope) (h : Hint) (t : Tree) → NamesTypesWithin limit s → IsShaped category.Type t → TypeIsWithin limit (named_type (sort_of (typing s h t))) }
 {
     functions_are_the_relations();
 }

@@ -1,0 +1,5 @@
+use Rattle.go_heads_added.proofs.Faultless.{faultless}
+use Rattle.go_heads_added.proofs.laws.added_functions_fail_no_rule.Goals as goal
+
+pub returns : goal.returns
+returns c k n name old new h i q w f z x = faultless k n name old new h i q w f z x
