@@ -1,0 +1,12 @@
+mod Fit
+mod Lying
+mod Stays
+mod Ascends
+mod Walk
+mod Walked
+mod Whole
+mod Functions
+mod Replaced
+mod Texts
+mod Itself
+mod DerivedSites
