@@ -21,6 +21,7 @@ use Rattle.go_grammar.specs.Trees.{Tree, node, Trees, none, more, skip, kind_of,
 use Rattle.go_grammar.proofs.Public.{words_order, gap_order, between_order, derives_grows}
 use Rattle.go_scopes_events.proofs.Public.{and_both, true_false, is_top}
 use Rattle.go_scopes_bodies.specs.Listed.{is_specification}
+use Rattle.extract_names.specs.Pieces.{leads_to_lists}
 
 -- ---- kinds
 
@@ -73,6 +74,13 @@ may_hold k kind.FunctionDeclaration = is_file k
 may_hold k (kind.Specification s) = holds_specifications k
 may_hold k kind.Values = is_specification k
 may_hold k kind.TypedValues = is_specification k
+may_hold k kind.Block = leads_to_lists k
+may_hold k kind.If = leads_to_lists k
+may_hold k kind.Else = leads_to_lists k
+may_hold k kind.Switch = leads_to_lists k
+may_hold k kind.Case = leads_to_lists k
+may_hold k kind.Default = leads_to_lists k
+may_hold k kind.For = leads_to_lists k
 may_hold k l = true
 
 -- The parts rise, with a token between each two.
@@ -92,9 +100,20 @@ WordsBehind none = Unit {0}
 WordsBehind (more p ps) = AllWords ps
 WordsBehind (skip ps) = AllWords ps
 
+-- The expressions of a clause hold no lists.
+abbrev pub CaseFits : ℕ → Trees → Type 0
+CaseFits i none = ⊥
+CaseFits i (more e ps) = (leads_to_lists (kind_of e) ≡ false) × (suc i ≤ first e) × Rises (suc (last e)) ps
+CaseFits i (skip ps) = ⊥
+
+pub case_rises : (i : ℕ) (ps : Trees) → CaseFits i ps → Rises (suc i) ps
+case_rises i none h = absurd h
+case_rises i (more e ps) h = (h.1, h.2)
+case_rises i (skip ps) h = absurd h
+
 abbrev pub ListFits : Kind → ℕ → Trees → Type 0
 ListFits kind.Block i ps = Rises (suc i) ps
-ListFits kind.Case i ps = Rises (suc i) ps
+ListFits kind.Case i ps = CaseFits i ps
 ListFits kind.Default i ps = Rises (suc i) ps
 ListFits kind.FunctionDeclaration i ps = WordsBehind ps
 ListFits kind.If i ps = WordsBehind ps
@@ -171,6 +190,11 @@ suits k (category.DeclarationBody s) = holds_specifications k
 suits k (category.Specification s) = holds_specifications k
 suits k category.ConstantRest = is_specification k
 suits k category.VariableRest = is_specification k
+suits k category.Block = leads_to_lists k
+suits k category.Else = leads_to_lists k
+suits k category.Branch = leads_to_lists k
+suits k category.Clause = leads_to_lists k
+suits k category.Statement = leads_to_lists k
 suits k c = true
 
 abbrev all_suit : Kind → Rule → Bool
@@ -233,12 +257,71 @@ specification_in k (category.LiteralType place.Free) s e h = absurd (true_false 
 specification_in k (category.LiteralType place.Header) s e h = absurd (true_false false h refl)
 specification_in k c s e h = absurd (true_false false h refl)
 
+block_in : (k : Kind) (c : Category) → suits k c ≡ true → within c kind.Block ≡ true → leads_to_lists k ≡ true
+block_in k category.Block e h = e
+block_in k category.Branch e h = e
+block_in k category.Statement e h = e
+block_in k (category.Expression l p) e h = absurd (true_false (nat_le (rank l) 0) h (above_none l))
+block_in k (category.LiteralType place.Free) e h = absurd (true_false false h refl)
+block_in k (category.LiteralType place.Header) e h = absurd (true_false false h refl)
+block_in k c e h = absurd (true_false false h refl)
+
+if_in : (k : Kind) (c : Category) → suits k c ≡ true → within c kind.If ≡ true → leads_to_lists k ≡ true
+if_in k category.Branch e h = e
+if_in k category.Statement e h = e
+if_in k (category.Expression l p) e h = absurd (true_false (nat_le (rank l) 0) h (above_none l))
+if_in k (category.LiteralType place.Free) e h = absurd (true_false false h refl)
+if_in k (category.LiteralType place.Header) e h = absurd (true_false false h refl)
+if_in k c e h = absurd (true_false false h refl)
+
+else_in : (k : Kind) (c : Category) → suits k c ≡ true → within c kind.Else ≡ true → leads_to_lists k ≡ true
+else_in k category.Else e h = e
+else_in k (category.Expression l p) e h = absurd (true_false (nat_le (rank l) 0) h (above_none l))
+else_in k (category.LiteralType place.Free) e h = absurd (true_false false h refl)
+else_in k (category.LiteralType place.Header) e h = absurd (true_false false h refl)
+else_in k c e h = absurd (true_false false h refl)
+
+switch_in : (k : Kind) (c : Category) → suits k c ≡ true → within c kind.Switch ≡ true → leads_to_lists k ≡ true
+switch_in k category.Statement e h = e
+switch_in k (category.Expression l p) e h = absurd (true_false (nat_le (rank l) 0) h (above_none l))
+switch_in k (category.LiteralType place.Free) e h = absurd (true_false false h refl)
+switch_in k (category.LiteralType place.Header) e h = absurd (true_false false h refl)
+switch_in k c e h = absurd (true_false false h refl)
+
+case_in : (k : Kind) (c : Category) → suits k c ≡ true → within c kind.Case ≡ true → leads_to_lists k ≡ true
+case_in k category.Clause e h = e
+case_in k (category.Expression l p) e h = absurd (true_false (nat_le (rank l) 0) h (above_none l))
+case_in k (category.LiteralType place.Free) e h = absurd (true_false false h refl)
+case_in k (category.LiteralType place.Header) e h = absurd (true_false false h refl)
+case_in k c e h = absurd (true_false false h refl)
+
+default_in : (k : Kind) (c : Category) → suits k c ≡ true → within c kind.Default ≡ true → leads_to_lists k ≡ true
+default_in k category.Clause e h = e
+default_in k (category.Expression l p) e h = absurd (true_false (nat_le (rank l) 0) h (above_none l))
+default_in k (category.LiteralType place.Free) e h = absurd (true_false false h refl)
+default_in k (category.LiteralType place.Header) e h = absurd (true_false false h refl)
+default_in k c e h = absurd (true_false false h refl)
+
+for_in : (k : Kind) (c : Category) → suits k c ≡ true → within c kind.For ≡ true → leads_to_lists k ≡ true
+for_in k category.Statement e h = e
+for_in k (category.Expression l p) e h = absurd (true_false (nat_le (rank l) 0) h (above_none l))
+for_in k (category.LiteralType place.Free) e h = absurd (true_false false h refl)
+for_in k (category.LiteralType place.Header) e h = absurd (true_false false h refl)
+for_in k c e h = absurd (true_false false h refl)
+
 suited : (k : Kind) (c : Category) (l : Kind) → suits k c ≡ true → within c l ≡ true → may_hold k l ≡ true
 suited k c kind.File e h = absurd (true_false (within c kind.File) h (file_out k c e))
 suited k c kind.FunctionDeclaration e h = function_in k c e h
 suited k c (kind.Specification s) e h = specification_in k c s e h
 suited k c kind.Values e h = values_in k c e h
 suited k c kind.TypedValues e h = typed_values_in k c e h
+suited k c kind.Block e h = block_in k c e h
+suited k c kind.If e h = if_in k c e h
+suited k c kind.Else e h = else_in k c e h
+suited k c kind.Switch e h = switch_in k c e h
+suited k c kind.Case e h = case_in k c e h
+suited k c kind.Default e h = default_in k c e h
+suited k c kind.For e h = for_in k c e h
 suited k c l e h = refl
 
 -- ---- words behind the first part
@@ -370,11 +453,15 @@ module _ (ts : List TokenKind) where
   words_behind ps (Unless ws c us r) i j e h = absurd (true_false false e refl)
   words_behind ps (Many ws l) i j e h = absurd (true_false false e refl)
 
+  expressions_lead : (e : Tree) (q : Place) → Derives ts (category.ExpressionList q) e → leads_to_lists (kind_of e) ≡ false
+  expressions_lead (node kind.ExpressionList i j ps) q h = refl
+  expressions_lead (node k i j ps) q h = absurd cc
+
   list_fits : (q : Place) (k : Kind) (ps : Trees) (i j : ℕ) → Spells ts (rule q k) i ps j → ListFits k i ps
   list_fits q kind.Block ps i j h = items_rise ps _ _ i j refl refl h
   list_fits q kind.Default ps i j h = items_rise ps _ _ i j refl refl h
   list_fits q kind.Case none i j h = absurd h
-  list_fits q kind.Case (more e ps) i j h = (words_low (suc i) i (first e) (token.Case ∷ []) (inr (refl, refl)) h.0, items_rise ps _ _ (last e) j refl refl h.2)
+  list_fits q kind.Case (more e ps) i j h = (expressions_lead e place.Free h.1, words_low (suc i) i (first e) (token.Case ∷ []) (inr (refl, refl)) h.0, items_rise ps _ _ (last e) j refl refl h.2)
   list_fits q kind.Case (skip ps) i j h = absurd h
   list_fits q kind.FunctionDeclaration ps i j h = words_behind ps (rule q kind.FunctionDeclaration) i j refl h
   list_fits q kind.If ps i j h = words_behind ps (rule q kind.If) i j refl h

@@ -9,4 +9,6 @@ mod Functions
 mod Replaced
 mod Texts
 mod Itself
+mod Paths
+mod Ranges
 mod DerivedSites

@@ -15,7 +15,7 @@ use Rattle.extract_names.specs.Gaps.{Gap, ranges, Among, AtEdge}
 use Rattle.extract_names.specs.Pieces.{leads_to_lists, pieces, row_pieces, case_pieces, list_pieces}
 use Rattle.extract_names.specs.Sites.{EachEvent, EventStays}
 use Rattle.extract_names_derived.specs.Patches.{InLists, InParts, InCase, InList}
-use Rattle.extract_names_derived.proofs.Fit.{front, AreFit, Rises, AllWords, WordsBehind, ListFits, front_from, front_below, word_front}
+use Rattle.extract_names_derived.proofs.Fit.{case_rises, front, AreFit, Rises, AllWords, WordsBehind, ListFits, front_from, front_below, word_front}
 use Rattle.extract_names_derived.proofs.Lying.{each_event_append}
 use Rattle.extract_names_derived.proofs.Stays.{Aside, edge_by}
 use Rattle.extract_names_derived.proofs.Ascends.{split_gaps, no_gaps, among_append, ascend_member, ascend_tree, ascend_parts, ascend_list, lie_front, run_lies, fit_behind, rises_behind}
@@ -178,7 +178,7 @@ mutual
   walk_tree all v c (node kind.Case i j ps) (inside qs) gs h p l e f =
       let asc : Ascending (suc i) (ranges gs) j = subst (λ z. Ascending (suc i) z j) e (ascend_tree (node kind.Case i j ps) (inside qs) p.laid p.fit l) in
       let edges = node_edge all (suc i) i j gs (omega arith) (omega arith) p.laid.0 asc f in
-      (statement_stays all c.listed i j, walk_case all v c i j ps qs gs edges.0 edges.1 h p.laid.0 p.laid.1 p.fit.0 p.fit.1 l e f)
+      (statement_stays all c.listed i j, walk_case all v c i j ps qs gs edges.0 edges.1 h p.laid.0 p.laid.1 (case_rises i ps p.fit.0) p.fit.1 l e f)
   walk_tree all v c (node k i j ps) (inside qs) gs h p l e f =
       let asc : Ascending (front k i) (ranges gs) j = subst (λ z. Ascending (front k i) z j) e (ascend_tree (node k i j ps) (inside qs) p.laid p.fit l) in
       let w : WordsBehind ps = list_words k i ps l.0 p.fit.0 (λ x. cc) (λ x. cc) (λ x. cc) in
