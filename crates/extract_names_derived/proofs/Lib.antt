@@ -11,4 +11,5 @@ mod Texts
 mod Itself
 mod Paths
 mod Ranges
+mod Apart
 mod DerivedSites

@@ -26,7 +26,7 @@ get_right (u ∷ us) ws k =
     let e : length (u ∷ us) + k ≡ suc (length us + k) = omega arith in
     ap (slice_get ((u ∷ us) ++ ws)) e ∙ get_right us ws k
 
-get_drop : {A : Type 0} (n : ℕ) (us : List A) (k : ℕ) → slice_get (drop n us) k ≡ slice_get us (n + k)
+pub get_drop : {A : Type 0} (n : ℕ) (us : List A) (k : ℕ) → slice_get (drop n us) k ≡ slice_get us (n + k)
 get_drop zero us k = ap (slice_get us) (omega arith)
 get_drop (suc n) [] k = refl
 get_drop (suc n) (u ∷ us) k =

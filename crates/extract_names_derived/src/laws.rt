@@ -1,6 +1,6 @@
 //! Laws, for the crates above. The functions do nothing: their contracts are the laws.
 
-ghost use Rattle.std.specs.Prelude.{◌≡◌, ℕ, List};
+ghost use Rattle.std.specs.Prelude.{◌≡◌, ℕ, List, Some, slice_get};
 ghost use Rattle.go_tokens.specs.declared.token.TokenKind.{TokenKind};
 ghost use Rattle.go_grammar.specs.declared.kind.Category.TheVariants as category;
 ghost use Rattle.go_grammar.specs.declared.kind.Kind.TheVariants as kind;
@@ -8,14 +8,26 @@ ghost use Rattle.go_grammar.specs.Grammar.{Derives};
 ghost use Rattle.go_grammar.specs.Trees.{Tree, kind_of};
 ghost use Rattle.go_rewriting.specs.Places.{Ascending};
 ghost use Rattle.go_rewriting.specs.Sites.{Site, site_ranges};
-ghost use Rattle.go_heads.specs.Functions.{Alone};
+ghost use Rattle.go_heads.specs.Functions.{Alone, AreRead, Function, all_functions, function_alone};
+ghost use Rattle.go_heads.specs.Heads.{File};
+ghost use Rattle.go_heads.specs.Locals.{AreNamed};
 ghost use Rattle.go_scopes_bodies.specs.Meant.{Outer};
 ghost use Rattle.extract_names.specs.Gaps.{Gap};
 ghost use Rattle.extract_names.specs.Sites.{IsSite};
+ghost use Rattle.extract_names_derived.specs.Functions.{IsDerivedFunction, own_kinds};
 ghost use Rattle.extract_names_derived.specs.Patches.{ReplaceRuns, PatchesRuns};
 ghost use Rattle.extract_names_derived.specs.Sites.{IsRewritten, IsChosen};
 
+use go_rewriting::laws::text_stands_elsewhere;
 use go_scopes_bodies::laws::lists_tell_each_statement;
+
+/// Each function of a package whose files are read is derived by itself, wherever it stands in its file (Go specification: Function
+/// declarations).
+pub fn functions_by_themselves_are_derived()
+    ensures { (fs : List File) (k : ℕ) (f : Function) → AreRead fs → AreNamed fs → slice_get (all_functions fs) k ≡ Some f → IsDerivedFunction (own_kinds f) (function_alone f) }
+{
+    text_stands_elsewhere();
+}
 
 /// Runs of statements that paths lead to in a derived function, one behind the other, are replaced by one patch: it replaces runs in lists of
 /// statements alone, and its places are those of the runs (Go specification: Blocks, Statement lists).
