@@ -28,6 +28,7 @@ use Rattle.go_stmts_scopes.proofs.Variables.{variables_read}
 use Rattle.go_stmts_scopes.proofs.Headers.{FirstOr, OperandOr, IsCondition, IsTag, condition_read, tag_read}
 use Rattle.go_stmts_scopes.proofs.Rows.{AllStated, row_stated, one_stated, simple_statement, if_row, block_row, values_read, case_row, default_row, IsBehind, AllClauses, one_clause, clauses_row}
 use Rattle.go_stmts_scopes.proofs.Loops.{IsLoopHeader, IsBody, header_read, header_row, endless_row, HoldsValues}
+use Rattle.go_stmts_scopes.proofs.Never.{never}
 
 pub first_statement : (x : Part) → IsFirst x → IsStatement x
 first_statement (typed (form.Define n) i j l ps) h = h
@@ -102,7 +103,8 @@ bodiless_row s i j (e ∷ es) = (refl, tt)
 
 -- ---- groups of variables
 
-pub variables_group : (s : Frame) (h : Hint) (all : Trees) (xs : Parts) (fs : Found) (ps : Trees) → AllShaped (category.Specification declaring.Variable) ps → AllStated xs → AllStated (parts_in (readings s (kind.Group declaring.Variable) h all xs fs ps))
+pub variables_group : (s : Frame) (h : Hint) (all : Trees) (xs : Parts) (fs : Found) (ps : Trees) → AllShaped (category.Specification declaring.Variable) ps → AllStated xs
+    → AllStated (parts_in (readings s (kind.Group declaring.Variable) h all xs fs ps))
 variables_group s h all xs fs syntax.none g e = e
 variables_group s h all xs fs (syntax.more p ps) g e =
     let r : Reading = reading s value p in
@@ -128,7 +130,7 @@ body_read s h (node (kind.Specification declaring.Variable) i j ps) g =
 body_read s h (node (kind.Group declaring.Variable) i j ps) g =
     closed_shape HasSpecifications s (kind.Group declaring.Variable) i j ps (readings s (kind.Group declaring.Variable) h ps [] [] ps)
     (λ u es. group_row u i j (parts_in (readings s (kind.Group declaring.Variable) h ps [] [] ps)) es (variables_group s h ps [] [] ps (many_shaped _ _ ps g.1) tt))
-body_read s h (node k i j ps) g = let z = g.0 in cc
+body_read s h (node k i j ps) g = absurd (never g.0)
 
 -- ---- statements
 
@@ -144,11 +146,15 @@ mutual
   statement_read s h (node kind.Return i j ps) g = let t : Tree = node kind.Return i j ps in simple_statement (tree_in (reading s h t)) (reading_simple s h t (return_tree category.Statement i j ps g))
   statement_read s h (node kind.Define i j ps) g = first_statement (tree_in (reading s h (node kind.Define i j ps))) (define_read category.Statement s h i j ps g)
   statement_read s h (node kind.Break i j ps) g = closed_shape IsStatement s kind.Break i j ps (readings s kind.Break h ps [] [] ps) (λ u es. break_done u i j (layout u kind.Break i (parts_in (readings s kind.Break h ps [] [] ps))) es)
-  statement_read s h (node kind.Continue i j ps) g = closed_shape IsStatement s kind.Continue i j ps (readings s kind.Continue h ps [] [] ps) (λ u es. continue_done u i j (layout u kind.Continue i (parts_in (readings s kind.Continue h ps [] [] ps))) es)
-  statement_read s h (node kind.Fallthrough i j ps) g = closed_shape IsStatement s kind.Fallthrough i j ps (readings s kind.Fallthrough h ps [] [] ps) (λ u es. fallthrough_done u i j (layout u kind.Fallthrough i (parts_in (readings s kind.Fallthrough h ps [] [] ps))) es)
+  statement_read s h (node kind.Continue i j ps) g = closed_shape IsStatement s kind.Continue i j ps (readings s kind.Continue h ps [] [] ps)
+      (λ u es. continue_done u i j (layout u kind.Continue i (parts_in (readings s kind.Continue h ps [] [] ps))) es)
+  statement_read s h (node kind.Fallthrough i j ps) g = closed_shape IsStatement s kind.Fallthrough i j ps (readings s kind.Fallthrough h ps [] [] ps)
+      (λ u es. fallthrough_done u i j (layout u kind.Fallthrough i (parts_in (readings s kind.Fallthrough h ps [] [] ps))) es)
   statement_read s h (node (kind.Declaration declaring.Constant) i j ps) g =
-      closed_shape IsStatement s (kind.Declaration declaring.Constant) i j ps (readings s (kind.Declaration declaring.Constant) h ps [] [] ps) (λ u es. constants_done u i j (layout u (kind.Declaration declaring.Constant) i (parts_in (readings s (kind.Declaration declaring.Constant) h ps [] [] ps))) es)
-  statement_read s h (node (kind.Declaration declaring.Type) i j ps) g = closed_shape IsStatement s (kind.Declaration declaring.Type) i j ps (readings s (kind.Declaration declaring.Type) h ps [] [] ps) (λ u es. types_done u i j (layout u (kind.Declaration declaring.Type) i (parts_in (readings s (kind.Declaration declaring.Type) h ps [] [] ps))) es)
+      closed_shape IsStatement s (kind.Declaration declaring.Constant) i j ps (readings s (kind.Declaration declaring.Constant) h ps [] [] ps)
+      (λ u es. constants_done u i j (layout u (kind.Declaration declaring.Constant) i (parts_in (readings s (kind.Declaration declaring.Constant) h ps [] [] ps))) es)
+  statement_read s h (node (kind.Declaration declaring.Type) i j ps) g = closed_shape IsStatement s (kind.Declaration declaring.Type) i j ps (readings s (kind.Declaration declaring.Type) h ps [] [] ps)
+      (λ u es. types_done u i j (layout u (kind.Declaration declaring.Type) i (parts_in (readings s (kind.Declaration declaring.Type) h ps [] [] ps))) es)
   statement_read s h (node (kind.Declaration declaring.Variable) i j (syntax.more d syntax.none)) g =
       let k : Kind = kind.Declaration declaring.Variable in
       let all : Trees = syntax.more d syntax.none in
@@ -158,7 +164,8 @@ mutual
   statement_read s h (node (kind.Declaration declaring.Variable) i j (syntax.skip ps)) g = absurd g.1
   statement_read s h (node (kind.Declaration declaring.Variable) i j (syntax.more d (syntax.more y ps))) g = absurd g.1.1
   statement_read s h (node (kind.Declaration declaring.Variable) i j (syntax.more d (syntax.skip ps))) g = absurd g.1.1
-  statement_read s h (node kind.Block i j ps) g = closed_shape IsStatement s kind.Block i j ps (readings s kind.Block h ps [] [] ps) (λ u es. block_row u i j (parts_in (readings s kind.Block h ps [] [] ps)) es (statements_read s kind.Block h ps [] [] ps (many_shaped _ _ ps g.1) tt))
+  statement_read s h (node kind.Block i j ps) g = closed_shape IsStatement s kind.Block i j ps (readings s kind.Block h ps [] [] ps)
+      (λ u es. block_row u i j (parts_in (readings s kind.Block h ps [] [] ps)) es (statements_read s kind.Block h ps [] [] ps (many_shaped _ _ ps g.1) tt))
   statement_read s h (node kind.If i j (syntax.more c (syntax.more b (syntax.more e syntax.none)))) g =
       let all : Trees = syntax.more c (syntax.more b (syntax.more e syntax.none)) in
       more_shape IsStatement IsCondition s kind.If h i j all s [] [] c (syntax.more b (syntax.more e syntax.none)) (condition_read s value c refl g.1.0)
@@ -174,7 +181,8 @@ mutual
       let all : Trees = syntax.more c ps in
       more_shape IsStatement IsTag s kind.Switch h i j all s [] [] c ps (tag_read s value c refl g.1.0)
       (λ x gs t x1. let r = clauses_read t h all (Some x) [] gs ps (many_shaped _ _ ps g.1.1) tt in
-      closed_shape IsStatement s kind.Switch i j all (readings t kind.Switch h all (Some x ∷ []) gs ps) (λ u es. subst (λ ys. IsStatement (built_by u kind.Switch form.Switch i j (switch_parts ys) es)) (sym r.is) (switch_row u i j x r.rest es x1 r.has)))
+      closed_shape IsStatement s kind.Switch i j all (readings t kind.Switch h all (Some x ∷ []) gs ps)
+      (λ u es. subst (λ ys. IsStatement (built_by u kind.Switch form.Switch i j (switch_parts ys) es)) (sym r.is) (switch_row u i j x r.rest es x1 r.has)))
   statement_read s h (node kind.Switch i j (syntax.skip ps)) g =
       let all : Trees = syntax.skip ps in
       let r = clauses_read s h all None [] [] ps (many_shaped _ _ ps g.1) tt in
@@ -207,7 +215,7 @@ mutual
   statement_read s h (node kind.For i j (syntax.more x0 (syntax.skip qs))) g = absurd g.1.1
   statement_read s h (node kind.For i j (syntax.more x0 (syntax.more x1 (syntax.more y qs)))) g = absurd g.1.1.1
   statement_read s h (node kind.For i j (syntax.more x0 (syntax.more x1 (syntax.skip qs)))) g = absurd g.1.1.1
-  statement_read s h (node k i j ps) g = cc
+  statement_read s h (node k i j ps) g = absurd (never g.0)
 
   statements_read : (s : Frame) (k : Kind) (h : Hint) (all : Trees) (xs : Parts) (fs : Found) (ps : Trees) → AllShaped category.Statement ps → AllStated xs → AllStated (parts_in (readings s k h all xs fs ps))
   statements_read s k h all xs fs syntax.none g e = e
@@ -217,7 +225,8 @@ mutual
       (statements_read (frame_in r) k h all (xs ++ Some (tree_in r) ∷ []) (fs ++ faults_in r) ps g.1 (one_stated xs (tree_in r) e (statement_read (entering k xs s) (told k h all xs (kind_of p)) p g.0)))
   statements_read s k h all xs fs (syntax.skip ps) g e = absurd g
 
-  behind_read : (s : Frame) (k : Kind) (h : Hint) (all : Trees) (x : Option Part) (xs : Parts) (fs : Found) (ps : Trees) → AllShaped category.Statement ps → AllStated xs → IsBehind AllStated x (parts_in (readings s k h all (x ∷ xs) fs ps))
+  behind_read : (s : Frame) (k : Kind) (h : Hint) (all : Trees) (x : Option Part) (xs : Parts) (fs : Found) (ps : Trees) → AllShaped category.Statement ps → AllStated xs
+      → IsBehind AllStated x (parts_in (readings s k h all (x ∷ xs) fs ps))
   behind_read s k h all x xs fs syntax.none g e = record { rest = xs; is = refl; has = e }
   behind_read s k h all x xs fs (syntax.more p ps) g e =
       let r : Reading = reading (entering k (x ∷ xs) s) (told k h all (x ∷ xs) (kind_of p)) p in
@@ -230,11 +239,13 @@ mutual
       let all : Trees = syntax.more v ps in
       more_shape IsClause HoldsValues s kind.Case h i j all s [] [] v ps (values_read s value v (list_shaped (category.ExpressionList place.Free) place.Free v (inl refl) g.1.0) refl)
       (λ x gs t x1. let r = behind_read t kind.Case h all (Some x) [] gs ps (many_shaped _ _ ps g.1.1) tt in
-      closed_shape IsClause s kind.Case i j all (readings t kind.Case h all (Some x ∷ []) gs ps) (λ u es. subst (λ ys. IsClause (built_by u kind.Case (form.Case (first_count ys)) i j (all_held ys) es)) (sym r.is) (case_row u i j x r.rest es x1 r.has)))
+      closed_shape IsClause s kind.Case i j all (readings t kind.Case h all (Some x ∷ []) gs ps)
+      (λ u es. subst (λ ys. IsClause (built_by u kind.Case (form.Case (first_count ys)) i j (all_held ys) es)) (sym r.is) (case_row u i j x r.rest es x1 r.has)))
   clause_read s h (node kind.Case i j syntax.none) g = absurd g.1
   clause_read s h (node kind.Case i j (syntax.skip ps)) g = absurd g.1
-  clause_read s h (node kind.Default i j ps) g = closed_shape IsClause s kind.Default i j ps (readings s kind.Default h ps [] [] ps) (λ u es. default_row u i j (parts_in (readings s kind.Default h ps [] [] ps)) es (statements_read s kind.Default h ps [] [] ps (many_shaped _ _ ps g.1) tt))
-  clause_read s h (node k i j ps) g = cc
+  clause_read s h (node kind.Default i j ps) g = closed_shape IsClause s kind.Default i j ps (readings s kind.Default h ps [] [] ps)
+      (λ u es. default_row u i j (parts_in (readings s kind.Default h ps [] [] ps)) es (statements_read s kind.Default h ps [] [] ps (many_shaped _ _ ps g.1) tt))
+  clause_read s h (node k i j ps) g = absurd (never g.0)
 
   clauses_read : (s : Frame) (h : Hint) (all : Trees) (x : Option Part) (xs : Parts) (fs : Found) (ps : Trees) → AllShaped category.Clause ps → AllClauses xs → IsBehind AllClauses x (parts_in (readings s kind.Switch h all (x ∷ xs) fs ps))
   clauses_read s h all x xs fs syntax.none g e = record { rest = xs; is = refl; has = e }
@@ -245,8 +256,9 @@ mutual
   clauses_read s h all x xs fs (syntax.skip ps) g e = absurd g
 
   block_read : (s : Frame) (h : Hint) (t : Tree) → IsShaped category.Block t → IsBody (tree_in (reading s h t))
-  block_read s h (node kind.Block i j ps) g = closed_shape IsBody s kind.Block i j ps (readings s kind.Block h ps [] [] ps) (λ u es. block_tail u i j (parts_in (readings s kind.Block h ps [] [] ps)) es (statements_read s kind.Block h ps [] [] ps (many_shaped _ _ ps g.1) tt))
-  block_read s h (node k i j ps) g = cc
+  block_read s h (node kind.Block i j ps) g = closed_shape IsBody s kind.Block i j ps (readings s kind.Block h ps [] [] ps)
+      (λ u es. block_tail u i j (parts_in (readings s kind.Block h ps [] [] ps)) es (statements_read s kind.Block h ps [] [] ps (many_shaped _ _ ps g.1) tt))
+  block_read s h (node k i j ps) g = absurd (never g.0)
 
   else_read : (s : Frame) (h : Hint) (t : Tree) → IsShaped category.Else t → HasElse (tree_in (reading s h t))
   else_read s h (node kind.Else i j (syntax.more b syntax.none)) g =
@@ -257,21 +269,24 @@ mutual
   else_read s h (node kind.Else i j (syntax.skip qs)) g = absurd g.1
   else_read s h (node kind.Else i j (syntax.more x0 (syntax.more y qs))) g = absurd g.1.1
   else_read s h (node kind.Else i j (syntax.more x0 (syntax.skip qs))) g = absurd g.1.1
-  else_read s h (node k i j ps) g = cc
+  else_read s h (node k i j ps) g = absurd (never g.0)
 
   branch_read : (s : Frame) (h : Hint) (t : Tree) → IsShaped category.Branch t → IsBody (tree_in (reading s h t))
-  branch_read s h (node kind.Block i j ps) g = closed_shape IsBody s kind.Block i j ps (readings s kind.Block h ps [] [] ps) (λ u es. block_tail u i j (parts_in (readings s kind.Block h ps [] [] ps)) es (statements_read s kind.Block h ps [] [] ps (many_shaped _ _ ps g.1) tt))
+  branch_read s h (node kind.Block i j ps) g = closed_shape IsBody s kind.Block i j ps (readings s kind.Block h ps [] [] ps)
+      (λ u es. block_tail u i j (parts_in (readings s kind.Block h ps [] [] ps)) es (statements_read s kind.Block h ps [] [] ps (many_shaped _ _ ps g.1) tt))
   branch_read s h (node kind.If i j (syntax.more c (syntax.more b (syntax.more e syntax.none)))) g =
       let all : Trees = syntax.more c (syntax.more b (syntax.more e syntax.none)) in
       more_shape IsBody IsCondition s kind.If h i j all s [] [] c (syntax.more b (syntax.more e syntax.none)) (condition_read s value c refl g.1.0)
       (λ x gs t x1. more_shape IsBody IsBody s kind.If h i j all t (Some x ∷ []) gs b (syntax.more e syntax.none) (block_read t value b g.1.1.0)
       (λ y fs u y1. more_shape IsBody HasElse s kind.If h i j all u (Some x ∷ Some y ∷ []) (gs ++ fs) e syntax.none (else_read u value e g.1.1.1.0)
-      (λ z ks v z1. closed_shape IsBody s kind.If i j all (readings v kind.If h all (Some x ∷ Some y ∷ Some z ∷ []) ((gs ++ fs) ++ ks) syntax.none) (λ w es. branch_row w i j (header_parts (Some x) ++ Some y ∷ held (Some z)) es (if_row w i j x y (Some z) es x1 y1 z1)))))
+      (λ z ks v z1. closed_shape IsBody s kind.If i j all (readings v kind.If h all (Some x ∷ Some y ∷ Some z ∷ []) ((gs ++ fs) ++ ks) syntax.none)
+      (λ w es. branch_row w i j (header_parts (Some x) ++ Some y ∷ held (Some z)) es (if_row w i j x y (Some z) es x1 y1 z1)))))
   branch_read s h (node kind.If i j (syntax.more c (syntax.more b (syntax.skip syntax.none)))) g =
       let all : Trees = syntax.more c (syntax.more b (syntax.skip syntax.none)) in
       more_shape IsBody IsCondition s kind.If h i j all s [] [] c (syntax.more b (syntax.skip syntax.none)) (condition_read s value c refl g.1.0)
       (λ x gs t x1. more_shape IsBody IsBody s kind.If h i j all t (Some x ∷ []) gs b (syntax.skip syntax.none) (block_read t value b g.1.1.0)
-      (λ y fs u y1. closed_shape IsBody s kind.If i j all (readings u kind.If h all (Some x ∷ Some y ∷ []) (gs ++ fs) (syntax.skip syntax.none)) (λ w es. branch_row w i j (header_parts (Some x) ++ Some y ∷ held None) es (if_row w i j x y None es x1 y1 tt))))
+      (λ y fs u y1. closed_shape IsBody s kind.If i j all (readings u kind.If h all (Some x ∷ Some y ∷ []) (gs ++ fs) (syntax.skip syntax.none))
+      (λ w es. branch_row w i j (header_parts (Some x) ++ Some y ∷ held None) es (if_row w i j x y None es x1 y1 tt))))
   branch_read s h (node kind.If i j syntax.none) g = absurd g.1
   branch_read s h (node kind.If i j (syntax.skip qs)) g = absurd g.1
   branch_read s h (node kind.If i j (syntax.more x0 syntax.none)) g = absurd g.1.1
@@ -281,7 +296,7 @@ mutual
   branch_read s h (node kind.If i j (syntax.more x0 (syntax.more x1 (syntax.skip (syntax.skip qs))))) g = absurd g.1.1.1
   branch_read s h (node kind.If i j (syntax.more x0 (syntax.more x1 (syntax.more x2 (syntax.more y qs))))) g = absurd g.1.1.1.1
   branch_read s h (node kind.If i j (syntax.more x0 (syntax.more x1 (syntax.more x2 (syntax.skip qs))))) g = absurd g.1.1.1.1
-  branch_read s h (node k i j ps) g = cc
+  branch_read s h (node k i j ps) g = absurd (never g.0)
 
 -- a function
 pub function_read : (s : Frame) (h : Hint) (i j : ℕ) (ps : Trees) → IsShaped category.Declaration (node kind.FunctionDeclaration i j ps) → IsFunction (tree_in (reading s h (node kind.FunctionDeclaration i j ps)))

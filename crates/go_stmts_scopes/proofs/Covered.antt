@@ -1,6 +1,6 @@
 -- What is named in an expression is in scope where each token that it is named at is covered; and where names are in scope that a tree
 -- declares.
-use Rattle.std.proofs.Common.{◌≡◌, ◌∙◌, ◌⊎◌, inl, inr, ℕ, zero, suc, ◌<◌, ◌≤◌, Bool, true, false, List, ◌∷◌, Option, Some, refl, sym, ap, subst, arith}
+use Rattle.std.proofs.Common.{◌≡◌, ◌∙◌, ◌⊎◌, inl, inr, ℕ, ◌<◌, ◌≤◌, Bool, true, false, List, Some, refl, ap, arith}
 use Rattle.go_tree.specs.declared.context.Scope.{Scope}
 use Rattle.go_types.specs.Trees.{TypeTree}
 use Rattle.go_types.specs.Relations.{Rights}
@@ -13,7 +13,7 @@ use Rattle.go_meaning_simulation.specs.Locals.{In}
 use Rattle.extract_runs.specs.Lexical.{Locals}
 use Rattle.go_stmts_scopes.specs.Runs.{is_leaf, holds_expressions, IsExpression, AreExpressions, is_given, Unless, LocalHas, EachRead, AllRead, is_part, PlaceHas, EachPlaced, FirstPlaced}
 use Rattle.go_stmts_scopes.specs.Scoped.{Reads}
-use Rattle.go_stmts_scopes.specs.Standing.{Extents, Covers, BeginsIn, NameStands, room_in, Exits, exits_in, IsTarget, is_closed, Stands, AllStand, IsDeclaredBy, Only, Declares, AnyDeclares}
+use Rattle.go_stmts_scopes.specs.Standing.{Extents, Covers, NameStands, room_in, Exits, exits_in, IsTarget, is_closed, Stands, AllStand, IsDeclaredBy, Only, Declares, AnyDeclares}
 
 -- ---- tests
 
@@ -250,7 +250,8 @@ module _ (ls : Locals) (rights : Rights) (x : Extents) where
         let below = known_in a b i j s low high c in (
           m.0,
           place_has r s (is_given l.sort) f i m.0 h.3 m.1 at,
-          when_open (is_leaf f) (FirstPlaced rights (Reads ls s) ls.written (is_part rights f ps) ps) (λ o. first_read (room_in r f i j ps) (exits_in e f) i j s (is_part rights f ps) ps g.1 inner (unless_false (is_leaf f) (FirstPlaced rights AnyLocal ls.written (is_part rights f ps) ps) o m.2) below),
+          when_open (is_leaf f) (FirstPlaced rights (Reads ls s) ls.written (is_part rights f ps) ps)
+              (λ o. first_read (room_in r f i j ps) (exits_in e f) i j s (is_part rights f ps) ps g.1 inner (unless_false (is_leaf f) (FirstPlaced rights AnyLocal ls.written (is_part rights f ps) ps) o m.2) below),
         )
 
     first_read : (r : Scope) (e : Exits) (a b : ℕ) (s : List ℕ) (part : Bool) (ps : Typeds TypeTree) → AreExpressions ps → AllStand ls rights x r e a b ps → FirstPlaced rights AnyLocal ls.written part ps → AreKnown a b s

@@ -1,9 +1,8 @@
 -- What is named in statements that hold others is in scope, and so in a function, where each token that it is named at is covered.
-use Rattle.std.proofs.Common.{◌≡◌, ◌∙◌, ◌⊎◌, inl, inr, ℕ, zero, suc, ◌<◌, ◌≤◌, Bool, true, false, List, ◌∷◌, Option, Some, refl, sym, ap, subst, arith}
+use Rattle.std.proofs.Common.{◌≡◌, ◌⊎◌, inl, inr, ℕ, zero, suc, ◌<◌, ◌≤◌, Bool, true, false, List, ◌∷◌, Option, Some, refl, arith}
 use Rattle.go_tree.specs.declared.context.Scope.{Scope}
 use Rattle.go_types.specs.Trees.{TypeTree}
 use Rattle.go_types.specs.Relations.{Rights}
-use Rattle.go_typed.specs.declared.form.Form.{Form}
 use Rattle.go_typed.specs.declared.form.Form.TheVariants as form
 use Rattle.go_typed.specs.Trees.{Typed, typed, Typeds, first_of, last_of, form_of}
 use Rattle.go_typed.specs.Trees as trees
@@ -11,12 +10,14 @@ use Rattle.go_meaning_simulation.specs.Links.{Ways, nowhere, loop_ways, clause_w
 use Rattle.go_meaning_simulation.specs.Locals.{In}
 use Rattle.extract_runs.specs.Lexical.{Locals, lexical_links}
 use Rattle.extract_runs.specs.Sound.{SoundStatement, SoundChain}
-use Rattle.go_stmts_scopes.specs.Locals.{put, behind, behind_all, Leads, StatementHas, ListHas, BranchHas, ChoiceHas, ElseHas, SwitchHas, TagHas, ClausesHave, ClauseHas, CaseHas, LoopHas, ConditionHas, NextHas, BodyHas, RangeHas, FunctionHas}
+use Rattle.go_stmts_scopes.specs.Locals.{behind, behind_all, Leads, StatementHas, ListHas, BranchHas, ChoiceHas, ElseHas, SwitchHas, TagHas, ClausesHave, ClauseHas, CaseHas, LoopHas, ConditionHas, NextHas, BodyHas}
+use Rattle.go_stmts_scopes.specs.Locals.{RangeHas, FunctionHas}
 use Rattle.go_stmts_scopes.specs.Shapes.{is_tail, IsStatement, AreStatements, IsBranch, IsChoice, IsElse, IsSwitch, HasTag, AreClauses, IsClause, IsCase, IsLoop, HasCondition, HasPost, HasBody, IsRange, IsFunction}
-use Rattle.go_stmts_scopes.specs.Standing.{Extents, Covers, behind_part, Exits, no_exits, exits_in, AreTargets, Stands, AllStand, Declares, AnyDeclares, StandsInScope, StandInScope}
+use Rattle.go_stmts_scopes.specs.Standing.{Extents, behind_part, Exits, no_exits, exits_in, AreTargets, Stands, AllStand, AnyDeclares, StandsInScope, StandInScope}
 use Rattle.go_stmts_scopes.proofs.Shapes.{IsWithin, behind_more, chain, function_scoped}
-use Rattle.go_stmts_scopes.proofs.Covered.{sure, none_declared, all_none, starts, grows, ends, all_order, declared_at, all_from, AreKnown, known_in, value_read, values_read}
-use Rattle.go_stmts_scopes.proofs.CoveredStatements.{AreMet, IsMet, AllMet, GoesOn, name_from, head_met, tail_met, same_met, alone, value_has, placed, post_has, post_none, names_have, other_has, known_behind, known_parts, first_has, first_out, block_room, define_room, statement_out, clause_out, name_put}
+use Rattle.go_stmts_scopes.proofs.Covered.{sure, none_declared, starts, grows, all_order, all_from, AreKnown, known_in, value_read, values_read}
+use Rattle.go_stmts_scopes.proofs.CoveredStatements.{AreMet, IsMet, AllMet, GoesOn, name_from, head_met, tail_met, same_met, alone, value_has, placed, post_has, post_none, names_have, other_has, known_behind, known_parts}
+use Rattle.go_stmts_scopes.proofs.CoveredStatements.{first_has, first_out, block_room, define_room, statement_out, clause_out, name_put}
 
 -- where branches may stand they lead to where no other locals are known
 record Leaving (ls : Locals) (rights : Rights) (e : Exits) (W : Ways (List ℕ)) (s : List ℕ) : Type 0 where
@@ -131,7 +132,8 @@ module _ (ls : Locals) (rights : Rights) (x : Extents) (gone : ℕ → Bool) whe
           omega (arith, z, y, w)
 
   mutual
-    statement_has : (W : Ways (List ℕ)) (s : List ℕ) (r : Scope) (e : Exits) (a b : ℕ) (t : Typed TypeTree) → IsStatement t → Stands ls rights x r e a b t → Leaving ls rights e W s → IsMet ls rights x s t → StatementHas ls rights gone W s t
+    statement_has : (W : Ways (List ℕ)) (s : List ℕ) (r : Scope) (e : Exits) (a b : ℕ) (t : Typed TypeTree) → IsStatement t → Stands ls rights x r e a b t → Leaving ls rights e W s → IsMet ls rights x s t
+        → StatementHas ls rights gone W s t
     statement_has W s r e a b (typed form.Expression i j l ps) g h v m = placed ls rights x 0 r e i j s ps g.1 h.6 h.5 (known_parts ls rights x i j s ps g.1 m)
     statement_has W s r e a b (typed (form.Step o) i j l ps) g h v m = placed ls rights x 1 r e i j s ps g.1 h.6 h.5 (known_parts ls rights x i j s ps g.1 m)
     statement_has W s r e a b (typed (form.Assign n) i j l ps) g h v m = placed ls rights x n r e i j s ps g.1 h.6 h.5 (known_parts ls rights x i j s ps g.1 m)
@@ -156,15 +158,18 @@ module _ (ls : Locals) (rights : Rights) (x : Extents) (gone : ℕ → Bool) whe
         range_has W s s n (block_room (behind_part n ps) j) e i j ps refl g.1 h.6 h.5 v (λ k z. z) (range_front n (block_room (behind_part n ps) j) (exits_in e form.For) i j s ps refl g.1 h.6 o) o
     statement_has W s r e a b (typed f i j l ps) g h v m = absurd g
 
-    list_has : (W : Ways (List ℕ)) (s : List ℕ) (r : Scope) (e : Exits) (a b : ℕ) (ps : Typeds TypeTree) → AreStatements ps → AllStand ls rights x r e a b ps → Leaving ls rights e W s → AllMet ls rights x a b s ps → ListHas ls rights gone W s ps
+    list_has : (W : Ways (List ℕ)) (s : List ℕ) (r : Scope) (e : Exits) (a b : ℕ) (ps : Typeds TypeTree) → AreStatements ps → AllStand ls rights x r e a b ps → Leaving ls rights e W s → AllMet ls rights x a b s ps
+        → ListHas ls rights gone W s ps
     list_has W s r e a b trees.none g h v m = tt
     list_has W s r e a b (trees.more p ps) g h v m = (
       λ out. statement_has W s r e a b p g.0 h.0 v (head_met ls rights x r e a b s p ps h.0 h.1 m),
-      list_has W (behind s p) r e (last_of p) b ps g.1 h.1 (leaving_more ls rights e W s (behind s p) (behind_more s p) v) (tail_met ls rights x r e a b s (behind s p) p ps h.0 (behind_more s p) (statement_out ls rights x r e a b s p g.0 h.0) m),
+      list_has W (behind s p) r e (last_of p) b ps g.1 h.1 (leaving_more ls rights e W s (behind s p) (behind_more s p) v)
+          (tail_met ls rights x r e a b s (behind s p) p ps h.0 (behind_more s p) (statement_out ls rights x r e a b s p g.0 h.0) m),
     )
     list_has W s r e a b (trees.skip ps) g h v m = list_has W s r e a b ps g h v m
 
-    branch_has : (W : Ways (List ℕ)) (s : List ℕ) (r : Scope) (e : Exits) (a b : ℕ) (ps : Typeds TypeTree) → IsBranch ps → AllStand ls rights x r e a b ps → Leaving ls rights e W s → AllMet ls rights x a b s ps → BranchHas ls rights gone W s ps
+    branch_has : (W : Ways (List ℕ)) (s : List ℕ) (r : Scope) (e : Exits) (a b : ℕ) (ps : Typeds TypeTree) → IsBranch ps → AllStand ls rights x r e a b ps → Leaving ls rights e W s → AllMet ls rights x a b s ps
+        → BranchHas ls rights gone W s ps
     branch_has W s r e a b trees.none g h v m = absurd g
     branch_has W s r e a b (trees.more p ps) g h v m = (
       first_has ls rights x r e a b s p g.0 h.0 (head_met ls rights x r e a b s p ps h.0 h.1 m),
@@ -172,7 +177,8 @@ module _ (ls : Locals) (rights : Rights) (x : Extents) (gone : ℕ → Bool) whe
     )
     branch_has W s r e a b (trees.skip ps) g h v m = choice_has W s r e a b ps g h v m
 
-    choice_has : (W : Ways (List ℕ)) (s : List ℕ) (r : Scope) (e : Exits) (a b : ℕ) (ps : Typeds TypeTree) → IsChoice ps → AllStand ls rights x r e a b ps → Leaving ls rights e W s → AllMet ls rights x a b s ps → ChoiceHas ls rights gone W s ps
+    choice_has : (W : Ways (List ℕ)) (s : List ℕ) (r : Scope) (e : Exits) (a b : ℕ) (ps : Typeds TypeTree) → IsChoice ps → AllStand ls rights x r e a b ps → Leaving ls rights e W s → AllMet ls rights x a b s ps
+        → ChoiceHas ls rights gone W s ps
     choice_has W s r e a b (trees.more c (trees.more p ps)) g h v m =
         let m1 : AllMet ls rights x (last_of c) b s (trees.more p ps) = same_met ls rights x r e a b s c (trees.more p ps) g.0 h.0 m in
         let m2 : AllMet ls rights x (last_of p) b s ps = tail_met ls rights x r e (last_of c) b s s p ps h.1.0 (λ k i. i) (tail_out W s r e (last_of c) b p g.1.0 g.1.1 h.1.0) m1 in (
@@ -190,7 +196,8 @@ module _ (ls : Locals) (rights : Rights) (x : Extents) (gone : ℕ → Bool) whe
     else_has W s r e a b (trees.more p ps) g h v m = statement_has W s r e a b p g.1 h.0 v (head_met ls rights x r e a b s p ps h.0 h.1 m)
     else_has W s r e a b (trees.skip ps) g h v m = tt
 
-    switch_has : (W : Ways (List ℕ)) (s : List ℕ) (r : Scope) (e : Exits) (a b : ℕ) (ps : Typeds TypeTree) → IsSwitch ps → AllStand ls rights x r (exits_in e form.Switch) a b ps → Leaving ls rights e W s → AllMet ls rights x a b s ps → SwitchHas ls rights gone W s ps
+    switch_has : (W : Ways (List ℕ)) (s : List ℕ) (r : Scope) (e : Exits) (a b : ℕ) (ps : Typeds TypeTree) → IsSwitch ps → AllStand ls rights x r (exits_in e form.Switch) a b ps → Leaving ls rights e W s
+        → AllMet ls rights x a b s ps → SwitchHas ls rights gone W s ps
     switch_has W s r e a b trees.none g h v m = absurd g
     switch_has W s r e a b (trees.more p ps) g h v m =
         let d : Exits = exits_in e form.Switch in (
@@ -199,7 +206,8 @@ module _ (ls : Locals) (rights : Rights) (x : Extents) (gone : ℕ → Bool) whe
         )
     switch_has W s r e a b (trees.skip ps) g h v m = tag_has W s s r e a b ps g h (λ k i. i) v m
 
-    tag_has : (W : Ways (List ℕ)) (s t : List ℕ) (r : Scope) (e : Exits) (a b : ℕ) (ps : Typeds TypeTree) → HasTag ps → AllStand ls rights x r (exits_in e form.Switch) a b ps → IsWithin s t → Leaving ls rights e W s → AllMet ls rights x a b t ps → TagHas ls rights gone W s t ps
+    tag_has : (W : Ways (List ℕ)) (s t : List ℕ) (r : Scope) (e : Exits) (a b : ℕ) (ps : Typeds TypeTree) → HasTag ps → AllStand ls rights x r (exits_in e form.Switch) a b ps → IsWithin s t → Leaving ls rights e W s
+        → AllMet ls rights x a b t ps → TagHas ls rights gone W s t ps
     tag_has W s t r e a b trees.none g h w v m = absurd g
     tag_has W s t r e a b (trees.more p ps) g h w v m =
         let d : Exits = exits_in e form.Switch in (
@@ -208,7 +216,8 @@ module _ (ls : Locals) (rights : Rights) (x : Extents) (gone : ℕ → Bool) whe
         )
     tag_has W s t r e a b (trees.skip ps) g h w v m = clauses_have (clause_ways W s t) t r (exits_in e form.Switch) a b ps g h (leaving_switch ls rights e W s t w v) m
 
-    clauses_have : (W : Ways (List ℕ)) (s : List ℕ) (r : Scope) (e : Exits) (a b : ℕ) (ps : Typeds TypeTree) → AreClauses ps → AllStand ls rights x r e a b ps → Leaving ls rights e W s → AllMet ls rights x a b s ps → ClausesHave ls rights gone W s ps
+    clauses_have : (W : Ways (List ℕ)) (s : List ℕ) (r : Scope) (e : Exits) (a b : ℕ) (ps : Typeds TypeTree) → AreClauses ps → AllStand ls rights x r e a b ps → Leaving ls rights e W s → AllMet ls rights x a b s ps
+        → ClausesHave ls rights gone W s ps
     clauses_have W s r e a b trees.none g h v m = tt
     clauses_have W s r e a b (trees.more p ps) g h v m = (
       clause_has W s r e a b p g.0 h.0 v (head_met ls rights x r e a b s p ps h.0 h.1 m),
@@ -221,11 +230,13 @@ module _ (ls : Locals) (rights : Rights) (x : Extents) (gone : ℕ → Bool) whe
     clause_has W s r e a b (typed form.Default i j l ps) g h v m = list_has W s (block_room i j) e i j ps g.1 h.6 v (open_met i j s ps m)
     clause_has W s r e a b (typed f i j l ps) g h v m = absurd g
 
-    case_has : (W : Ways (List ℕ)) (s : List ℕ) (n : ℕ) (r : Scope) (e : Exits) (a b : ℕ) (ps : Typeds TypeTree) → IsCase n ps → AllStand ls rights x r e a b ps → Leaving ls rights e W s → AllMet ls rights x a b s ps → CaseHas ls rights gone W s n ps
+    case_has : (W : Ways (List ℕ)) (s : List ℕ) (n : ℕ) (r : Scope) (e : Exits) (a b : ℕ) (ps : Typeds TypeTree) → IsCase n ps → AllStand ls rights x r e a b ps → Leaving ls rights e W s → AllMet ls rights x a b s ps
+        → CaseHas ls rights gone W s n ps
     case_has W s zero r e a b trees.none g h v m = tt
     case_has W s zero r e a b (trees.more p ps) g h v m = (
       λ out. statement_has W s r e a b p g.0 h.0 v (head_met ls rights x r e a b s p ps h.0 h.1 m),
-      list_has W (behind s p) r e (last_of p) b ps g.1 h.1 (leaving_more ls rights e W s (behind s p) (behind_more s p) v) (tail_met ls rights x r e a b s (behind s p) p ps h.0 (behind_more s p) (statement_out ls rights x r e a b s p g.0 h.0) m),
+      list_has W (behind s p) r e (last_of p) b ps g.1 h.1 (leaving_more ls rights e W s (behind s p) (behind_more s p) v)
+          (tail_met ls rights x r e a b s (behind s p) p ps h.0 (behind_more s p) (statement_out ls rights x r e a b s p g.0 h.0) m),
     )
     case_has W s zero r e a b (trees.skip ps) g h v m = list_has W s r e a b ps g h v m
     case_has W s (suc n) r e a b trees.none g h v m = absurd g
@@ -235,7 +246,8 @@ module _ (ls : Locals) (rights : Rights) (x : Extents) (gone : ℕ → Bool) whe
     )
     case_has W s (suc n) r e a b (trees.skip ps) g h v m = absurd g
 
-    loop_has : (W : Ways (List ℕ)) (s : List ℕ) (r : Scope) (e : Exits) (a b : ℕ) (ps : Typeds TypeTree) → IsLoop ps → AllStand ls rights x r (exits_in e form.For) a b ps → Leaving ls rights e W s → AllMet ls rights x a b s ps → LoopHas ls rights gone W s ps
+    loop_has : (W : Ways (List ℕ)) (s : List ℕ) (r : Scope) (e : Exits) (a b : ℕ) (ps : Typeds TypeTree) → IsLoop ps → AllStand ls rights x r (exits_in e form.For) a b ps → Leaving ls rights e W s
+        → AllMet ls rights x a b s ps → LoopHas ls rights gone W s ps
     loop_has W s r e a b trees.none g h v m = absurd g
     loop_has W s r e a b (trees.more p ps) g h v m =
         let d : Exits = exits_in e form.For in (
@@ -245,7 +257,8 @@ module _ (ls : Locals) (rights : Rights) (x : Extents) (gone : ℕ → Bool) whe
         )
     loop_has W s r e a b (trees.skip ps) g h v m = condition_has (loop_ways W s) s r (exits_in e form.For) a b ps g h (leaving_loop ls rights e W s v) m
 
-    condition_has : (W : Ways (List ℕ)) (s : List ℕ) (r : Scope) (e : Exits) (a b : ℕ) (ps : Typeds TypeTree) → HasCondition ps → AllStand ls rights x r e a b ps → Leaving ls rights e W s → AllMet ls rights x a b s ps → ConditionHas ls rights gone W s ps
+    condition_has : (W : Ways (List ℕ)) (s : List ℕ) (r : Scope) (e : Exits) (a b : ℕ) (ps : Typeds TypeTree) → HasCondition ps → AllStand ls rights x r e a b ps → Leaving ls rights e W s → AllMet ls rights x a b s ps
+        → ConditionHas ls rights gone W s ps
     condition_has W s r e a b trees.none g h v m = absurd g
     condition_has W s r e a b (trees.more p ps) g h v m = (
       value_has ls rights x r e a b s p g.0 h.0 (head_met ls rights x r e a b s p ps h.0 h.1 m),
@@ -253,7 +266,8 @@ module _ (ls : Locals) (rights : Rights) (x : Extents) (gone : ℕ → Bool) whe
     )
     condition_has W s r e a b (trees.skip ps) g h v m = next_has W s r e a b ps g h v m
 
-    next_has : (W : Ways (List ℕ)) (s : List ℕ) (r : Scope) (e : Exits) (a b : ℕ) (ps : Typeds TypeTree) → HasPost ps → AllStand ls rights x r e a b ps → Leaving ls rights e W s → AllMet ls rights x a b s ps → NextHas ls rights gone W s ps
+    next_has : (W : Ways (List ℕ)) (s : List ℕ) (r : Scope) (e : Exits) (a b : ℕ) (ps : Typeds TypeTree) → HasPost ps → AllStand ls rights x r e a b ps → Leaving ls rights e W s → AllMet ls rights x a b s ps
+        → NextHas ls rights gone W s ps
     next_has W s r e a b trees.none g h v m = absurd g
     next_has W s r e a b (trees.more p ps) g h v m = (
       post_has ls rights x r e a b s p g.0 h.0 (head_met ls rights x r e a b s p ps h.0 h.1 m),
@@ -261,7 +275,8 @@ module _ (ls : Locals) (rights : Rights) (x : Extents) (gone : ℕ → Bool) whe
     )
     next_has W s r e a b (trees.skip ps) g h v m = body_has W s r e a b ps g h v m
 
-    body_has : (W : Ways (List ℕ)) (s : List ℕ) (r : Scope) (e : Exits) (a b : ℕ) (ps : Typeds TypeTree) → HasBody ps → AllStand ls rights x r e a b ps → Leaving ls rights e W s → AllMet ls rights x a b s ps → BodyHas ls rights gone W s ps
+    body_has : (W : Ways (List ℕ)) (s : List ℕ) (r : Scope) (e : Exits) (a b : ℕ) (ps : Typeds TypeTree) → HasBody ps → AllStand ls rights x r e a b ps → Leaving ls rights e W s → AllMet ls rights x a b s ps
+        → BodyHas ls rights gone W s ps
     body_has W s r e a b (trees.more p trees.none) g h v m = statement_has W s r e a b p g.1 h.0 v (head_met ls rights x r e a b s p trees.none h.0 h.1 m)
     body_has W s r e a b trees.none g h v m = absurd g
     body_has W s r e a b (trees.skip ps) g h v m = absurd g
@@ -269,7 +284,8 @@ module _ (ls : Locals) (rights : Rights) (x : Extents) (gone : ℕ → Bool) whe
     body_has W s r e a b (trees.more p (trees.skip ps)) g h v m = absurd g
 
     -- q is in scope in front of the names, s behind those that are in front
-    range_has : (W : Ways (List ℕ)) (q s : List ℕ) (n : ℕ) (r : Scope) (e : Exits) (a b : ℕ) (ps : Typeds TypeTree) → r.from ≡ behind_part n ps → IsRange n ps → AllStand ls rights x r (exits_in e form.For) a b ps → AreTargets ls rights n ps
+    range_has : (W : Ways (List ℕ)) (q s : List ℕ) (n : ℕ) (r : Scope) (e : Exits) (a b : ℕ) (ps : Typeds TypeTree) → r.from ≡ behind_part n ps → IsRange n ps → AllStand ls rights x r (exits_in e form.For) a b ps
+        → AreTargets ls rights n ps
         → Leaving ls rights e W s → IsWithin q s → AreKnown ls rights x a r.from q → AllMet ls rights x a b s ps → RangeHas ls rights gone W q s n ps
     range_has W q s zero r e a b (trees.more p ps) f g h t v w c m =
         let d : Exits = exits_in e form.For in

@@ -1,24 +1,21 @@
 -- What is named in a statement is in scope where each token that it is named at is covered.
-use Rattle.std.proofs.Common.{◌≡◌, ◌∙◌, ◌⊎◌, inl, inr, ℕ, zero, suc, ◌<◌, ◌≤◌, Bool, true, false, List, ◌∷◌, Option, Some, refl, sym, ap, subst, arith}
+use Rattle.std.proofs.Common.{◌≡◌, ◌⊎◌, inl, inr, ℕ, zero, suc, ◌<◌, ◌≤◌, true, false, List, ◌∷◌, Some, refl, sym, arith}
 use Rattle.go_tree.specs.declared.context.Scope.{Scope}
 use Rattle.go_types.specs.Trees.{TypeTree}
 use Rattle.go_types.specs.Relations.{Rights}
-use Rattle.go_typed.specs.declared.form.Form.{Form}
 use Rattle.go_typed.specs.declared.form.Form.TheVariants as form
 use Rattle.go_typed.specs.Trees.{Typed, typed, Typeds, first_of, last_of, form_of}
 use Rattle.go_typed.specs.Trees as trees
-use Rattle.go_meaning_simulation.specs.Links.{Ways, nowhere, loop_ways, clause_ways}
 use Rattle.go_meaning_simulation.specs.Locals.{In}
-use Rattle.go_stmts_scopes.specs.Locals.{put, behind_names, behind, behind_all, NamesHave, PostHas, FirstHas, Leads, StatementHas, ListHas, BranchHas, ChoiceHas, ElseHas, SwitchHas, TagHas, ClausesHave, ClauseHas, CaseHas, LoopHas, ConditionHas, NextHas, BodyHas}
-use Rattle.go_stmts_scopes.specs.Locals.{RangeHas, FunctionHas}
+use Rattle.go_stmts_scopes.specs.Locals.{put, behind_names, behind, behind_all, NamesHave, PostHas, FirstHas}
 use Rattle.extract_runs.specs.Lexical.{Locals}
 use Rattle.go_stmts_scopes.specs.Runs.{IsExpression, AreExpressions, is_given, EachRead, EachPlaced}
 use Rattle.go_stmts_scopes.specs.Scoped.{Reads}
-use Rattle.go_stmts_scopes.specs.Shapes.{IsName, AreNames, IsPost, IsFirst, IsStatement, AreStatements, IsBranch, IsChoice, IsElse, IsSwitch, HasTag, AreClauses, IsClause, IsCase, IsLoop, HasCondition, HasPost, HasBody, IsRange, IsFunction}
-use Rattle.go_stmts_scopes.specs.Standing.{Extents, Covers, behind_part, room_in, Exits, no_exits, exits_in, IsTarget, AreTargets, Stands, AllStand, IsDeclaredBy, Declares, AnyDeclares, StandsInScope, StandInScope}
-use Rattle.go_stmts_scopes.specs.Statements.{runs_parts, ArePlaced, places_in}
-use Rattle.go_stmts_scopes.proofs.Shapes.{IsWithin, names_more, behind_more, all_more}
-use Rattle.go_stmts_scopes.proofs.Covered.{sure, none_declared, all_none, starts, grows, ends, all_order, declared_at, declared_from, all_from, declared_to, all_to, AreKnown, known_in, value_read, values_read, place_read, target_place}
+use Rattle.go_stmts_scopes.specs.Shapes.{IsName, AreNames, IsPost, IsFirst, IsStatement, AreStatements, IsClause}
+use Rattle.go_stmts_scopes.specs.Standing.{Extents, Covers, behind_part, Exits, exits_in, IsTarget, AreTargets, Stands, AllStand, Declares, AnyDeclares}
+use Rattle.go_stmts_scopes.specs.Statements.{ArePlaced}
+use Rattle.go_stmts_scopes.proofs.Shapes.{IsWithin, names_more, all_more}
+use Rattle.go_stmts_scopes.proofs.Covered.{sure, none_declared, all_none, starts, grows, ends, declared_at, all_from, all_to, AreKnown, known_in, value_read, values_read, place_read, target_place}
 
 -- ---- where names are in scope that are declared in a definition, and in a block
 

@@ -14,6 +14,7 @@ use Rattle.go_grammar.specs.Trees as syntax
 use Rattle.go_stmts_final_types.specs.Shapes.{IsShaped, AreShaped}
 use Rattle.go_stmts_scopes.specs.Runs.{HasBracket, HasBrackets, AllHaveBrackets}
 use Rattle.go_stmts_scopes.specs.Statements.{AllOperands, IsOperandList, IsTargetList, IsSimpleTree, is_written_simple}
+use Rattle.go_stmts_scopes.proofs.Never.{never}
 
 -- ---- expressions
 
@@ -72,14 +73,14 @@ list_shaped c p t (inl e) h = by t (subst (λ z. IsShaped z t) e h)
     by (node kind.ExpressionList i j (syntax.more x ps)) h = (expression_kind p x h.1.0, shaped_brackets (any p) x h.1.0, shaped_operands p ps (many_shaped _ _ ps h.1.1))
     by (node kind.ExpressionList i j syntax.none) h = absurd h.1
     by (node kind.ExpressionList i j (syntax.skip ps)) h = absurd h.1
-    by (node k i j ps) h = cc
+    by (node k i j ps) h = absurd (never h.0)
 list_shaped c p t (inr e) h = by t (subst (λ z. IsShaped z t) e h)
   where
     by : (t : Tree) → IsShaped (category.LeftList p) t → IsOperandList t
     by (node kind.ExpressionList i j (syntax.more x ps)) h = (expression_kind p x h.1.0, shaped_brackets (any p) x h.1.0, shaped_operands p ps (many_shaped _ _ ps h.1.1))
     by (node kind.ExpressionList i j syntax.none) h = absurd h.1
     by (node kind.ExpressionList i j (syntax.skip ps)) h = absurd h.1
-    by (node k i j ps) h = cc
+    by (node k i j ps) h = absurd (never h.0)
 
 pub targets_shaped : (p : Place) (t : Tree) → IsShaped (category.Targets p) t → IsTargetList t
 targets_shaped p (node kind.Targets i j (syntax.more x syntax.none)) h = (list_shaped (category.LeftList p) p x (inr refl) h.1.0, tt)
@@ -87,7 +88,7 @@ targets_shaped p (node kind.Targets i j (syntax.more x (syntax.more y ps))) h = 
 targets_shaped p (node kind.Targets i j (syntax.more x (syntax.skip ps))) h = absurd h.1.1
 targets_shaped p (node kind.Targets i j syntax.none) h = absurd h.1
 targets_shaped p (node kind.Targets i j (syntax.skip ps)) h = absurd h.1
-targets_shaped p (node k i j ps) h = cc
+targets_shaped p (node k i j ps) h = absurd (never h.0)
 
 -- ---- statements whose parts are expressions
 
@@ -116,7 +117,7 @@ simple_tree c (node kind.Assignment i j (syntax.more x syntax.none)) e g = absur
 simple_tree c (node kind.Assignment i j (syntax.more x (syntax.skip ps))) e g = absurd g.1.1
 simple_tree c (node kind.Assignment i j (syntax.more x (syntax.more y (syntax.more z ps)))) e g = absurd g.1.1.1
 simple_tree c (node kind.Assignment i j (syntax.more x (syntax.more y (syntax.skip ps)))) e g = absurd g.1.1.1
-simple_tree c (node k i j ps) e g = cc
+simple_tree c (node k i j ps) e g = absurd (never e)
 
 pub return_tree : (c : Category) (i j : ℕ) (ps : Trees) → IsShaped c (node kind.Return i j ps) → IsSimpleTree (node kind.Return i j ps)
 return_tree c i j syntax.none g = absurd g.1

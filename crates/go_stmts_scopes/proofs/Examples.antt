@@ -1,6 +1,5 @@
 -- The worked window, function and statement.
-use Rattle.std.proofs.Common.{◌≡◌, ◌⊎◌, inl, inr, ℕ, zero, suc, ◌<◌, ◌≤◌, [], ◌∷◌, Some, refl, subst, arith}
-use Rattle.go_tree.specs.declared.context.Scope.{Scope}
+use Rattle.std.proofs.Common.{◌≡◌, ◌⊎◌, inl, inr, ℕ, zero, suc, ◌<◌, ◌≤◌, [], ◌∷◌, refl, subst, arith}
 use Rattle.go_typed.specs.Trees.{first_of, last_of}
 use Rattle.go_meaning_simulation.specs.Locals.{In}
 use Rattle.extract_trees.specs.Examples.{statements}

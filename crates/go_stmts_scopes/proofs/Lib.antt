@@ -1,3 +1,4 @@
+mod Never
 mod Expressions
 mod Typed
 mod Statements

@@ -33,6 +33,7 @@ use Rattle.go_stmts_scopes.proofs.TypedStatements.{part_runs}
 use Rattle.go_stmts_scopes.proofs.Operands.{IsOperand, operand, typed_operand}
 use Rattle.go_stmts_scopes.proofs.Headers.{FirstOr, OperandOr, PostOr, simple_kind, post_kind}
 use Rattle.go_stmts_scopes.proofs.Rows.{AllValues, values_held}
+use Rattle.go_stmts_scopes.proofs.Never.{never}
 
 -- ---- headers of loops
 
@@ -68,7 +69,8 @@ pub for_clause : (s : Frame) (i j : ℕ) (c p : Option Part) (es : List TypeFaul
 for_clause s i j c p [] x y = record { first = None; condition = c; post = p; parts = ap (λ ys. None ∷ ys) (list_row (c ∷ p ∷ [])); loops = refl; may = tt; tests = x; next = y }
 for_clause s i j c p (e ∷ es) x y = record { first = None; condition = c; post = p; parts = ap (λ ys. None ∷ ys) (list_row (c ∷ p ∷ [])); loops = refl; may = tt; tests = x; next = y }
 
-pub initialized_clause : (s : Frame) (i j : ℕ) (f : Part) (c p : Option Part) (es : List TypeFault) → IsFirst f → OperandOr c → PostOr p → IsForClause (built_by s kind.InitializedForClause (form.Held kind.InitializedForClause) i j (Some f ∷ c ∷ p ∷ []) es)
+pub initialized_clause : (s : Frame) (i j : ℕ) (f : Part) (c p : Option Part) (es : List TypeFault) → IsFirst f → OperandOr c → PostOr p
+    → IsForClause (built_by s kind.InitializedForClause (form.Held kind.InitializedForClause) i j (Some f ∷ c ∷ p ∷ []) es)
 initialized_clause s i j f c p [] m x y = record { first = Some f; condition = c; post = p; parts = list_row (Some f ∷ c ∷ p ∷ []); loops = refl; may = m; tests = x; next = y }
 initialized_clause s i j f c p (e ∷ es) m x y = record { first = Some f; condition = c; post = p; parts = list_row (Some f ∷ c ∷ p ∷ []); loops = refl; may = m; tests = x; next = y }
 
@@ -225,12 +227,12 @@ targets_values p s h (node kind.Targets i j (syntax.more (node kind.ExpressionLi
     (subst AllValues (sym (nothing_behind (list_of (row xs)) ∙ list_row xs)) (values_held s target all [] all refl tt (list_shaped (category.LeftList p) p (node kind.ExpressionList a b all) (inr refl) g.1.0)))
 targets_values p s h (node kind.Targets i j (syntax.more (node kind.ExpressionList a b syntax.none) syntax.none)) g = absurd g.1.0.1
 targets_values p s h (node kind.Targets i j (syntax.more (node kind.ExpressionList a b (syntax.skip ps)) syntax.none)) g = absurd g.1.0.1
-targets_values p s h (node kind.Targets i j (syntax.more (node k a b ps) syntax.none)) g = let z = g.1.0.0 in cc
+targets_values p s h (node kind.Targets i j (syntax.more (node k a b ps) syntax.none)) g = absurd (never g.1.0.0)
 targets_values p s h (node kind.Targets i j (syntax.more x (syntax.more y ps))) g = absurd g.1.1
 targets_values p s h (node kind.Targets i j (syntax.more x (syntax.skip ps))) g = absurd g.1.1
 targets_values p s h (node kind.Targets i j syntax.none) g = absurd g.1
 targets_values p s h (node kind.Targets i j (syntax.skip ps)) g = absurd g.1
-targets_values p s h (node k i j ps) g = let z = g.0 in cc
+targets_values p s h (node k i j ps) g = absurd (never g.0)
 
 operand_loop : (x : Part) → IsOperand x → IsLoopHeader x
 operand_loop x e =

@@ -1,10 +1,8 @@
 -- Where a statement or a declaration names a local, the token means it; and what tokens mean stays while a body is read.
-use Rattle.std.proofs.Common.{◌≡◌, ◌∙◌, ℕ, zero, suc, ◌-◌, Bool, true, false, List, [], ◌∷◌, ◌++◌, length, map, take, Option, Some, None, refl, sym, ap, subst}
+use Rattle.std.proofs.Common.{◌≡◌, ◌∙◌, ℕ, zero, suc, Bool, true, false, List, [], ◌∷◌, ◌++◌, map, take, Option, Some, None, refl, sym, subst}
 use Rattle.std.specs.Prelude.{if◌then◌else◌}
-use Rattle.std.specs.Option.{option_map}
 use Rattle.go_grammar.specs.declared.kind.Kind.{Kind}
 use Rattle.go_grammar.specs.declared.kind.Kind.TheVariants as kind
-use Rattle.go_grammar.specs.declared.kind.Sort.{Sort}
 use Rattle.go_grammar.specs.declared.kind.Sort.TheVariants as declaring
 use Rattle.go_grammar.specs.Trees.{Tree, node, Trees, kind_of}
 use Rattle.go_grammar.specs.Trees as syntax
@@ -22,14 +20,16 @@ use Rattle.go_exprs_rules.specs.Tables.{Parts, held, all_held, first_cut, behind
 use Rattle.go_exprs_rules.specs.Typing.{typing}
 use Rattle.go_exprs_rules.specs.TypeNodes.{part_type}
 use Rattle.go_stmts_defs.specs.Assigning.{Taking, takes, stands}
-use Rattle.go_stmts_defs.specs.Frames.{Frame, Locals, scope_of, with_local, with_own_right, declared_type}
-use Rattle.go_stmts_defs.specs.Laying.{told, layout, form_by, local_named, type_number, type_name, new_or_known, new_form, with_form, new_name, is_values, typed_or_not, specification_parts, names_count, specified_names, all_names, is_group, specifications, header_parts}
+use Rattle.go_stmts_defs.specs.Frames.{Frame, Locals, scope_of, with_own_right, declared_type}
+use Rattle.go_stmts_defs.specs.Laying.{told, layout, form_by, local_named, type_number, new_or_known, new_form, new_name, is_values, typed_or_not, specification_parts, names_count, specified_names}
+use Rattle.go_stmts_defs.specs.Laying.{all_names, is_group, specifications, header_parts}
 use Rattle.go_stmts_defs.specs.Laying.{if_parts, switch_parts, loop_header, for_parts, without_absent, loop_form, first_loop_form}
-use Rattle.go_stmts_defs.specs.Reading.{Found, is_list, is_declared_name, list_node, name_node, holding, holdings, held_faults, entry_names, first_parts, with_parameter, with_parameters, signature_results, entering, with_type, beginning, declares_sort, is_new, declares_name}
-use Rattle.go_stmts_defs.specs.Reading.{declares_all, part_source, right_side, back, leaving, Reading, read, Readings, all_read, repeated, left_out, left_out_faults, is_statement, completed, closed, after, reading, readings}
+use Rattle.go_stmts_defs.specs.Reading.{Found, is_list, is_declared_name, list_node, name_node, holding, holdings, held_faults, entry_names, first_parts, with_parameter, with_parameters, signature_results, entering}
+use Rattle.go_stmts_defs.specs.Reading.{with_type, beginning, declares_sort, is_new, declares_name}
+use Rattle.go_stmts_defs.specs.Reading.{declares_all, part_source, right_side, back, leaving, Reading, read, Readings, all_read, repeated, left_out, left_out_faults, is_statement, closed, reading, readings}
 use Rattle.go_stmts_defs.specs.Rules.{own_faults, given_part, all_given, taking, built_by}
 use Rattle.go_exprs_rules.specs.TypeNodes.{entry_types}
-use Rattle.go_stmts_scopes.specs.Names.{MeansLocal, NameMeans, NamesMean, AllNamesMean}
+use Rattle.go_stmts_scopes.specs.Names.{NameMeans, NamesMean}
 use Rattle.go_stmts_scopes.specs.Statements.{tree_in}
 use Rattle.go_stmts_scopes.proofs.TypedStatements.{faults_in, frame_in, parts_in, after_read}
 use Rattle.go_stmts_scopes.proofs.NamedTypings.{is_local, other_means, declared_means, PartsMean, row_means, list_means, append_means, given_means, first_cut_means, held_means, behind_means, all_held_means, typing_means}

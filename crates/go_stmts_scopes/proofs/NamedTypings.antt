@@ -1,5 +1,5 @@
 -- Where an expression names a local, the token means it.
-use Rattle.std.proofs.Common.{◌≡◌, ℕ, Bool, true, false, List, [], ◌∷◌, ◌++◌, Option, Some, None, refl, sym, ap, subst}
+use Rattle.std.proofs.Common.{◌≡◌, ℕ, Bool, true, false, List, [], ◌∷◌, ◌++◌, Option, Some, None, refl, sym, subst}
 use Rattle.std.specs.Prelude.{◌-◌, if◌then◌else◌}
 use Rattle.go_grammar.specs.declared.kind.Kind.{Kind}
 use Rattle.go_grammar.specs.declared.kind.Kind.TheVariants as kind
@@ -15,7 +15,7 @@ use Rattle.go_typed.specs.Trees.{typed, Typeds, row, list_of, form_of, sort_of, 
 use Rattle.go_typed.specs.Trees as trees
 use Rattle.go_exprs_rules.specs.declared.family.OpenKind.{OpenKind}
 use Rattle.go_exprs_rules.specs.Names.{name_sort, object_form, declared_form, form_or_type, name_form}
-use Rattle.go_exprs_rules.specs.Scopes.{Scope, Hint, value, declares, free, member}
+use Rattle.go_exprs_rules.specs.Scopes.{Scope, Hint, declares, free, member}
 use Rattle.go_exprs_rules.specs.Settling.{Part, Take, stay, default, as_type, settled, all_settled, defaulted, given}
 use Rattle.go_exprs_rules.specs.Sorts.{Stands, takes_type, retyped, open_kind, default_type}
 use Rattle.go_exprs_rules.specs.Tables.{Parts, is_make, hint, part_scope, is_held, held, all_held, leaf, is_type, cut, first_cut, call_parts, has_no_low, bounds_of}

@@ -64,7 +64,8 @@ simple_statement (typed f i j l ps) h = let z : false ≡ true = h.1 in cc
 
 -- ---- `if`
 
-pub if_row : (s : Frame) (i j : ℕ) (h b : Part) (e : Option Part) (es : List TypeFault) → IsCondition h → (is_tail (form_of b) ≡ true) × IsStatement b → IsElse (row (held e)) → IsStatement (built_by s kind.If form.If i j (header_parts (Some h) ++ Some b ∷ held e) es)
+pub if_row : (s : Frame) (i j : ℕ) (h b : Part) (e : Option Part) (es : List TypeFault) → IsCondition h → (is_tail (form_of b) ≡ true) × IsStatement b → IsElse (row (held e))
+    → IsStatement (built_by s kind.If form.If i j (header_parts (Some h) ++ Some b ∷ held e) es)
 if_row s i j h b e es g x y = subst (λ zs. IsStatement (built_by s kind.If form.If i j (zs ++ Some b ∷ held e) es)) (sym g.parts) (by g.first g.may es)
   where
     by : (f : Option Part) → FirstOr f → (es : List TypeFault) → IsStatement (built_by s kind.If form.If i j (f ∷ Some g.condition ∷ Some b ∷ held e) es)

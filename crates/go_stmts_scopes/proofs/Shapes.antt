@@ -15,7 +15,8 @@ use Rattle.go_meaning_simulation.specs.Locals.{In}
 use Rattle.extract_runs.specs.Lexical.{Locals, lexical_links}
 use Rattle.extract_runs.specs.Sound.{SoundNames, SoundPart, SoundValues, SoundSimple, SoundFirst, SoundStatement, SoundOther, SoundChain, SoundClause, SoundClauses, SoundRanged}
 use Rattle.extract_runs.specs.Sound as sound
-use Rattle.go_stmts_scopes.specs.Locals.{put, behind_names, behind, behind_all, NamesHave, PostHas, FirstHas, StatementHas, ListHas, ChoiceHas, ElseHas, TagHas, ClausesHave, ClauseHas, CaseHas, ConditionHas, NextHas, RangeHas, FunctionHas}
+use Rattle.go_stmts_scopes.specs.Locals.{put, behind_names, behind, behind_all, NamesHave, PostHas, FirstHas, StatementHas, ListHas, ChoiceHas, ElseHas, TagHas, ClausesHave, ClauseHas, CaseHas, ConditionHas, NextHas}
+use Rattle.go_stmts_scopes.specs.Locals.{RangeHas, FunctionHas}
 use Rattle.go_stmts_scopes.specs.Runs.{IsExpression, EachPlaced}
 use Rattle.go_stmts_scopes.specs.Scoped.{Reads}
 use Rattle.go_stmts_scopes.specs.Shapes.{AreNames, IsPost, IsFirst, is_tail, IsStatement, AreStatements, IsChoice, IsElse, HasTag, AreClauses, IsClause, IsCase, HasCondition, HasPost, IsRange, IsFunction}

@@ -33,6 +33,7 @@ use Rattle.go_stmts_scopes.proofs.DeclaredNames.{AreOpen, AllNames, names_row, n
 use Rattle.go_stmts_scopes.proofs.Derivations.{list_shaped, simple_tree}
 use Rattle.go_stmts_scopes.proofs.Typed.{AllRun, soundness}
 use Rattle.go_stmts_scopes.proofs.TypedStatements.{parts_in, HoldsRun, run_append, list_read, reading_simple}
+use Rattle.go_stmts_scopes.proofs.Never.{never}
 
 -- ---- readings
 
@@ -97,7 +98,7 @@ name_read ls s h (node kind.Name i j ps) e d =
     by : (b : Bool) → IsName (with_form (new_form ls) (tables.built_by (scope_of s) kind.Name declares i j (typings (scope_of s) kind.Name declares ps [] ps) b))
     by true = new_declared ls (scope_of s) (s.around.objects i) Nothing i j _ _ _ refl
     by false = new_declared ls (scope_of s) (s.around.objects i) trees.Unknown i j _ _ _ refl
-name_read ls s h (node k i j ps) e d = cc
+name_read ls s h (node k i j ps) e d = absurd (never e)
 
 one_new : (ls : Locals) (xs : Parts) (x : Part) → AllNames (map (new_name ls) xs) → IsName (with_form (new_form ls) x) → AllNames (map (new_name ls) (xs ++ Some x ∷ []))
 one_new ls [] x h e = (e, tt)
@@ -118,12 +119,12 @@ new_names p s h (node kind.NewNames i j (syntax.more (node kind.ExpressionList a
     let new : Parts → Parts = map (new_name s.locals) in
     subst AllNames (sym (list_row (new (list_of (row ns) ++ []))))
     (subst (λ xs. AllNames (new xs)) (sym (nothing_behind (list_of (row ns)) ∙ list_row ns)) (names_held s.locals s declares ps [] ps refl g.2 tt))
-new_names p s h (node kind.NewNames i j (syntax.more (node k a b ps) syntax.none)) g = let z = g.1.0.0 in cc
+new_names p s h (node kind.NewNames i j (syntax.more (node k a b ps) syntax.none)) g = absurd (never g.1.0.0)
 new_names p s h (node kind.NewNames i j (syntax.more x (syntax.more y ps))) g = absurd g.1.1
 new_names p s h (node kind.NewNames i j (syntax.more x (syntax.skip ps))) g = absurd g.1.1
 new_names p s h (node kind.NewNames i j syntax.none) g = absurd g.1
 new_names p s h (node kind.NewNames i j (syntax.skip ps)) g = absurd g.1
-new_names p s h (node k i j ps) g = let z = g.0 in cc
+new_names p s h (node k i j ps) g = absurd (never g.0)
 
 -- ---- definitions
 
@@ -178,7 +179,7 @@ post_read c s h (node kind.Assignment i j ps) e g =
     let t : Tree = node kind.Assignment i j ps in
     simple_post (tree_in (reading s h t)) (reading_simple s h t (simple_tree c t refl g))
     (closed_no_return s kind.Assignment i j ps (readings s kind.Assignment h ps [] [] ps) refl)
-post_read c s h (node k i j ps) e g = cc
+post_read c s h (node k i j ps) e g = absurd (never e)
 
 pub first_read : (c : Category) (s : Frame) (h : Hint) (t : Tree) → categories.is_simple (kind_of t) ≡ true → IsShaped c t → IsFirst (tree_in (reading s h t))
 first_read c s h (node kind.Define i j ps) e g = define_read c s h i j ps g
@@ -186,4 +187,4 @@ first_read c s h (node kind.ExpressionStatement i j ps) e g = post_first (tree_i
 first_read c s h (node (kind.StepStatement o) i j ps) e g = post_first (tree_in (reading s h (node (kind.StepStatement o) i j ps))) (post_read c s h (node (kind.StepStatement o) i j ps) refl g)
 first_read c s h (node (kind.OperatorAssignment o) i j ps) e g = post_first (tree_in (reading s h (node (kind.OperatorAssignment o) i j ps))) (post_read c s h (node (kind.OperatorAssignment o) i j ps) refl g)
 first_read c s h (node kind.Assignment i j ps) e g = post_first (tree_in (reading s h (node kind.Assignment i j ps))) (post_read c s h (node kind.Assignment i j ps) refl g)
-first_read c s h (node k i j ps) e g = cc
+first_read c s h (node k i j ps) e g = absurd (never e)

@@ -30,6 +30,7 @@ use Rattle.go_stmts_scopes.proofs.Simple.{more_shape, closed_shape, list_row, Ho
 use Rattle.go_stmts_scopes.proofs.Typed.{AllRun, held_parts, first_cut_runs}
 use Rattle.go_stmts_scopes.proofs.TypedStatements.{run_append, list_held}
 use Rattle.go_stmts_scopes.proofs.Operands.{IsOperand, type_kind, type_operand, held_type}
+use Rattle.go_stmts_scopes.proofs.Never.{never}
 
 -- ---- specifications of variables
 
@@ -43,7 +44,7 @@ names_declared s h all xs syntax.none g e = e
 names_declared s h all xs (syntax.more (node kind.DeclaredName i j qs) ps) g e =
     let q : Part = holding s declares (node kind.DeclaredName i j qs) in
     names_declared s h all (xs ++ Some q ∷ []) ps g.1 (one_name xs q e (declared_name s.around (s.around.objects i) Nothing i j _ _ _ refl))
-names_declared s h all xs (syntax.more (node k i j qs) ps) g e = let z = g.0.0 in cc
+names_declared s h all xs (syntax.more (node k i j qs) ps) g e = absurd (never g.0.0)
 names_declared s h all xs (syntax.skip ps) g e = absurd g
 
 pub name_list : (s : Frame) (h : Hint) (t : Tree) → IsShaped category.NameList t → HoldsNames (tree_in (reading s h t))
@@ -52,7 +53,7 @@ name_list s h (node kind.NameList i j (syntax.more p ps)) g =
     subst AllNames (sym (list_row (holdings s kind.NameList h all [] all))) (names_declared s h all [] all (g.1.0, many_shaped _ _ ps g.1.1) tt)
 name_list s h (node kind.NameList i j syntax.none) g = absurd g.1
 name_list s h (node kind.NameList i j (syntax.skip ps)) g = absurd g.1
-name_list s h (node k i j ps) g = let z = g.0 in cc
+name_list s h (node k i j ps) g = absurd (never g.0)
 
 -- a type, or values, or both
 abbrev IsRest : Part → Type 0
@@ -128,4 +129,4 @@ variables_read s h t g = (by t g, held_no (tree_in (reading s h t)) (by t g))
     by (node (kind.Specification declaring.Variable) i j (syntax.more x (syntax.skip ps))) g = absurd g.1.1
     by (node (kind.Specification declaring.Variable) i j syntax.none) g = absurd g.1
     by (node (kind.Specification declaring.Variable) i j (syntax.skip ps)) g = absurd g.1
-    by (node k i j ps) g = let z = g.0 in cc
+    by (node k i j ps) g = absurd (never g.0)

@@ -1,0 +1,15 @@
+mod Fit
+mod Lying
+mod Stays
+mod Ascends
+mod Walk
+mod Walked
+mod Whole
+mod Functions
+mod Replaced
+mod Texts
+mod Itself
+mod Paths
+mod Ranges
+mod Apart
+mod DerivedSites

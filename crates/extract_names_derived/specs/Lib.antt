@@ -1,0 +1,4 @@
+pub mod Patches
+pub mod Texts
+pub mod Functions
+pub mod Sites

@@ -1,0 +1,56 @@
+-- A derived function in which other statements stand in the place of runs, by its tokens and its tree.
+use Rattle.std.specs.Prelude.{◌≡◌, ℕ, ◌<◌, ◌⊎◌, true, List, [], ◌∷◌, length, Some, slice_get}
+use Rattle.go_tokens.specs.declared.token.TokenKind.{TokenKind}
+use Rattle.go_grammar.specs.declared.kind.Category.TheVariants as category
+use Rattle.go_grammar.specs.Grammar.{Derives}
+use Rattle.go_rewriting.specs.Places.{Patch, become, places}
+use Rattle.go_tree.specs.declared.context.Entity.TheVariants as entity
+use Rattle.go_tree.specs.declared.context.Manner.TheVariants as manner
+use Rattle.go_tree.specs.declared.event.Declaration.{Declaration}
+use Rattle.go_tree.specs.declared.event.Event.TheVariants as event
+use Rattle.go_tree.specs.Contexts.{file_context}
+use Rattle.go_tree.specs.Declarations.{is_reused_of, is_new}
+use Rattle.go_heads.specs.Bodies.{function_events}
+use Rattle.go_heads.specs.Functions.{Alone}
+use Rattle.go_heads.specs.Names.{own_names}
+use Rattle.go_scopes_bodies.specs.Meant.{Meant, Outer}
+use Rattle.extract_names.specs.Gaps.{Redeclared, Gap, moved_by, ranges, Among, IsInRun, Stays}
+use Rattle.extract_names.specs.Pieces.{Piece, stays, gap, pieces}
+use Rattle.extract_names.specs.Sites.{declared_at, found_as, GapTells, NamedThere, Says, DeclaredStill, UsedThere}
+use Rattle.extract_names_derived.specs.Functions.{IsDerivedFunction}
+use Rattle.extract_names_derived.specs.Patches.{InLists}
+use Rattle.extract_names_derived.specs.Texts.{with_gaps}
+
+-- The statements in the place of each run tell what those of the gap have to.
+abbrev pub AllTell : Alone → Alone → List Gap → List Gap → List Piece → Type 0
+AllTell a new all gs [] = Unit {0}
+AllTell a new all gs (stays es ∷ ps) = AllTell a new all gs ps
+AllTell a new all [] (gap old news ∷ ps) = ⊥
+AllTell a new all (g ∷ gs) (gap old news ∷ ps) = GapTells a new (moved_by all) g old news × AllTell a new all gs ps
+
+-- Statements stand in the place of runs of a derived function: the patch replaces these runs in its tree, and the texts of the gaps those
+-- of the runs. The new function is derived too.
+pub record IsRewritten (ts us : List TokenKind) (a : Alone) (gaps : List Gap) (new : Alone) : Type 0 where
+  pub function : IsDerivedFunction ts a
+  pub patch : Patch
+  pub lists : InLists a.tree patch
+  pub places : places a.tree patch ≡ ranges gaps
+  pub some : (g : Gap) → Among g gaps → 0 < length g.texts
+  pub tree : new.tree ≡ become (moved_by gaps) a.tree patch
+  pub texts : new.texts ≡ with_gaps gaps a.texts
+  pub derives : Derives us category.Declaration new.tree
+
+-- The choice of what is declared and named in the gaps: what is asked of it besides.
+pub record IsChosen (a : Alone) (outer : Outer) (gaps : List Gap) (new : Alone) (patch : Patch) : Type 0 where
+  pub tell : AllTell a new gaps gaps (pieces (moved_by gaps) (file_context 0) a.tree patch)
+  -- Each name of a gap says what it has to.
+  pub says : (g : Gap) → Among g gaps → (i : ℕ) (w : List ℕ) → slice_get g.texts i ≡ Some w → (o : Meant) → g.means i ≡ Some o → Says a outer g i w
+  -- A local of a run that is named elsewhere is declared in its gap. No local is declared there twice, and no token twice.
+  pub needed : (g : Gap) → Among g gaps → (d : ℕ) → IsInRun g d → (o : Meant) → declared_at a d ≡ Some o → NamedThere a outer gaps o → (z : Redeclared) × Among z g.declared × (z.old ≡ d)
+  pub once : (g : Gap) → Among g gaps → (y z : Redeclared) → Among y g.declared → Among z g.declared → (y.old ≡ z.old) ⊎ (y.token ≡ z.token) → y ≡ z
+  -- Where a name that stays before `:=` is a variable of a run, one that the gap declares is such a variable.
+  pub reuses : (g : Gap) → Among g gaps → (d x : Declaration) → Among (event.Declaration d) (function_events a) → Among (event.Declaration x) (function_events a)
+      → Stays gaps d.name → IsInRun g x.name → d.manner ≡ manner.Defined → is_reused_of (found_as a d) (found_as a x) ≡ true
+      → (w : Declaration) × (z : Redeclared) × Among (event.Declaration w) (function_events a) × Among z g.declared × (w.name ≡ z.old) × (is_reused_of (found_as a d) (found_as a w) ≡ true)
+  -- Each variable that is declared still is used.
+  pub used : (d : Declaration) → Among (event.Declaration d) (function_events a) → is_new (own_names a) (found_as a d) ≡ true → d.entity ≡ entity.Variable → DeclaredStill gaps d.name → UsedThere a outer gaps new d.name

@@ -1,0 +1,46 @@
+//! Laws, for the crates above. The functions do nothing: their contracts are the laws.
+
+ghost use Rattle.std.specs.Prelude.{◌≡◌, ℕ, List, Some, slice_get};
+ghost use Rattle.go_tokens.specs.declared.token.TokenKind.{TokenKind};
+ghost use Rattle.go_grammar.specs.declared.kind.Category.TheVariants as category;
+ghost use Rattle.go_grammar.specs.declared.kind.Kind.TheVariants as kind;
+ghost use Rattle.go_grammar.specs.Grammar.{Derives};
+ghost use Rattle.go_grammar.specs.Trees.{Tree, kind_of};
+ghost use Rattle.go_rewriting.specs.Places.{Ascending};
+ghost use Rattle.go_rewriting.specs.Sites.{Site, site_ranges};
+ghost use Rattle.go_heads.specs.Functions.{Alone, AreRead, Function, all_functions, function_alone};
+ghost use Rattle.go_heads.specs.Heads.{File};
+ghost use Rattle.go_heads.specs.Locals.{AreNamed};
+ghost use Rattle.go_scopes_bodies.specs.Meant.{Outer};
+ghost use Rattle.extract_names.specs.Gaps.{Gap};
+ghost use Rattle.extract_names.specs.Sites.{IsSite};
+ghost use Rattle.extract_names_derived.specs.Functions.{IsDerivedFunction, own_kinds};
+ghost use Rattle.extract_names_derived.specs.Patches.{ReplaceRuns, PatchesRuns};
+ghost use Rattle.extract_names_derived.specs.Sites.{IsRewritten, IsChosen};
+
+use go_rewriting::laws::text_stands_elsewhere;
+use go_scopes_bodies::laws::lists_tell_each_statement;
+
+/// Each function of a package whose files are read is derived by itself, wherever it stands in its file (Go specification: Function
+/// declarations).
+pub fn functions_by_themselves_are_derived()
+    ensures { (fs : List File) (k : ℕ) (f : Function) → AreRead fs → AreNamed fs → slice_get (all_functions fs) k ≡ Some f → IsDerivedFunction (own_kinds f) (function_alone f) }
+{
+    text_stands_elsewhere();
+}
+
+/// Runs of statements that paths lead to in a derived function, one behind the other, are replaced by one patch: it replaces runs in lists of
+/// statements alone, and its places are those of the runs (Go specification: Blocks, Statement lists).
+pub fn runs_at_paths_are_patched()
+    ensures { (ts : List TokenKind) (t : Tree) (xs : List Site) (j : ℕ) → Derives ts category.Declaration t → kind_of t ≡ kind.FunctionDeclaration → ReplaceRuns t xs → Ascending 0 (site_ranges t xs) j → PatchesRuns t xs }
+{}
+
+/// A derived function with statements in the place of runs is a site: what stays and what is replaced stand apart, blocks and scopes begin
+/// and end in no run, names stand in the order of their tokens, and the function declares itself and its locals. What is left to ask is
+/// what depends on the choice of the statements: what they tell and name, and what they declare (Go specification: Blocks, Declarations and
+/// scope, Function declarations).
+pub fn sites_are_derived()
+    ensures { (ts us : List TokenKind) (a new : Alone) (outer : Outer) (gaps : List Gap) → (h : IsRewritten ts us a gaps new) → IsChosen a outer gaps new h.patch → IsSite a outer gaps new }
+{
+    lists_tell_each_statement();
+}

@@ -1,0 +1,5 @@
+mod Trees
+mod Results
+mod Renamed
+mod Shaped
+mod Named

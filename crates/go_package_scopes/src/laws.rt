@@ -1,0 +1,29 @@
+//! Laws, for the crates above. The functions do nothing: their contracts are the laws.
+
+ghost use Rattle.go_typed.specs.Contents.{content};
+ghost use Rattle.go_typed.specs.Packages.{PackageView};
+ghost use Rattle.go_package_defs.specs.Checked.{IsCheckedPackage};
+ghost use Rattle.go_package_scopes.specs.Functions.{HaveNamesInScope, HaveShape};
+
+use go_package_settled::laws::faultless_packages_are_resolved;
+use go_stmts_final_types::laws::derivations_are_shaped;
+use go_stmts_scopes::laws::{derived_functions_have_shape, names_stand_where_they_are_meant};
+
+/// Each typed function of a package that type-checks has the shape that evaluation asks for (Go specification: Function declarations,
+/// Statements).
+pub fn functions_of_checked_packages_have_shape()
+    ensures { (p : PackageView) → IsCheckedPackage p → HaveShape (content p).functions }
+{
+    derivations_are_shaped();
+    derived_functions_have_shape();
+}
+
+/// Each local that a typed function of a package that type-checks names, or declares, stands at a token that means it, and it is in scope
+/// there, or declared there (Go specification: Blocks, Declarations and scope).
+pub fn names_of_checked_packages_are_in_scope()
+    ensures { (p : PackageView) → IsCheckedPackage p → HaveNamesInScope (content p).uses (content p).functions }
+{
+    derivations_are_shaped();
+    faultless_packages_are_resolved();
+    names_stand_where_they_are_meant();
+}
