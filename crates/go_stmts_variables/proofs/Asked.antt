@@ -37,7 +37,7 @@ proper : Proper standing body
 proper = (tt, tt, ((tt, tt, ((refl, tt, tt), ((tt, tt, ((tt, tt, (tt, tt)), tt)), tt))), tt))
 
 declares : Declares standing body
-declares = (tt, ((tt, ((tt, tt), ((refl, ((tt, ((tt, tt), tt)), tt)), tt))), tt))
+declares = (tt, ((refl, ((tt, tt), ((tt, ((tt, ((tt, tt), tt)), tt)), tt))), tt))
 
 good : no_rule_fails (found_in (reading before value body)) ≡ true
 unfolding sooner answers is_assignable is_digit_of letter_base encode_utf8

@@ -1,6 +1,6 @@
 -- The induction over statements.
-use Rattle.std.proofs.Common.{◌≡◌, ◌∙◌, ℕ, Bool, true, false, List, [], ◌∷◌, Some, refl, sym, ap, IsTrue}
-use Rattle.std.specs.Prelude.{◌&&◌}
+use Rattle.std.proofs.Common.{◌≡◌, ◌∙◌, ◌⊎◌, inl, inr, ℕ, Bool, true, false, List, [], ◌∷◌, Some, refl, sym, ap, IsTrue}
+use Rattle.std.specs.Prelude.{◌&&◌, not}
 use Rattle.go_grammar.specs.declared.kind.Arithmetic.{Arithmetic}
 use Rattle.go_grammar.specs.declared.kind.Category.{Category}
 use Rattle.go_grammar.specs.declared.kind.Category.TheVariants as category
@@ -18,6 +18,7 @@ use Rattle.go_tokens.specs.declared.token.TokenKind.{TokenKind}
 use Rattle.go_tokens.specs.declared.token.TokenKind.TheVariants as token
 use Rattle.go_exprs_variables.specs.Shapes.{IsShaped, AreShaped}
 use Rattle.go_exprs_variables.specs.Variables.{Standins, AllFree, Proper, AllProper, ExpressionsTyped}
+use Rattle.go_types.specs.Trees.{TypeTree, boolean}
 use Rattle.go_typed.specs.declared.form.Form.TheVariants as form
 use Rattle.go_exprs_rules.specs.Scopes.{value}
 use Rattle.go_stmts_defs.specs.Frames.{Frame}
@@ -256,12 +257,26 @@ module _ (w : Standins) where
     switch_head f (node kind.InitializedTag i j ps) e proper s = initialized_switch f i j ps e.1 proper.2 s
     switch_head f (node k i j ps) e proper s = lone_tag f (node k i j ps) (e.0, e.1, e.2) proper
 
-    case_clause : (i j : ℕ) (l : Tree) (ss : Trees) → IsShaped (category.ExpressionList place.Free) l → Proper w l → AllStated w ss → are_typeless ss ≡ true → Clause w (node kind.Case i j (more l ss))
-    case_clause i j (node kind.ExpressionList a b vs) ss e proper s typeless = record {
+    -- no types are declared in it, or the switch has no tag
+    steadied : (b : Bool) (t : TypeTree) (ss : Trees) → TypelessIf (not b) ss → (b ≡ true → t ≡ boolean) → (are_typeless ss ≡ true) ⊎ (t ≡ boolean)
+    steadied true t ss e m = inr (m refl)
+    steadied false t ss e m = inl e
+
+    case_clause : (c : Bool) (i j : ℕ) (l : Tree) (ss : Trees) → IsShaped (category.ExpressionList place.Free) l → Proper w l → AllStated w ss → TypelessIf (not c) ss → Clause w c (node kind.Case i j (more l ss))
+    case_clause c i j (node kind.ExpressionList a b vs) ss e proper s typeless = record {
       kind = refl;
-      reads = λ f g h t m st good fits tags. case_reads w f g h i j a b place.Free vs ss (list_expressions place.Free vs e.1) s st t m typeless law proper.2 good fits tags;
+      reads = λ f g h t m q st good fits tags. case_reads w f g h i j a b place.Free vs ss (list_expressions place.Free vs e.1) s st t m (steadied c t ss typeless q) law proper.2 good fits tags;
     }
-    case_clause i j (node k a b vs) ss e proper s typeless = impossible e.0
+    case_clause c i j (node k a b vs) ss e proper s typeless = impossible e.0
+
+    -- what is said of all parts is said of the first one's behind its values, and of the rest
+    first_typeless : (b : Bool) (i j : ℕ) (l : Tree) (ss cs : Trees) → TypelessIf b (more (node kind.Case i j (more l ss)) cs) → TypelessIf b ss
+    first_typeless true i j l ss cs e = (first_true (is_typeless l) (are_typeless ss) (first_true (is_typeless l && are_typeless ss) (are_typeless cs) e).0).1
+    first_typeless false i j l ss cs e = tt
+
+    rest_typeless : (b : Bool) (p : Tree) (cs : Trees) → TypelessIf b (more p cs) → TypelessIf b cs
+    rest_typeless true p cs e = (first_true (is_typeless p) (are_typeless cs) e).1
+    rest_typeless false p cs e = tt
 
     -- ---- loops
 
@@ -401,11 +416,11 @@ module _ (w : Standins) where
           record { kind = refl; reads = λ f g h st good fits tags. if_reads w law f g h i j hd b es (if_header f hd e.1.0 proper.2.0 hs) sb el st good fits tags }
       statement_stated c (node kind.Switch i j none) e proper dec v = elim e.1 [ ]
       statement_stated c (node kind.Switch i j (skip cs)) e proper dec v =
-          let s = clauses_stated cs (many_clauses (token.LeftBrace ∷ []) [] (token.RightBrace ∷ []) cs e.1) proper.2 dec.1 in
+          let s = clauses_stated true cs (many_clauses (token.LeftBrace ∷ []) [] (token.RightBrace ∷ []) cs e.1) proper.2 dec.1 tt in
           record { kind = refl; reads = λ f g h st good fits tags. bare_switch w f g h i j cs s st good fits tags }
       statement_stated c (node kind.Switch i j (more hd cs)) e proper dec v =
           let hs = header_stated category.SwitchHeader hd e.1.0 proper.2.0 dec.1.0 in
-          let s = clauses_stated cs (many_clauses (token.LeftBrace ∷ []) [] (token.RightBrace ∷ []) cs e.1.1) proper.2.1 dec.1.1 in
+          let s = clauses_stated false cs (many_clauses (token.LeftBrace ∷ []) [] (token.RightBrace ∷ []) cs e.1.1) proper.2.1 dec.1.1 (rest_typeless true hd cs dec.0) in
           record {
             kind = refl;
             reads = λ f g h st good fits tags.
@@ -449,18 +464,19 @@ module _ (w : Standins) where
       else_stated (more (node k i j ps) none) e proper dec = impossible e.0.0
 
       -- the statements of a header
-      clauses_stated : (cs : Trees) → AreClauses cs → AllProper w cs → AllDeclare w cs → AllClauses w cs
-      clauses_stated none e proper dec = tt
-      clauses_stated (skip cs) e proper dec = elim e [ ]
-      clauses_stated (more (node kind.Case i j none) cs) e proper dec = elim e.0.1 [ ]
-      clauses_stated (more (node kind.Case i j (skip ss)) cs) e proper dec = elim e.0.1 [ ]
-      clauses_stated (more (node kind.Case i j (more l ss)) cs) e proper dec =
-          let typeless = first_true (is_typeless l) (are_typeless ss) dec.0.0 in
+      clauses_stated : (b : Bool) (cs : Trees) → AreClauses cs → AllProper w cs → AllDeclare w cs → TypelessIf (not b) cs → AllClauses w b cs
+      clauses_stated b none e proper dec t = tt
+      clauses_stated b (skip cs) e proper dec t = elim e [ ]
+      clauses_stated b (more (node kind.Case i j none) cs) e proper dec t = elim e.0.1 [ ]
+      clauses_stated b (more (node kind.Case i j (skip ss)) cs) e proper dec t = elim e.0.1 [ ]
+      clauses_stated b (more (node kind.Case i j (more l ss)) cs) e proper dec t =
           let ss' = all_stated ss (open_statements (token.Colon ∷ []) token.Semicolon ss e.0.1.1) proper.0.2.1 dec.0.1.1 in
-          (case_clause i j l ss e.0.1.0 proper.0.2.0 ss' typeless.1, clauses_stated cs e.1 proper.1 dec.1)
-      clauses_stated (more (node kind.Default i j ss) cs) e proper dec =
-          (default_clause w i j ss (all_stated ss (open_statements (token.Default ∷ token.Colon ∷ []) token.Semicolon ss e.0.1) proper.0.2 dec.0.1), clauses_stated cs e.1 proper.1 dec.1)
-      clauses_stated (more (node k i j ps) cs) e proper dec = impossible e.0.0
+          (case_clause b i j l ss e.0.1.0 proper.0.2.0 ss' (first_typeless (not b) i j l ss cs t), clauses_stated b cs e.1 proper.1 dec.1 (rest_typeless (not b) (node kind.Case i j (more l ss)) cs t))
+      clauses_stated b (more (node kind.Default i j ss) cs) e proper dec t = (
+        default_clause w b i j ss (all_stated ss (open_statements (token.Default ∷ token.Colon ∷ []) token.Semicolon ss e.0.1) proper.0.2 dec.0.1),
+        clauses_stated b cs e.1 proper.1 dec.1 (rest_typeless (not b) (node kind.Default i j ss) cs t),
+      )
+      clauses_stated b (more (node k i j ps) cs) e proper dec t = impossible e.0.0
 
       header_stated : (c : Category) (x : Tree) → IsShaped c x → Proper w x → Declares w x → HeaderStated x
       header_stated c (node kind.InitializedCondition i j none) e proper dec = elim e.1 [ ]

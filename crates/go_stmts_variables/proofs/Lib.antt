@@ -24,6 +24,7 @@ pub mod Calls
 pub mod Steps
 pub mod Operations
 pub mod Operates
+pub mod Basics
 pub mod Clauses
 pub mod Switches
 pub mod Declared

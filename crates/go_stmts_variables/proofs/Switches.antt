@@ -11,12 +11,9 @@ use Rattle.go_typed.specs.Trees.{typed, Typeds, sort_of, form_of, list_of, row}
 use Rattle.go_typed.specs.Trees as sort
 use Rattle.go_exprs_rules.specs.declared.fault.TypeFault.{TypeFault}
 use Rattle.go_exprs_rules.specs.declared.family.OpenKind.{OpenKind}
-use Rattle.go_exprs_rules.specs.declared.family.OpenKind.TheVariants as untyped_kind
 use Rattle.go_exprs_rules.specs.Scopes.{Hint, value}
-use Rattle.go_exprs_rules.specs.Settling.{Part, default, given, defaulted, at_part, unrepresented_constant, unrepresented, all_unrepresented, undefaulted_by, undefaulted}
-use Rattle.go_exprs_rules.specs.Sorts.{Stands, is_constant, is_nil, is_open, constant_of, open_kind, own_type, default_type, represents}
-use Rattle.go_constants.specs.declared.values.Const.{Const}
-use Rattle.go_exprs_rules.specs.Faults.{fault_at}
+use Rattle.go_exprs_rules.specs.Settling.{Part, default, given, defaulted, at_part, undefaulted_by, undefaulted}
+use Rattle.go_exprs_rules.specs.Sorts.{Stands, is_nil, open_kind, own_type}
 use Rattle.go_exprs_rules.specs.Tables.{Parts, is_held}
 use Rattle.go_stmts_defs.specs.Assigning.{Taking, takes, rests}
 use Rattle.go_stmts_defs.specs.Frames.{Frame, rights_of}
@@ -28,6 +25,7 @@ use Rattle.go_exprs_variables.specs.Variables.{Standins, with_variables, all_wit
 use Rattle.go_exprs_variables.proofs.Public.{all_of, each, new_part, news, news_each, no_place, of_all}
 use Rattle.go_stmts_variables.specs.Frames.{FramesStand}
 use Rattle.go_stmts_variables.specs.Statements.{tree_in, found_in, frame_in, TagAt, Tagged, AllTagged}
+use Rattle.go_stmts_variables.proofs.Basics.{same_unrepresented}
 use Rattle.go_stmts_variables.proofs.Branches.{AllStatedIf, condition_roles, second}
 use Rattle.go_stmts_variables.proofs.Clauses.{AllClauses, are_clauses, clauses_read}
 use Rattle.go_stmts_variables.proofs.Conditions.{tag_kept}
@@ -40,6 +38,7 @@ use Rattle.go_stmts_variables.proofs.Puts.{Puts, IsStatementForm, value_put, nod
 use Rattle.go_stmts_variables.proofs.Returns.{takes_known}
 use Rattle.go_stmts_variables.proofs.Roles.{Roles, Awaits, Values}
 use Rattle.go_stmts_variables.proofs.Rows.{after_is, AreStated, new_stated, statement_put, statements_of, statement_faults, frame_behind, statements_put}
+use Rattle.go_stmts_variables.proofs.SimpleTrees.{uncovered}
 use Rattle.go_stmts_variables.proofs.Wills.{will_default, operand_default}
 
 -- ---- the rows of a switch: its header, and clauses behind it, which know the tag
@@ -78,29 +77,7 @@ module _ (h : Hint) (all : Trees) where
       ∙ later_reads (frame_in r) o (Some (tree_in r)) [] (fs ++ found_in r) ps e.1
       ∙ ap (λ z. all_read (o ∷ Some (tree_in r) ∷ ss) z (frame_behind (frame_in r) ps)) (append_assoc fs (found_in r) gs)
 
--- ---- what default types have they have under any right sides
-
-same_represented : (k : OpenKind) (r q : Rights) (c : Const) → represents r (default_type k) c ≡ represents q (default_type k) c
-same_represented untyped_kind.Boolean r q c = refl
-same_represented untyped_kind.Integer r q c = refl
-same_represented untyped_kind.Rune r q c = refl
-same_represented untyped_kind.Text r q c = refl
-
-same_constant : (k : OpenKind) (r q : Rights) (i j : ℕ) (o : Option Const) → unrepresented_constant r (default_type k) i j o ≡ unrepresented_constant q (default_type k) i j o
-same_constant k r q i j None = refl
-same_constant k r q i j (Some c) = ap (λ b. if b then [] else fault_at code.Representable i j) (same_represented k r q c)
-
-mutual
-  pub same_unrepresented : (k : OpenKind) (r q : Rights) (x : Part) → unrepresented r (default_type k) x ≡ unrepresented q (default_type k) x
-  same_unrepresented k r q (typed f i j l ps) =
-      ap (λ z. if is_open l.sort then (if is_constant l.sort then z else all_unrepresented r (default_type k) ps) else []) (same_constant k r q i j (constant_of l.sort))
-      ∙ ap (λ z. if is_open l.sort then (if is_constant l.sort then unrepresented_constant q (default_type k) i j (constant_of l.sort) else z) else []) (all_same_unrepresented k r q ps)
-
-  all_same_unrepresented : (k : OpenKind) (r q : Rights) (ps : Typeds TypeTree) → all_unrepresented r (default_type k) ps ≡ all_unrepresented q (default_type k) ps
-  all_same_unrepresented k r q sort.none = refl
-  all_same_unrepresented k r q (sort.skip ps) = all_same_unrepresented k r q ps
-  all_same_unrepresented k r q (sort.more p ps) =
-      ap (λ z. z ++ all_unrepresented r (default_type k) ps) (same_unrepresented k r q p) ∙ ap (λ z. unrepresented q (default_type k) p ++ z) (all_same_unrepresented k r q ps)
+-- ---- default types
 
 pub undefaulted_any : (r q : Rights) (x : Part) → undefaulted r x ≡ [] → undefaulted q x ≡ []
 undefaulted_any r q x e = by (open_kind (sort_of x)) e
@@ -257,7 +234,7 @@ module _ (w : Standins) where
   -- ---- a switch with a header
 
   module _ (f g : Frame) (h : Hint) (i j : ℕ) (hd : Tree) (cs : Trees) (hf : Header w header_parts condition_roles f hd)
-      (same : tag_part (Some (tree_in (reading f value hd))) ≡ second (header_parts (Some (tree_in (reading f value hd))))) (s : AllClauses w cs) (st : FramesStand w f g) where
+      (same : tag_part (Some (tree_in (reading f value hd))) ≡ second (header_parts (Some (tree_in (reading f value hd))))) (s : AllClauses w false cs) (st : FramesStand w f g) where
     abbrev hd' : Part
     hd' = tree_in (reading f value hd)
 
@@ -280,7 +257,7 @@ module _ (w : Standins) where
       behind = switch_behind (Some hd') middle cs;
       form = form.Switch;
       laid = pr.first ∷ pr.tag ∷ each xs;
-      is = after_is (reading f value hd) (λ x gs t. readings t kind.Switch h (more hd cs) (Some x ∷ []) gs cs) ∙ switch_rows h (more hd cs) middle (Some hd') (found_in (reading f value hd)) cs (are_clauses w cs s);
+      is = after_is (reading f value hd) (λ x gs t. readings t kind.Switch h (more hd cs) (Some x ∷ []) gs cs) ∙ switch_rows h (more hd cs) middle (Some hd') (found_in (reading f value hd)) cs (are_clauses w false cs s);
       laid_is = ap (λ z. z ++ each xs) pr.is;
       form_is = refl;
     }
@@ -317,7 +294,7 @@ module _ (w : Standins) where
         let stood : Stood (rights_of middle) None F.tag G.tag =
         subst (λ z. Stood (rights_of middle) None z G.tag) (sym tag_old) (subst (λ z. Stood (rights_of middle) None (tag_of pr.tag) z) (sym tag_now) (tag_moved R (rights_of middle) (tag_of pr.tag) (tag_of (new_part w pr.tag)) kept.1)) in
         let inner = with_tag_stands w middle middle' F.tag G.tag stood hr.reads.frame in
-        let rows = clauses_read w F G cs type.0 (ap own_type tag_old ∙ type.1) s inner found.1 three.2 tagged_parts.1 in
+        let rows = clauses_read w false F G cs type.0 (ap own_type tag_old ∙ type.1) (λ e. uncovered e) s inner found.1 three.2 tagged_parts.1 in
         let T = switch_behind (Some hd'') middle' new_cs in
         let behind : FramesStand w S T = switch_stands cs (Some hd') (Some hd'') middle middle' hr.reads.frame rows.frame in
         node_reads w f g h kind.Switch i j (more hd cs) switch_old refl refl own.1
@@ -326,20 +303,20 @@ module _ (w : Standins) where
           found = found_in (reading g value new_hd) ++ statement_faults G new_cs;
           behind = T;
           is = after_is (reading g value new_hd) (λ x gs t. readings t kind.Switch h (more new_hd new_cs) (Some x ∷ []) gs new_cs)
-              ∙ switch_rows h (more new_hd new_cs) middle' (Some hd'') (found_in (reading g value new_hd)) new_cs (new_stated w cs (are_clauses w cs s));
+              ∙ switch_rows h (more new_hd new_cs) middle' (Some hd'') (found_in (reading g value new_hd)) new_cs (new_stated w cs (are_clauses w false cs s));
           laid_is = ap (λ z. header_parts (Some z) ++ each (statements_of G new_cs)) hr.reads.tree ∙ ap (λ z. z ++ each (statements_of G new_cs)) (header_new w (Some hd') ∙ ap (news w) pr.is)
               ∙ ap (λ z. new_part w pr.first ∷ new_part w pr.tag ∷ z) (ap each rows.trees ∙ sym (news_each w xs));
           form_is = refl;
           good = of_all (found_in (reading g value new_hd)) (statement_faults G new_cs) hr.reads.failing rows.good;
           rule = own_none w g h kind.Switch i j (more new_hd new_cs) refl T form.Switch (news w ys) (ap (λ q. tag_failing q (new_part w pr.tag)) behind.rights ∙ kept.0);
-          node = node_put w form.Switch i j tag_takes ys switch_form (tag_puts pr.first pr.tag (each xs) pr.stated three.0 v three.1 (statements_put w F cs (are_clauses w cs s) three.2));
+          node = node_put w form.Switch i j tag_takes ys switch_form (tag_puts pr.first pr.tag (each xs) pr.stated three.0 v three.1 (statements_put w F cs (are_clauses w false cs s) three.2));
           frame = back_stands w f g S T st behind;
           calm = tag_calm pr.first pr.tag (each xs) rows.calm;
         })
 
   -- ---- a switch without one
 
-  module _ (f g : Frame) (h : Hint) (i j : ℕ) (cs : Trees) (s : AllClauses w cs) (st : FramesStand w f g) where
+  module _ (f g : Frame) (h : Hint) (i j : ℕ) (cs : Trees) (s : AllClauses w true cs) (st : FramesStand w f g) where
     abbrev B : Frame
     B = tagged None f
 
@@ -353,7 +330,7 @@ module _ (w : Standins) where
       behind = switch_behind None f cs;
       form = form.Switch;
       laid = None ∷ None ∷ each zs;
-      is = switch_rows h (skip cs) f None [] cs (are_clauses w cs s);
+      is = switch_rows h (skip cs) f None [] cs (are_clauses w true cs s);
       laid_is = refl;
       form_is = refl;
     }
@@ -370,7 +347,7 @@ module _ (w : Standins) where
         let new_cs = all_with_variables w cs in
         let C = tagged None g in
         let inner = with_tag_stands w f g (sort.Value boolean) (sort.Value boolean) (as_before None (sort.Value boolean)) st in
-        let rows = clauses_read w B C cs boolean refl s inner own.0 all tagged_parts in
+        let rows = clauses_read w true B C cs boolean refl (λ e. refl) s inner own.0 all tagged_parts in
         let T = switch_behind None g new_cs in
         let behind : FramesStand w S T = switch_stands cs None None f g st rows.frame in
         node_reads w f g h kind.Switch i j (skip cs) bare_old refl refl own.1
@@ -378,12 +355,12 @@ module _ (w : Standins) where
           parts = None ∷ each (statements_of C new_cs);
           found = statement_faults C new_cs;
           behind = T;
-          is = switch_rows h (skip new_cs) g None [] new_cs (new_stated w cs (are_clauses w cs s));
+          is = switch_rows h (skip new_cs) g None [] new_cs (new_stated w cs (are_clauses w true cs s));
           laid_is = ap (λ z. None ∷ None ∷ z) (ap each rows.trees ∙ sym (news_each w zs));
           form_is = refl;
           good = rows.good;
           rule = own_none w g h kind.Switch i j (skip new_cs) refl T form.Switch (news w ys) refl;
-          node = node_put w form.Switch i j tag_takes ys switch_form (tag_puts None None (each zs) tt tt tt tt (statements_put w B cs (are_clauses w cs s) all));
+          node = node_put w form.Switch i j tag_takes ys switch_form (tag_puts None None (each zs) tt tt tt tt (statements_put w B cs (are_clauses w true cs s) all));
           frame = back_stands w f g S T st behind;
           calm = tag_calm None None (each zs) rows.calm;
         })

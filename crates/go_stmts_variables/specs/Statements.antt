@@ -70,12 +70,17 @@ abbrev pub goes_over : Trees → Bool
 goes_over (more hd ps) = not (is_clause (kind_of hd))
 goes_over ps = false
 
+-- whether a switch has a part in front of its clauses
+abbrev pub has_header : Trees → Bool
+has_header (more hd cs) = true
+has_header ps = false
+
 abbrev pub TypelessIf : Bool → Trees → Type 0
 TypelessIf true ps = are_typeless ps ≡ true
 TypelessIf false ps = Unit {0}
 
 -- Names that are declared and types are none in place of which a variable stands; nor does one stand in a declaration of constants or
--- types. The clauses of a switch, and loops that go over a value, declare no types: their values are read with the right sides that are
+-- types. Switches that have a tag, or a statement in front of it, and loops that go over a value declare no types: their values are read with the right sides that are
 -- known in front of their statements, and judged with those behind.
 abbrev pub Declared : Standins → Kind → ℕ → Trees → Type 0
 Declared w kind.DeclaredName i ps = w i ≡ None
@@ -85,7 +90,7 @@ Declared w (kind.Specification declaring.Variable) i ps = SecondFree w ps
 Declared w (kind.Specification declaring.Type) i ps = w i ≡ None
 Declared w (kind.Declaration declaring.Constant) i ps = AllFree w ps
 Declared w (kind.Declaration declaring.Type) i ps = AllFree w ps
-Declared w kind.Case i ps = are_typeless ps ≡ true
+Declared w kind.Switch i ps = TypelessIf (has_header ps) ps
 Declared w kind.For i ps = TypelessIf (goes_over ps) ps
 Declared w k i ps = Unit {0}
 
