@@ -1,8 +1,8 @@
 -- Runs of tokens, of which one ends where another begins or before, are apart in bytes.
-use Rattle.std.proofs.Common.{◌≡◌, ◌∙◌, ℕ, zero, suc, ◌+◌, ◌-◌, ◌<◌, ◌≤◌, Bool, true, false, List, [], ◌∷◌, ◌++◌, length, map, Option, Some, None, slice_get, refl, sym, ap, subst, arith, inl, inr}
+use Rattle.std.proofs.Common.{◌≡◌, ◌∙◌, ℕ, zero, suc, ◌+◌, ◌-◌, ◌<◌, ◌≤◌, true, List, [], ◌∷◌, ◌++◌, length, map, Option, Some, None, slice_get, refl, sym, ap, arith, inl, inr}
 use Rattle.std.proofs.lemmas.Bool.{both_ways, cases_lt}
 use Rattle.std.proofs.lemmas.Bool.Decides.{nat_tests}
-use Rattle.std.specs.Prelude.{◌&&◌, ◌⊎◌, nat_eq, nat_le, nat_lt}
+use Rattle.std.specs.Prelude.{◌⊎◌}
 use Rattle.std.specs.List.{AllByRecursion}
 use Rattle.std.specs.Option.{option_map, option_to_list}
 use Rattle.go_tokens.specs.declared.token.Token.{Token}
@@ -14,9 +14,9 @@ use Rattle.go_tree.specs.Uses.{functions_among}
 use Rattle.go_types.specs.Trees.{TypeTree}
 use Rattle.go_typed.specs.declared.window.Window.{Window}
 use Rattle.go_typed.specs.Contents.{Content, FuncContent}
-use Rattle.param_choose.specs.Members.{Member, first_token, member_of, member_over, members_of, template_of}
+use Rattle.param_choose.specs.Members.{Member, first_token, member_over, members_of, template_of}
 use Rattle.escape_check.specs.Apart as tokens
-use Rattle.escape_check.specs.Places.{Place, Sources, bytes_in, bytes_of, file_in, file_of, place, sources_of, window_place}
+use Rattle.escape_check.specs.Places.{Sources, bytes_in, file_of, sources_of, window_place}
 use Rattle.escape_check.specs.Refusals.{refused}
 use Rattle.escape_check.specs.Tokens.{has_token}
 use Rattle.extract_texts.specs.Texts.{window_bytes}
