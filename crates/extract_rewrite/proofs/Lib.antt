@@ -1,4 +1,5 @@
 pub mod Placing
+pub mod Runs
 pub mod Descending
 pub mod Bytes
 pub mod Seen

@@ -1,5 +1,6 @@
 pub mod Order
 pub mod Apart
+pub mod Windows
 pub mod Renewed
 pub mod Edits
 pub mod Counts

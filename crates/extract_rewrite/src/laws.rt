@@ -12,7 +12,9 @@ ghost use Rattle.extract_rewrite.specs.Limits.{AreApartFromOthers};
 ghost use Rattle.extract_rewrite.specs.Order.{from_the_end};
 ghost use Rattle.extract_rewrite.specs.Renewed.{OtherBytesStay};
 ghost use Rattle.extract_rewrite.specs.Sites.{CallsStandAtWindows, NewFunctionsStand};
+ghost use Rattle.extract_rewrite.specs.Windows.{WindowsOfFunctionsAreApart};
 
+use escape_check::laws::unrefused_windows_are_apart;
 use go_grammar::laws::one_tree_of_a_file;
 use go_print_laws::laws::{calls_stand, functions_stand};
 use go_tokens::laws::one_lexing;
@@ -29,6 +31,13 @@ pub fn edits_apply()
 pub fn other_bytes_stay()
     ensures { OtherBytesStay }
 {}
+
+/// Where windows are not refused, those of one function are replaced at ranges that don't overlap, if they have tokens of its file.
+pub fn windows_of_functions_are_apart()
+    ensures { WindowsOfFunctionsAreApart }
+{
+    unrefused_windows_are_apart();
+}
 
 /// What stands at a window is a run of statements with the trees that are written down for it, where all that it names has names and
 /// its types and constants can be written.
