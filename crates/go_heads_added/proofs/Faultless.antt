@@ -1,8 +1,10 @@
--- No rule on names fails where a function is appended, but that on declarations that need themselves.
-use Rattle.std.proofs.Common.{◌≡◌, ℕ, suc, ◌+◌, ◌<◌, ◌≤◌, Bool, true, false, ◌&&◌, ◌||◌, not, List, [], ◌∷◌, ◌++◌, length, map, Option, Some, None, refl, sym, ap, subst, ◌∙◌, length-append, arith}
-use Rattle.std.specs.Prelude.{nat_eq, codes}
+-- No rule on names fails where a function is appended.
+use Rattle.std.proofs.Common.{◌≡◌, ℕ, suc, ◌+◌, ◌<◌, ◌≤◌, inl, inr, Bool, true, false, ◌&&◌, ◌||◌, not, List, [], ◌∷◌, ◌++◌, length, map, Option, Some, None, refl, sym, ap, subst, ◌∙◌, length-append, arith}
+use Rattle.std.specs.Prelude.{if◌then◌else◌, nat_eq, codes}
+use Rattle.std.specs.Option.{option_map}
 use Rattle.std.specs.List.{AllByRecursion}
 use Rattle.std.proofs.lemmas.Bool.{eqb-true}
+use Rattle.std.proofs.lemmas.Bool.Decides.{nat_tests}
 use Rattle.go_base.specs.declared.fault.FaultCode.TheVariants as code
 use Rattle.go_tokens.specs.Spellings.{same_text}
 use Rattle.go_tokens.specs.Tokens.{TokenList}
@@ -12,25 +14,32 @@ use Rattle.go_tree.specs.declared.event.Event.TheVariants as event
 use Rattle.go_tree.specs.Branches.{branches, misplaced, statements, limit}
 use Rattle.go_tree.specs.Clauses.{package_names, imports, other_imports, outside_declarations, declares, is_spelled, read_byte, is_read_byte, bodiless, missing_bodies}
 use Rattle.go_tree.specs.Constants.{hidden_in, hidden_lists}
-use Rattle.go_tree.specs.Declarations.{Found, found, new_among, declarations}
+use Rattle.go_tree.specs.Declarations.{Found, found, found_in, found_from, is_function, new_among, declarations}
 use Rattle.go_tree.specs.Duplicates.{is_duplicate, second_members, second_defaults, duplicates}
 use Rattle.go_tree.specs.Failures.{Failure, failing, of_files, least, or_else}
 use Rattle.go_tree.specs.Faults.{clause_faults, lookup_faults, unused_faults, placed_faults, cycle_faults, name_faults, reported}
 use Rattle.go_tree.specs.Imports.{imports_fmt}
-use Rattle.go_tree.specs.Lookups.{Asked, asked_in, asked_from, undeclared, outside_names, outside_members, not_called, initialisers, is_counted, is_used, unused_variables, uses_import, imports_unless, unused_imports}
-use Rattle.go_tree.specs.Meanings.{Meaning, meanings}
+use Rattle.go_tree.specs.Lookups.{Asked, asked, asked_in, asked_from, undeclared, outside_names, outside_members, not_called, initialisers, is_counted, is_used, unused_variables, uses_import, imports_unless, unused_imports}
+use Rattle.go_tree.specs.Meanings.{Meaning, Numbers, first_numbers, numbers_behind, numbered, imported_from, meanings}
+use Rattle.go_tree.specs.Needs.{is_same, needs_itself, cycles}
 use Rattle.go_tree.specs.Redeclared.{second_declarations, has_import, hidden_imports, second_imports, none_new, redeclared}
-use Rattle.go_tree.specs.Units.{Unit, Place, word, bytes_at}
-use Rattle.go_heads_added.specs.Added.{reaching, longer, IsEarlier, IsParameter, IsAdded, LiesIn, NoneSays}
-use Rattle.go_heads_added.specs.Faults.{FunctionIsFine, FileIsWithin, circles}
+use Rattle.go_tree.specs.Units.{Unit, Place, word, is_blank, bytes_at}
+use Rattle.go_scopes_cycles.specs.Closure.{IsDeclared, AreDeclared, any_itself}
+use Rattle.go_scopes_cycles.specs.Needs.{source_of}
+use Rattle.go_heads_added.specs.Added.{reaching, longer, behind, IsEarlier, IsParameter, IsAdded, LiesIn, NoneSays}
+use Rattle.go_heads_added.specs.Faults.{FunctionIsFine, FileIsWithin, SourceIsOuter, MeansOuter}
+use Rattle.go_heads_added.specs.Within.{EventWithin, IsOfFunction, SiteWithin, SiteBehind, SourceBehind}
 use Rattle.go_heads_added.proofs.Asks.{AsksFollow, asks_follow, undeclared_none, names_none, selected_none, calls_none, initials_none, still_used, still_imported}
+use Rattle.go_heads_added.proofs.Circles.{Maybe, IsOld, SourceHas, asked_has, from_has, numbered_has, imports_have, sourceless, itself_same, ComesFrom, function_never}
 use Rattle.go_heads_added.proofs.Files as files
 use Rattle.go_heads_added.proofs.Files.{test_false, rest_none, none_there, none_front, none_behind, none_both, failing_none, none_failing, least_none, Rule, Follows, files_none, changed_none, all_follow}
 use Rattle.go_heads_added.proofs.Found.{found_before, found_after}
 use Rattle.go_heads_added.proofs.Names.{g, front, rest, all, kept, others, added, first_meanings, new_meanings, other_meanings, declarations_were, declarations_are, meanings_were, meanings_are, new_aside, parameters_new}
+use Rattle.go_heads_added.proofs.Numbers.{moved}
 use Rattle.go_heads_added.proofs.Objects.{were, are}
 use Rattle.go_heads_added.proofs.Own as own
 use Rattle.go_heads_added.proofs.Redeclared as twice
+use Rattle.go_heads_added.proofs.Rounds.{Bound, never_itself}
 use Rattle.go_heads_added.proofs.Texts.{IsApart, Says, all_both, all_front, all_behind, all_more, all_mapped, new_all, from_apart, all_say}
 
 -- ---- what is reported
@@ -280,27 +289,27 @@ module _ (k n : ℕ) (name : List ℕ) (old new : List Unit) (h : IsAdded k n na
 
   -- ---- declarations
 
-  abbrev IsOld : Found → Type 0
-  IsOld d = IsApart name d × IsEarlier k n d
+  abbrev IsStill : Found → Type 0
+  IsStill d = IsApart name d × IsEarlier k n d
 
-  together : (xs : List Found) → AllByRecursion (IsApart name) xs → AllByRecursion (IsEarlier k n) xs → AllByRecursion IsOld xs
+  together : (xs : List Found) → AllByRecursion (IsApart name) xs → AllByRecursion (IsEarlier k n) xs → AllByRecursion IsStill xs
   together [] x y = tt
   together (d ∷ ds) x y = ((x.0, y.0), together ds x.1 y.1)
 
   all_apart : AllByRecursion (IsApart name) (front k n name old new h i ++ rest k n name old new h i)
   all_apart = subst (AllByRecursion (IsApart name)) (found_before k n name old new h i) (from_apart name 0 old q)
 
-  kept_old : AllByRecursion IsOld (kept k n name old new h i)
+  kept_old : AllByRecursion IsStill (kept k n name old new h i)
   kept_old =
       let f = front k n name old new h i in
       let r = rest k n name old new h i in
-      new_all IsOld (f ++ r) f (together f (all_front (IsApart name) f r all_apart) i.front_blocks)
+      new_all IsStill (f ++ r) f (together f (all_front (IsApart name) f r all_apart) i.front_blocks)
 
-  others_old : AllByRecursion IsOld (others k n name old new h i)
+  others_old : AllByRecursion IsStill (others k n name old new h i)
   others_old =
       let f = front k n name old new h i in
       let r = rest k n name old new h i in
-      new_all IsOld (f ++ r) r (together r (all_behind (IsApart name) f r all_apart) i.rest_blocks)
+      new_all IsStill (f ++ r) r (together r (all_behind (IsApart name) f r all_apart) i.rest_blocks)
 
   new_parameters : AllByRecursion (IsParameter k n) (new_among (all k n name old new h i) h.longer.parameters)
   new_parameters = parameters_new k n (all k n name old new h i) h.longer.parameters h.longer.are_parameters
@@ -453,14 +462,315 @@ module _ (k n : ℕ) (name : List ℕ) (old new : List Unit) (h : IsAdded k n na
       (none_failing code.Limit (limit new) (no_limit (failing_none code.Limit (limit old) o.2)))
       (none_failing code.Outside (hidden_lists new) (no_hidden_lists (failing_none code.Outside (hidden_lists old) o.3)))
 
+  -- ---- declarations that need themselves
+
+  abbrev IsInFront : Found → Type 0
+  IsInFront = IsOld k n e (g k n name old new h i)
+
+  old_in : (es : List Event) → AllByRecursion (EventWithin n) es → AllByRecursion IsInFront (found_in k ts es)
+  old_in [] x = tt
+  old_in (event.Declaration d ∷ es) x = ((λ z. x.0), old_in es x.1)
+  old_in (event.Use u ∷ es) x = old_in es x.1
+  old_in (event.Import p ∷ es) x = old_in es x.1
+  old_in (event.Member m y j ∷ es) x = old_in es x.1
+  old_in (event.Bodiless y j ∷ es) x = old_in es x.1
+  old_in (event.Statement y j ∷ es) x = old_in es x.1
+  old_in (event.Misplaced y j ∷ es) x = old_in es x.1
+  old_in (event.SecondDefault y ∷ es) x = old_in es x.1
+
+  other_in : (m : ℕ) (vs : TokenList) (es : List Event) → nat_eq m k ≡ false → AllByRecursion IsInFront (found_in m vs es)
+  other_in m vs [] x = tt
+  other_in m vs (event.Declaration d ∷ es) x = ((λ z. absurd (never (sym x ∙ z))), other_in m vs es x)
+    where
+      never : false ≡ true → ⊥
+      never z = cc
+  other_in m vs (event.Use u ∷ es) x = other_in m vs es x
+  other_in m vs (event.Import p ∷ es) x = other_in m vs es x
+  other_in m vs (event.Member o y j ∷ es) x = other_in m vs es x
+  other_in m vs (event.Bodiless y j ∷ es) x = other_in m vs es x
+  other_in m vs (event.Statement y j ∷ es) x = other_in m vs es x
+  other_in m vs (event.Misplaced y j ∷ es) x = other_in m vs es x
+  other_in m vs (event.SecondDefault y ∷ es) x = other_in m vs es x
+
+  before_in : (m : ℕ) (xs : List Unit) → m + length xs ≤ k → AllByRecursion IsInFront (found_from m xs)
+  before_in m [] l = tt
+  before_in m (u ∷ xs) l = all_both IsInFront (found_in m u.tokens u.events) (found_from (suc m) xs) (other_in m u.tokens u.events (grind (arith, nat_tests))) (before_in (suc m) xs (omega (arith, l)))
+
+  behind_in : (m : ℕ) (xs : List Unit) → k < m → AllByRecursion IsInFront (found_from m xs)
+  behind_in m [] l = tt
+  behind_in m (u ∷ xs) l = all_both IsInFront (found_in m u.tokens u.events) (found_from (suc m) xs) (other_in m u.tokens u.events (grind (arith, nat_tests))) (behind_in (suc m) xs (omega (arith, l)))
+
+  front_is_old : AllByRecursion IsInFront (front k n name old new h i)
+  front_is_old = all_both IsInFront (found_from 0 h.before) (found_in k ts h.a.events) (before_in 0 h.before (let p = h.place in omega (arith, p))) (old_in h.a.events w.events)
+
+  kept_is_old : AllByRecursion IsInFront (kept k n name old new h i)
+  kept_is_old = new_all IsInFront (front k n name old new h i ++ rest k n name old new h i) (front k n name old new h i) front_is_old
+
+  others_is_old : AllByRecursion IsInFront (others k n name old new h i)
+  others_is_old = new_all IsInFront (front k n name old new h i ++ rest k n name old new h i) (rest k n name old new h i) (behind_in (suc k) h.behind (omega arith))
+
+  declared_is_old : AllByRecursion IsInFront (declarations old)
+  declared_is_old = subst (AllByRecursion IsInFront) (sym (declarations_were k n name old new h i)) (all_both IsInFront (kept k n name old new h i) (others k n name old new h i) kept_is_old others_is_old)
+
+  -- each name that is looked up means what is declared
+  abbrev IsThere : Found → Type 0
+  IsThere d = IsInFront d × IsDeclared d (declarations old)
+
+  one_itself : (d : Found) → is_same d d ≡ true
+  one_itself d = grind (arith, nat_tests)
+
+  declared_more : (d x : Found) (ds : List Found) → IsDeclared d ds → IsDeclared d (x ∷ ds)
+  declared_more d x ds z = inr z
+
+  all_there : (ds : List Found) → AllByRecursion (λ d. IsDeclared d ds) ds
+  all_there [] = tt
+  all_there (d ∷ ds) = (inl (one_itself d), all_more (λ x. IsDeclared x ds) (λ x. IsDeclared x (d ∷ ds)) (λ x z. declared_more x d ds z) ds (all_there ds))
+
+  pair : (ds : List Found) → AllByRecursion IsInFront ds → AllByRecursion (λ d. IsDeclared d (declarations old)) ds → AllByRecursion IsThere ds
+  pair [] x y = tt
+  pair (d ∷ ds) x y = ((x.0, y.0), pair ds x.1 y.1)
+
+  meanings_there : AllByRecursion (λ m. SourceHas IsThere m.source) (meanings old)
+  meanings_there =
+      all_both (λ m. SourceHas IsThere m.source) (imported_from 0 old) (numbered first_numbers (declarations old)) (imports_have IsThere 0 old)
+      (numbered_has IsThere first_numbers (declarations old) (pair (declarations old) declared_is_old (all_there (declarations old))))
+
+  asks_there : AllByRecursion (λ a. Maybe (λ m. SourceHas IsThere m.source) a.meaning) asks
+  asks_there = from_has (λ m. SourceHas IsThere m.source) (meanings old) meanings_there 0 old
+
+  are_declared : (xs : List Asked) → AllByRecursion (λ a. Maybe (λ m. SourceHas IsThere m.source) a.meaning) xs → AreDeclared xs (declarations old)
+  are_declared [] x d s = absurd s
+  are_declared (a ∷ xs) x d (inl s) = by a.meaning x.0 s
+    where
+      some_found : (y z : Found) → ◌≡◌ {A = Option Found} (Some y) (Some z) → y ≡ z
+      some_found y z q = cc
+
+      of : (o : Option Found) → SourceHas IsThere o → o ≡ Some d → IsDeclared d (declarations old)
+      of None y q = absurd cc
+      of (Some v) y q = subst (λ z. IsDeclared z (declarations old)) (some_found v d q) y.1
+
+      by : (m : Option Meaning) → Maybe (λ v. SourceHas IsThere v.source) m → source_of m ≡ Some d → IsDeclared d (declarations old)
+      by None y q = absurd cc
+      by (Some m) y q = of m.source y q
+  are_declared (a ∷ xs) x d (inr s) = are_declared xs x.1 d s
+
+  source_is_old : (o : Option Found) → SourceHas IsThere o → SourceHas IsInFront o
+  source_is_old None x = tt
+  source_is_old (Some d) x = x.0
+
+  maybe_old : (m : Option Meaning) → Maybe (λ v. SourceHas IsThere v.source) m → Maybe (λ v. SourceHas IsInFront v.source) m
+  maybe_old None x = tt
+  maybe_old (Some m) x = source_is_old m.source x
+
+  asks_old : AllByRecursion (λ a. Maybe (λ m. SourceHas IsInFront m.source) a.meaning) asks
+  asks_old = all_more (λ a. Maybe (λ m. SourceHas IsThere m.source) a.meaning) (λ a. Maybe (λ m. SourceHas IsInFront m.source) a.meaning) (λ a x. maybe_old a.meaning x) asks asks_there
+
+  -- names of the file stand in specifications in front of its end
+  early_in : (ms : List Meaning) (es : List Event) → AllByRecursion (EventWithin n) es → AllByRecursion (λ a. nat_eq a.file k ≡ true → SiteWithin n a.it.site) (asked_in ms k ts es)
+  early_in ms [] x = tt
+  early_in ms (event.Use u ∷ es) x = by (is_blank (word ts u.name)) (early_in ms es x.1)
+    where
+      by : (b : Bool) → AllByRecursion (λ a. nat_eq a.file k ≡ true → SiteWithin n a.it.site) (asked_in ms k ts es)
+          → AllByRecursion (λ a. nat_eq a.file k ≡ true → SiteWithin n a.it.site) (if b then asked_in ms k ts es else asked ms k ts u ∷ asked_in ms k ts es)
+      by true y = y
+      by false y = ((λ z. x.0.2), y)
+  early_in ms (event.Declaration d ∷ es) x = early_in ms es x.1
+  early_in ms (event.Import p ∷ es) x = early_in ms es x.1
+  early_in ms (event.Member m y j ∷ es) x = early_in ms es x.1
+  early_in ms (event.Bodiless y j ∷ es) x = early_in ms es x.1
+  early_in ms (event.Statement y j ∷ es) x = early_in ms es x.1
+  early_in ms (event.Misplaced y j ∷ es) x = early_in ms es x.1
+  early_in ms (event.SecondDefault y ∷ es) x = early_in ms es x.1
+
+  other_early : (ms : List Meaning) (m : ℕ) (vs : TokenList) (es : List Event) → nat_eq m k ≡ false → AllByRecursion (λ a. nat_eq a.file k ≡ true → SiteWithin n a.it.site) (asked_in ms m vs es)
+  other_early ms m vs [] x = tt
+  other_early ms m vs (event.Use u ∷ es) x = by (is_blank (word vs u.name)) (other_early ms m vs es x)
+    where
+      never : {X : Type 0} → false ≡ true → X
+      never z = cc
+
+      by : (b : Bool) → AllByRecursion (λ a. nat_eq a.file k ≡ true → SiteWithin n a.it.site) (asked_in ms m vs es)
+          → AllByRecursion (λ a. nat_eq a.file k ≡ true → SiteWithin n a.it.site) (if b then asked_in ms m vs es else asked ms m vs u ∷ asked_in ms m vs es)
+      by true y = y
+      by false y = ((λ z. never (sym x ∙ z)), y)
+  other_early ms m vs (event.Declaration d ∷ es) x = other_early ms m vs es x
+  other_early ms m vs (event.Import p ∷ es) x = other_early ms m vs es x
+  other_early ms m vs (event.Member o y j ∷ es) x = other_early ms m vs es x
+  other_early ms m vs (event.Bodiless y j ∷ es) x = other_early ms m vs es x
+  other_early ms m vs (event.Statement y j ∷ es) x = other_early ms m vs es x
+  other_early ms m vs (event.Misplaced y j ∷ es) x = other_early ms m vs es x
+  other_early ms m vs (event.SecondDefault y ∷ es) x = other_early ms m vs es x
+
+  abbrev IsEarly : Asked → Type 0
+  IsEarly a = nat_eq a.file k ≡ true → SiteWithin n a.it.site
+
+  early_behind : (ms : List Meaning) (m : ℕ) (xs : List Unit) → k < m → AllByRecursion IsEarly (asked_from ms m xs)
+  early_behind ms m [] l = tt
+  early_behind ms m (u ∷ xs) l =
+      all_both IsEarly (asked_in ms m u.tokens u.events) (asked_from ms (suc m) xs) (other_early ms m u.tokens u.events (grind (arith, nat_tests))) (early_behind ms (suc m) xs (omega (arith, l)))
+
+  early_from : (ms : List Meaning) (m : ℕ) (xs : List Unit) → m + length xs ≡ k → AllByRecursion IsEarly (asked_from ms m (xs ++ h.a ∷ h.behind))
+  early_from ms m [] l =
+      let same : k ≡ m = omega (arith, l) in
+      subst (λ z. AllByRecursion IsEarly (asked_in ms z ts h.a.events ++ asked_from ms (suc z) h.behind)) same
+      (all_both IsEarly (asked_in ms k ts h.a.events) (asked_from ms (suc k) h.behind) (early_in ms h.a.events w.events) (early_behind ms (suc k) h.behind (omega arith)))
+  early_from ms m (u ∷ xs) l =
+      all_both IsEarly (asked_in ms m u.tokens u.events) (asked_from ms (suc m) (xs ++ h.a ∷ h.behind)) (other_early ms m u.tokens u.events (grind (arith, nat_tests))) (early_from ms (suc m) xs (omega (arith, l)))
+
+  asks_early : AllByRecursion IsEarly asks
+  asks_early = subst (λ us. AllByRecursion IsEarly (asked_from (meanings old) 0 us)) (sym h.was) (early_from (meanings old) 0 h.before (let p = h.place in omega (arith, p)))
+
+  -- what the function's own names are
+  news_in : (ms : List Meaning) (es : List Event) → AllByRecursion (IsOfFunction n) es → AllByRecursion (λ a. (a.file ≡ k) × SiteBehind n a.it.site) (asked_in ms k us es)
+  news_in ms [] x = tt
+  news_in ms (event.Use u ∷ es) x = by (is_blank (word us u.name)) (news_in ms es x.1)
+    where
+      by : (b : Bool) → AllByRecursion (λ a. (a.file ≡ k) × SiteBehind n a.it.site) (asked_in ms k us es)
+          → AllByRecursion (λ a. (a.file ≡ k) × SiteBehind n a.it.site) (if b then asked_in ms k us es else asked ms k us u ∷ asked_in ms k us es)
+      by true y = y
+      by false y = ((refl, x.0), y)
+  news_in ms (event.Declaration d ∷ es) x = news_in ms es x.1
+  news_in ms (event.Import p ∷ es) x = absurd x.0
+  news_in ms (event.Member m y j ∷ es) x = news_in ms es x.1
+  news_in ms (event.Bodiless y j ∷ es) x = absurd x.0
+  news_in ms (event.Statement y j ∷ es) x = absurd x.0
+  news_in ms (event.Misplaced y j ∷ es) x = absurd x.0
+  news_in ms (event.SecondDefault y ∷ es) x = absurd x.0
+
+  own_in : (es : List Event) → AllByRecursion (IsOfFunction n) es → AllByRecursion (λ d. (is_function d.it.entity ≡ false → d.it.source ≡ None) × SourceBehind n d.it.source) (found_in k us es)
+  own_in [] x = tt
+  own_in (event.Declaration d ∷ es) x = ((x.0.1, x.0.2), own_in es x.1)
+  own_in (event.Use u ∷ es) x = own_in es x.1
+  own_in (event.Import p ∷ es) x = absurd x.0
+  own_in (event.Member m y j ∷ es) x = own_in es x.1
+  own_in (event.Bodiless y j ∷ es) x = absurd x.0
+  own_in (event.Statement y j ∷ es) x = absurd x.0
+  own_in (event.Misplaced y j ∷ es) x = absurd x.0
+  own_in (event.SecondDefault y ∷ es) x = absurd x.0
+
+  abbrev IsOwn : Found → Type 0
+  IsOwn d = (is_function d.it.entity ≡ false → d.it.source ≡ None) × SourceBehind n d.it.source
+
+  own_declared : AllByRecursion IsOwn (h.longer.function ∷ h.longer.parameters)
+  own_declared = subst (AllByRecursion IsOwn) h.longer.declares (own_in extra fine.tells)
+
+  -- the meanings of the package with it
+  abbrev Comes : Meaning → Type 0
+  Comes m = SourceIsOuter k n m.source → (s : Option Found) × (m.source ≡ option_map (longer k e) s) × SourceHas IsInFront s
+
+  moved_come : (ms : List Meaning) → AllByRecursion (λ m. SourceHas IsInFront m.source) ms → AllByRecursion Comes (map (moved k e (g k n name old new h i)) ms)
+  moved_come [] x = tt
+  moved_come (m ∷ ms) x = ((λ z. (m.source, refl, x.0)), moved_come ms x.1)
+
+  new_come : (l : Numbers) (ds : List Found) → AllByRecursion (λ d. (d.file ≡ k) × (n ≤ d.it.name)) ds → AllByRecursion Comes (numbered l ds)
+  new_come l [] x = tt
+  new_come l (d ∷ ds) x = ((λ z. absurd (not_outer d x.0 z)), new_come (numbers_behind l d.it.entity d.it.block) ds x.1)
+    where
+      not_outer : (y : Found) → (y.file ≡ k) × (n ≤ y.it.name) → (nat_eq y.file k ≡ true → y.it.name < n) → ⊥
+      not_outer y f z =
+          let file = f.0 in
+          let named = f.1 in
+          let below = z (let q : nat_eq y.file k ≡ true = grind (arith, nat_tests) in q) in
+          absurd (omega (arith, named, below))
+
+  added_stand : AllByRecursion (λ d. (d.file ≡ k) × (n ≤ d.it.name)) (added k n name old new h i)
+  added_stand = (
+    (h.longer.is_function.file, h.longer.is_function.named),
+    all_more (IsParameter k n) (λ d. (d.file ≡ k) × (n ≤ d.it.name)) (λ d p. (p.file, p.named)) (new_among (all k n name old new h i) h.longer.parameters) new_parameters,
+  )
+
+  first_old : AllByRecursion (λ m. SourceHas IsInFront m.source) (first_meanings k n name old new h i)
+  first_old =
+      all_both (λ m. SourceHas IsInFront m.source) (imported_from 0 old) (numbered first_numbers (kept k n name old new h i)) (imports_have IsInFront 0 old) (numbered_has IsInFront first_numbers (kept k n name old new h i) kept_is_old)
+
+  other_old : AllByRecursion (λ m. SourceHas IsInFront m.source) (other_meanings k n name old new h i)
+  other_old = numbered_has IsInFront (behind first_numbers (kept k n name old new h i)) (others k n name old new h i) others_is_old
+
+  all_come : AllByRecursion Comes (meanings new)
+  all_come =
+      let m = moved k e (g k n name old new h i) in
+      let x = first_meanings k n name old new h i in
+      let y = new_meanings k n name old new h i in
+      let z = other_meanings k n name old new h i in
+      subst (AllByRecursion Comes) (sym (meanings_are k n name old new h i))
+      (all_both Comes (map m x) (y ++ map m z) (moved_come x first_old)
+      (all_both Comes y (map m z) (new_come (behind first_numbers (kept k n name old new h i)) (added k n name old new h i) added_stand) (moved_come z other_old)))
+
+  mid_comes : AllByRecursion (λ a. Maybe Comes a.meaning) mid
+  mid_comes = asked_has Comes (meanings new) all_come k us extra
+
+  mid_news : AllByRecursion (λ a. (a.file ≡ k) × SiteBehind n a.it.site) mid
+  mid_news = news_in (meanings new) extra fine.tells
+
+  comes_from : (xs : List Asked) → AllByRecursion (λ a. Maybe Comes a.meaning) xs → AllByRecursion (λ a. MeansOuter k n a.meaning) xs
+      → AllByRecursion (λ a. Maybe (ComesFrom k n e (g k n name old new h i) mid asks more_asks follow mid_news asks_old) a.meaning) xs
+  comes_from [] x y = tt
+  comes_from (a ∷ xs) x y = (by a.meaning x.0 y.0, comes_from xs x.1 y.1)
+    where
+      by : (m : Option Meaning) → Maybe Comes m → MeansOuter k n m → Maybe (ComesFrom k n e (g k n name old new h i) mid asks more_asks follow mid_news asks_old) m
+      by None p q = tt
+      by (Some m) p q = p q
+
+  abbrev Never : List Asked → ℕ → Found → Type 0
+  Never as_ r d = needs_itself as_ r d ≡ false
+
+  or_front : (a b : Bool) → (a || b) ≡ false → a ≡ false
+  or_front true b z = cc
+  or_front false b z = refl
+
+  or_rest : (a b : Bool) → (a || b) ≡ false → b ≡ false
+  or_rest true b z = cc
+  or_rest false b z = z
+
+  none_any : (r : ℕ) (ds : List Found) → cycles asks r ds ≡ [] → any_itself asks r ds ≡ false
+  none_any r [] z = refl
+  none_any r (d ∷ ds) z =
+      let b = needs_itself asks r d in
+      ap (λ x. x || any_itself asks r ds) (test_false b d.place (cycles asks r ds) z) ∙ none_any r ds (rest_none b d.place (cycles asks r ds) z)
+
+  any_never : (r : ℕ) (ds : List Found) → any_itself asks r ds ≡ false → AllByRecursion (Never asks r) ds
+  any_never r [] z = tt
+  any_never r (d ∷ ds) z = (or_front (needs_itself asks r d) (any_itself asks r ds) z, any_never r ds (or_rest (needs_itself asks r d) (any_itself asks r ds) z))
+
+  never_cycles : (r : ℕ) (ds : List Found) → AllByRecursion (Never more_asks r) ds → cycles more_asks r ds ≡ []
+  never_cycles r [] z = refl
+  never_cycles r (d ∷ ds) z = none_there (needs_itself more_asks r d) d.place (cycles more_asks r ds) z.0 (never_cycles r ds z.1)
+
+  still_never : (r : ℕ) (ds : List Found) → AllByRecursion IsInFront ds → AllByRecursion (Never asks r) ds → AllByRecursion (Never more_asks r) (map (longer k e) ds)
+  still_never r [] o z = tt
+  still_never r (d ∷ ds) o z = (itself_same k n e (g k n name old new h i) mid asks more_asks follow mid_news asks_old r d o.0 ∙ z.0, still_never r ds o.1 z.1)
+
+  new_never : (r : ℕ) → AllByRecursion (Never more_asks r) (added k n name old new h i)
+  new_never r = (
+    function_never k n e (g k n name old new h i) mid asks more_asks follow mid_news asks_old h.longer.function h.longer.is_function.file h.longer.is_function.named own_declared.0.1 asks_early (comes_from mid mid_comes fine.outer) r,
+    new_all (Never more_asks r) (all k n name old new h i) h.longer.parameters (parameters_never h.longer.parameters h.longer.are_parameters own_declared.1),
+  )
+    where
+      parameters_never : (ds : List Found) → AllByRecursion (IsParameter k n) ds → AllByRecursion IsOwn ds → AllByRecursion (Never more_asks r) ds
+      parameters_never [] x y = tt
+      parameters_never (d ∷ ds) x y = (sourceless more_asks r d (y.0.0 (ap is_function x.0.entity)), parameters_never ds x.1 y.1)
+
+  no_cycles : Bound → cycle_faults (declarations old) asks ≡ [] → cycle_faults (declarations new) more_asks ≡ []
+  no_cycles bound z =
+      let ds = declarations old in
+      let few = none_any (length ds + length ds) ds (failing_none code.Cycle (cycles asks (length ds + length ds) ds) z) in
+      let r = length (declarations new) + length (declarations new) in
+      let x = kept k n name old new h i in
+      let y = others k n name old new h i in
+      let were_never : AllByRecursion (Never asks r) (x ++ y) = subst (AllByRecursion (Never asks r)) (declarations_were k n name old new h i) (any_never r ds (never_itself bound asks ds (are_declared asks asks_there) few r)) in
+      let are_never : AllByRecursion (Never more_asks r) (map (longer k e) x ++ (added k n name old new h i ++ map (longer k e) y)) =
+      all_both (Never more_asks r) (map (longer k e) x) (added k n name old new h i ++ map (longer k e) y) (still_never r x kept_is_old (all_front (Never asks r) x y were_never))
+      (all_both (Never more_asks r) (added k n name old new h i) (map (longer k e) y) (new_never r) (still_never r y others_is_old (all_behind (Never asks r) x y were_never))) in
+      none_failing code.Cycle (cycles more_asks r (declarations new)) (never_cycles r (declarations new) (subst (AllByRecursion (Never more_asks r)) (sym (declarations_are k n name old new h i)) are_never))
+
   -- ---- all rules
 
-  pub faultless : reported old ≡ None → circles new ≡ [] → reported new ≡ None
-  faultless z c =
+  pub faultless : Bound → reported old ≡ None → reported new ≡ None
+  faultless bound z =
       let x = least_none (clause_faults old) (first_none (least (clause_faults old)) (least (name_faults old)) z) in
       let y = least_none (name_faults old) (second_none (least (clause_faults old)) (least (name_faults old)) z) in
       let o = five_none (failing code.Redeclared (redeclared old (declarations old))) (lookup_faults asks) (unused_faults old (declarations old) asks) (placed_faults old) (cycle_faults (declarations old) asks) y in
       nothing_reported (clause_faults new) (name_faults new) (clauses x)
       (five_both (failing code.Redeclared (redeclared new (declarations new))) (lookup_faults more_asks) (unused_faults new (declarations new) more_asks) (placed_faults new) (cycle_faults (declarations new) more_asks)
       (none_failing code.Redeclared (redeclared new (declarations new)) (once (failing_none code.Redeclared (redeclared old (declarations old)) o.0)))
-      (lookups o.1) (used o.2) (placed o.3) c)
+      (lookups o.1) (used o.2) (placed o.3) (no_cycles bound o.4))

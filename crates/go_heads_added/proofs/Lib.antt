@@ -19,3 +19,5 @@ mod Texts
 mod Redeclared
 mod Asks
 mod Faultless
+mod Rounds
+mod Circles

@@ -248,7 +248,7 @@ module _ (n end : ℕ) (ts us : TokenList) (w : (t : ℕ) → t < n → word us 
   hides_same s all (event.Declaration d ∷ es) a h =
       same_or (is_list s (list_of d) && not (is_blank (word us d.name)) && uses_name s (word us d.name) (word us) (to all)) (is_list s (list_of d) && not (is_blank (word ts d.name)) && uses_name s (word ts d.name) (word ts) all)
       (hides_one s (word us) (to all) (to es)) (hides_one s (word ts) all es)
-      (ap (λ z. is_list s (list_of d) && not (is_blank z) && uses_name s z (word us) (to all)) (w d.name h.0)
+      (ap (λ z. is_list s (list_of d) && not (is_blank z) && uses_name s z (word us) (to all)) (w d.name h.0.0)
       ∙ ap (λ z. is_list s (list_of d) && not (is_blank (word ts d.name)) && z) (uses_same s (word ts d.name) all a))
       (hides_same s all es a h.1)
   hides_same s all (e ∷ es) a h = hides_same s all es a h.1
@@ -262,7 +262,7 @@ module _ (n end : ℕ) (ts us : TokenList) (w : (t : ℕ) → t < n → word us 
   no_lists place before [] a = refl
   no_lists place before (event.Declaration d ∷ es) a =
       none_there (is_repetition d && is_hidden (list_of d) (word us) before) (place d.name) (hidden_lists_by (word us) place (before ++ event.Declaration d ∷ []) es)
-      (and_none (is_repetition d) (is_hidden (list_of d) (word us) before) (ap (λ o. is_hidden o (word us) before) a.0)) (no_lists place (before ++ event.Declaration d ∷ []) es a.1)
+      (and_none (is_repetition d) (is_hidden (list_of d) (word us) before) (ap (λ o. is_hidden o (word us) before) a.0.0)) (no_lists place (before ++ event.Declaration d ∷ []) es a.1)
   no_lists place before (e ∷ es) a = no_lists place (before ++ e ∷ []) es a.1
 
   pub lists_none : (p q : ℕ → Place) (before es added : List Event) → AllWithin before → AllWithin es → AllOf added → hidden_lists_by (word ts) p before es ≡ [] → hidden_lists_by (word us) q (to before) (to es ++ added) ≡ []

@@ -19,9 +19,10 @@ ghost use Rattle.go_tree.specs.Units.{Unit, word, is_blank};
 ghost use Rattle.go_heads_added.specs.Added.{IsAdded, LiesIn, NoneSays, KeepsAll, KeepsDeclared, AreEarlier, BlockWithin, gap_in, reaching};
 ghost use Rattle.go_heads_added.specs.Appended.{AreAdded, HasNames, IsFront, IsParameterOf, IsParsed, TellsMore, context_behind, empty_function, unit_of};
 ghost use Rattle.go_heads_added.specs.Examples.{Examples};
-ghost use Rattle.go_heads_added.specs.Faults.{FunctionIsFine, FileIsWithin, circles};
+ghost use Rattle.go_heads_added.specs.Faults.{FunctionIsFine, FileIsWithin};
 ghost use Rattle.go_heads_added.specs.Within.{EventWithin};
 
+use go_scopes_cycles::laws::declarations_bound_rounds;
 use go_scopes_events::laws::locals_stand_in_functions;
 
 /// Behind a function that is appended to a file, and the name of which no token says, each token of the package means what it meant: the
@@ -34,12 +35,13 @@ pub fn added_names()
         → KeepsDeclared k h.longer.end (gap_in k n name old new h) old new }
 {}
 
-/// Behind an appended function whose name no token says, and at which no rule fails, no rule on names fails that did not, where no declaration
-/// needs itself.
+/// Behind an appended function whose name no token says, and at which no rule fails, no rule on names fails that did not.
 pub fn added_functions_fail_no_rule()
     ensures { (k n : ℕ) (name : List ℕ) (old new : List Unit) (h : IsAdded k n name old new) → LiesIn k n name old new h → NoneSays name old
-        → FileIsWithin k n name old new h → FunctionIsFine k n name old new h → reported old ≡ None → circles new ≡ [] → reported new ≡ None }
-{}
+        → FileIsWithin k n name old new h → FunctionIsFine k n name old new h → reported old ≡ None → reported new ≡ None }
+{
+    declarations_bound_rounds();
+}
 
 /// A file with a declaration behind all others tells what it told, to its own end, and then what that declaration tells. This holds of any
 /// tree.
