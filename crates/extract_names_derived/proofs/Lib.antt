@@ -12,4 +12,8 @@ mod Itself
 mod Paths
 mod Ranges
 mod Apart
+mod Sides
+mod Sided
+mod Split
 mod DerivedSites
+mod DerivedCopies

@@ -1,23 +1,26 @@
 //! Laws, for the crates above. The functions do nothing: their contracts are the laws.
 
-ghost use Rattle.std.specs.Prelude.{◌≡◌, ℕ, List, Some, slice_get};
+ghost use Rattle.std.specs.Prelude.{◌≡◌, ℕ, List, [], ◌∷◌, Some, slice_get};
 ghost use Rattle.go_tokens.specs.declared.token.TokenKind.{TokenKind};
 ghost use Rattle.go_grammar.specs.declared.kind.Category.TheVariants as category;
 ghost use Rattle.go_grammar.specs.declared.kind.Kind.TheVariants as kind;
 ghost use Rattle.go_grammar.specs.Grammar.{Derives};
 ghost use Rattle.go_grammar.specs.Trees.{Tree, kind_of};
-ghost use Rattle.go_rewriting.specs.Places.{Ascending};
+ghost use Rattle.go_rewriting.specs.Places.{Ascending, Patch, places, range};
 ghost use Rattle.go_rewriting.specs.Sites.{Site, site_ranges};
 ghost use Rattle.go_heads.specs.Functions.{Alone, AreRead, Function, all_functions, function_alone};
 ghost use Rattle.go_heads.specs.Heads.{File};
 ghost use Rattle.go_heads.specs.Locals.{AreNamed};
 ghost use Rattle.go_scopes_bodies.specs.Meant.{Outer};
+ghost use Rattle.extract_names.specs.Copies.{Copy, IsCopy};
 ghost use Rattle.extract_names.specs.Gaps.{Gap};
 ghost use Rattle.extract_names.specs.Sites.{IsSite};
+ghost use Rattle.extract_names_derived.specs.Copies.{SplitsAt, IsTaken};
 ghost use Rattle.extract_names_derived.specs.Functions.{IsDerivedFunction, own_kinds};
-ghost use Rattle.extract_names_derived.specs.Patches.{ReplaceRuns, PatchesRuns};
+ghost use Rattle.extract_names_derived.specs.Patches.{InLists, ReplaceRuns, PatchesRuns};
 ghost use Rattle.extract_names_derived.specs.Sites.{IsRewritten, IsChosen};
 
+use extract_names::laws::replaced_runs_tell;
 use go_rewriting::laws::text_stands_elsewhere;
 use go_scopes_bodies::laws::lists_tell_each_statement;
 
@@ -41,6 +44,25 @@ pub fn runs_at_paths_are_patched()
 /// scope, Function declarations).
 pub fn sites_are_derived()
     ensures { (ts us : List TokenKind) (a new : Alone) (outer : Outer) (gaps : List Gap) → (h : IsRewritten ts us a gaps new) → IsChosen a outer gaps new h.patch → IsSite a outer gaps new }
+{
+    lists_tell_each_statement();
+}
+
+/// What a derived function tells of names falls in three parts: what stands in front of a run of its statements, what the run tells, and what
+/// stands behind the run. What is declared in front is so in blocks that begin in front, and is in scope from a token in front on (Go
+/// specification: Blocks, Declarations and scope).
+pub fn runs_split_functions()
+    ensures { (ts : List TokenKind) (a : Alone) (c : Copy) (q : Patch) → IsDerivedFunction ts a → InLists a.tree q → places a.tree q ≡ range c.from c.upto ∷ [] → SplitsAt a c }
+{
+    lists_tell_each_statement();
+    replaced_runs_tell();
+}
+
+/// A derived function that begins with a copy of a run of a derived one is such a copy: what the old one tells falls in three parts, names
+/// stand in the order of their tokens, and both functions declare themselves and their locals. What is left to ask is how the run is placed,
+/// what the new function tells around it, and what depends on the choice (Go specification: Blocks, Declarations and scope).
+pub fn copies_are_derived()
+    ensures { (ts us : List TokenKind) (a : Alone) (outer : Outer) (c : Copy) (new : Alone) → IsDerivedFunction ts a → IsDerivedFunction us new → (s : SplitsAt a c) → IsTaken a outer c new s → IsCopy a outer c new }
 {
     lists_tell_each_statement();
 }
