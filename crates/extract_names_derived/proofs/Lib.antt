@@ -16,4 +16,6 @@ mod Sides
 mod Sided
 mod Split
 mod DerivedSites
+mod Placing
 mod DerivedCopies
+mod Changed

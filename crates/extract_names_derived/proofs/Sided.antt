@@ -174,6 +174,7 @@ mutual
           copied = λ at end none_replaced. run_copied c cx f n k i x j p ps lead top h l t il.0 (omega (arith, g.1)) (omega (arith, g.2)) none_replaced (e ∙ ap block.Local (sym at)) (sym end);
         },
         subst (λ z. AllSides c true z (list_pieces v cx d (items_behind n ps) qs)) (turned_true (places_in (items_behind n ps) qs))
-            (sides_list c v true cx d k i (items_behind n ps) qs (items_end n p ps) (suc (items_end n p ps)) j lead top h (omega (arith, o, l.0, grows, far.from)) e far.others (rises_behind n p ps il.0 r.1) (fit_behind n k i ps il.0 t.3) il.3
+            (sides_list c v true cx d k i (items_behind n ps) qs (items_end n p ps) (suc (items_end n p ps)) j lead top h (omega (arith, o, l.0, grows, far.from)) e far.others (rises_behind n p ps il.0 r.1)
+            (fit_behind n k i ps il.0 t.3) il.3
             (where_behind c (places_in (items_behind n ps) qs) (items_end n p ps) j g.0 g.2)),
       )

@@ -1,6 +1,8 @@
 -- A run of statements in a derived function, by its tokens.
-use Rattle.std.specs.Prelude.{◌≡◌, ℕ, suc, ◌<◌, ◌≤◌, ◌⊎◌, Bool, true, false, List, [], ◌++◌, None}
+use Rattle.std.specs.Prelude.{◌≡◌, ℕ, suc, ◌<◌, ◌≤◌, ◌⊎◌, Bool, true, false, List, [], ◌∷◌, ◌++◌, length, take, drop, None}
 use Rattle.go_grammar.specs.Trees.{Trees}
+use Rattle.go_rewriting.specs.Places.{Ascending}
+use Rattle.go_rewriting.specs.Replacing.{moved}
 use Rattle.go_tree.specs.declared.context.Block.TheVariants as block
 use Rattle.go_tree.specs.declared.context.Context.{Context}
 use Rattle.go_tree.specs.declared.context.Role.TheVariants as role
@@ -18,9 +20,10 @@ use Rattle.go_scopes_bodies.specs.Listed.{told_list}
 use Rattle.extract_names.specs.Copies.{Replaced, Free, Copy, IsIn, IsKept, IsEdge, told_copied, DeclarationCopied, EventCopied, AllCopied, StandsInFront, StandsBehind, HeadTells, TailTells, ParameterStands, InSignature}
 use Rattle.extract_names.specs.Copies.{InReturn, UsedInCopy, NamesLocal}
 use Rattle.extract_names.specs.Copies.{NamesFree, NamesOuter, is_around}
-use Rattle.extract_names.specs.Gaps.{Among}
+use Rattle.extract_names.specs.Gaps.{Gap, Among, moved_by, ranges}
 use Rattle.extract_names.specs.Pieces.{Piece, told_before}
 use Rattle.extract_names.specs.Sites.{EachEvent, specification_at, found_as}
+use Rattle.extract_names_derived.specs.Texts.{with_gaps}
 
 -- A run tells what its statements tell, in the list of a block of a function.
 pub record RunTold (c : Copy) (run : List Event) : Type 0 where
@@ -53,7 +56,35 @@ pub record SplitsAt (a : Alone) (c : Copy) : Type 0 where
   pub in_front : EachEvent (StandsInFront c) before
   pub from_behind : EachEvent (StandsBehind c) behind
 
--- The function `new` begins with a copy of a run of a derived one, which splits that function: how the tokens of the run are placed, what the
+-- ---- how a run is placed
+
+-- the holes as gaps of one token each, which have the texts of their parameters
+abbrev pub hole_gaps : (ℕ → List ℕ) → List Replaced → List Gap
+hole_gaps w [] = []
+hole_gaps w (h ∷ hs) = record { from = h.from; upto = h.upto; texts = w h.parameter ∷ []; means = λ i. None; declared = [] } ∷ hole_gaps w hs
+
+-- The new function has the texts of the run, with one token in the place of each hole, behind other texts and in front of others; and a token
+-- of the run is placed where its text stands.
+pub record PlacesRun (a new : Alone) (c : Copy) : Type 0 where
+  pub apart : Ascending c.from (ranges (hole_gaps (own_text new) c.holes)) c.upto
+  pub long : c.upto ≤ length a.texts
+  pub front : List (List ℕ)
+  pub back : List (List ℕ)
+  pub place : (t : ℕ) → c.place t ≡ moved c.from (length front) (moved_by (hole_gaps (own_text new) c.holes) t)
+  pub texts : new.texts ≡ front ++ (drop c.from (take (moved_by (hole_gaps (own_text new) c.holes) c.upto) (with_gaps (hole_gaps (own_text new) c.holes) a.texts)) ++ back)
+
+-- So its tokens keep their order and their texts, and in the place of a hole stands the text of its parameter.
+pub record RunPlaced (a new : Alone) (c : Copy) : Type 0 where
+  pub rises : (x y : ℕ) → IsEdge c x → IsEdge c y → x < y → c.place x < c.place y
+  pub edge : c.from < c.upto → IsEdge c c.from × IsEdge c c.upto
+  pub next : (t : ℕ) → IsKept c t → c.place (suc t) ≡ suc (c.place t)
+  pub holes : (h : Replaced) → Among h c.holes → (h.from < h.upto) × (h.from < c.upto) × IsEdge c h.from
+  pub texts : (t : ℕ) → IsKept c t → own_text new (c.place t) ≡ own_text a t
+  pub named : (h : Replaced) → Among h c.holes → own_text new (c.place h.from) ≡ own_text new h.parameter
+
+-- ---- the new function
+
+-- The function `new` begins with a copy of a run of a derived one, which splits that function: that its texts are those of the run, what the
 -- new function tells in front of it and behind it, and what is asked of the choice.
 pub record IsTaken (a : Alone) (outer : Outer) (c : Copy) (new : Alone) (s : SplitsAt a c) : Type 0 where
   pub around : c.around ≡ s.run_told.around
@@ -63,13 +94,10 @@ pub record IsTaken (a : Alone) (outer : Outer) (c : Copy) (new : Alone) (s : Spl
   pub head : List Event
   pub tail : List Event
   pub new_told : function_events new ≡ head ++ (told_copied c pieces ++ tail)
-  pub rises : (x y : ℕ) → IsEdge c x → IsEdge c y → x < y → c.place x < c.place y
-  pub edge : IsEdge c c.from × IsEdge c c.upto
+  pub placed : PlacesRun a new c
   pub body : c.body < c.place c.from
   pub close : c.place c.upto ≤ c.close
-  pub next : (t : ℕ) → IsKept c t → c.place (suc t) ≡ suc (c.place t)
-  pub holes : (h : Replaced) → Among h c.holes → (h.from < h.upto) × (h.from < c.upto) × IsEdge c h.from
-  pub named : (h : Replaced) → Among h c.holes → Among h.parameter c.parameters × (own_text new (c.place h.from) ≡ own_text new h.parameter)
+  pub named : (h : Replaced) → Among h c.holes → Among h.parameter c.parameters
   pub fresh : (h : Replaced) → Among h c.holes → (d : Declaration) → Among (event.Declaration d) (told_before pieces) → own_text new h.parameter ≡ own_text a d.name → ⊥
   pub copied : AllCopied c c.holes pieces
   pub head_tells : EachEvent (HeadTells c) head
@@ -77,7 +105,6 @@ pub record IsTaken (a : Alone) (outer : Outer) (c : Copy) (new : Alone) (s : Spl
   pub signature : EachEvent (InSignature new outer c) head
   pub members_once : second_members_by (own_text new) [] head ≡ []
   pub returns : EachEvent (InReturn a new c (told_before pieces)) tail
-  pub texts : (t : ℕ) → IsKept c t → own_text new (c.place t) ≡ own_text a t
   pub steps : (d e : Declaration) → DeclarationCopied c d → DeclarationCopied c e → Among (event.Declaration d) (function_events a) → Among (event.Declaration e) (function_events a) → d.name < e.name
       → is_around c d.block ≡ true → is_around c e.block ≡ false → d.scope.from < e.scope.from
   pub parameters : (u : ℕ) → Among u c.parameters → ParameterStands new head u
