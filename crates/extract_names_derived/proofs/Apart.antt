@@ -35,10 +35,10 @@ StandsElsewhere = (ts us : List TokenKind) (i j to : ℕ) → Elsewhere ts us i 
 
 module _ (m n : ℕ → ℕ) (e : (i : ℕ) → m i ≡ n i) where
   mutual
-    carry_same : (t : Tree) → carry m t ≡ carry n t
+    pub carry_same : (t : Tree) → carry m t ≡ carry n t
     carry_same (node k i j ps) = ap (λ x. node k x (m j) (carries m ps)) (e i) ∙ ap (λ x. node k (n i) x (carries m ps)) (e j) ∙ ap (node k (n i) (n j)) (carries_same ps)
 
-    carries_same : (ps : Trees) → carries m ps ≡ carries n ps
+    pub carries_same : (ps : Trees) → carries m ps ≡ carries n ps
     carries_same none = refl
     carries_same (more p ps) = ap (λ x. more x (carries m ps)) (carry_same p) ∙ ap (more (carry n p)) (carries_same ps)
     carries_same (skip ps) = ap skip (carries_same ps)

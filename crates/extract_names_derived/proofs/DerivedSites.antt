@@ -86,12 +86,12 @@ become_last v (node k i j ps) (inside qs) l = refl
 
 -- ---- derived functions
 
-order_of : (ts : List TokenKind) (a : Alone) → IsDerivedFunction ts a → AreInOrder 0 (length a.texts) (function_events a)
+pub order_of : (ts : List TokenKind) (a : Alone) → IsDerivedFunction ts a → AreInOrder 0 (length a.texts) (function_events a)
 order_of ts a h =
     let o : AreInOrder (first a.tree) (last a.tree) (function_events a) = events_order (file_context 0) a.tree (derives_laid ts a.tree category.Declaration h.derives) in
     subst (λ i. AreInOrder i (length a.texts) (function_events a)) h.begins (subst (λ j. AreInOrder (first a.tree) j (function_events a)) h.ends o)
 
-itself_of : (ts : List TokenKind) (tells : Tells) (a : Alone) → IsDerivedFunction ts a → DeclaresItself a
+pub itself_of : (ts : List TokenKind) (tells : Tells) (a : Alone) → IsDerivedFunction ts a → DeclaresItself a
 itself_of ts tells a h =
     declares_itself a (first a.tree) (function_tells ts tells a.tree h.function h.derives) (ap (λ i. is_blank (own_text a (suc i))) h.begins ∙ h.named)
 

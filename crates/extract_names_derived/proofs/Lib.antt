@@ -12,4 +12,10 @@ mod Itself
 mod Paths
 mod Ranges
 mod Apart
+mod Sides
+mod Sided
+mod Split
 mod DerivedSites
+mod Placing
+mod DerivedCopies
+mod Changed

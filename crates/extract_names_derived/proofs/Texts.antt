@@ -15,12 +15,12 @@ get_front (suc n) [] ws k lt le = absurd (omega (arith, le))
 get_front (suc n) (u ∷ us) ws zero lt le = refl
 get_front (suc n) (u ∷ us) ws (suc k) lt le = get_front n us ws k (omega (arith, lt)) (omega (arith, le))
 
-get_left : {A : Type 0} (us ws : List A) (k : ℕ) → k < length us → slice_get (us ++ ws) k ≡ slice_get us k
+pub get_left : {A : Type 0} (us ws : List A) (k : ℕ) → k < length us → slice_get (us ++ ws) k ≡ slice_get us k
 get_left [] ws k lt = absurd (omega (arith, lt))
 get_left (u ∷ us) ws zero lt = refl
 get_left (u ∷ us) ws (suc k) lt = get_left us ws k (omega (arith, lt))
 
-get_right : {A : Type 0} (us ws : List A) (k : ℕ) → slice_get (us ++ ws) (length us + k) ≡ slice_get ws k
+pub get_right : {A : Type 0} (us ws : List A) (k : ℕ) → slice_get (us ++ ws) (length us + k) ≡ slice_get ws k
 get_right [] ws k = ap (slice_get ws) (omega arith)
 get_right (u ∷ us) ws k =
     let e : length (u ∷ us) + k ≡ suc (length us + k) = omega arith in

@@ -55,19 +55,19 @@ abbrev pub Low : ℕ → ℕ → ℕ → Type 0
 Low zero x y = y ≤ x
 Low (suc n) x y = y ≤ suc x
 
-low_front : (n x y : ℕ) (p : Tree) (ps : Trees) → RowWords n (more p ps) → Low n x y → x ≤ first p → y ≤ front (kind_of p) (first p)
+pub low_front : (n x y : ℕ) (p : Tree) (ps : Trees) → RowWords n (more p ps) → Low n x y → x ≤ first p → y ≤ front (kind_of p) (first p)
 low_front zero x y p ps w l le = omega (arith, l, le, front_from (kind_of p) (first p))
 low_front (suc n) x y p ps w l le = omega (arith, l, le, word_front (kind_of p) (first p) w.0)
 
-words_next : (n : ℕ) (p : Tree) (ps : Trees) → RowWords n (more p ps) → AllWords ps
+pub words_next : (n : ℕ) (p : Tree) (ps : Trees) → RowWords n (more p ps) → AllWords ps
 words_next zero p ps w = w
 words_next (suc n) p ps w = w.1
 
-words_skip : (n : ℕ) (ps : Trees) → RowWords n (skip ps) → AllWords ps
+pub words_skip : (n : ℕ) (ps : Trees) → RowWords n (skip ps) → AllWords ps
 words_skip zero ps w = w
 words_skip (suc n) ps w = w
 
-low_skip : (n x y : ℕ) → Low n x y → y ≤ suc x
+pub low_skip : (n x y : ℕ) → Low n x y → y ≤ suc x
 low_skip zero x y l = omega (arith, l)
 low_skip (suc n) x y l = l
 
@@ -118,7 +118,7 @@ parts_kept all c k i j ps n (more p rs) x y e top ei ej h l t w lo f =
     (kept all (enter c k i j ps (ends_named ps) n p (is_more rs)) p (enter_calm all c i j ps (ends_named ps) n p (is_more rs) k e top ei ej hi other h) (is_part k i x j p rs e top l t) (λ g a. aside_part y j p g at hi (f g a)))
     (parts_kept all (pass c p) k i j ps (suc n) rs (last p) (suc (last p)) e top ei ej (calm_pass all j c p other h) l.2 t.3 (words_next n p rs w) (omega arith) (λ g a. aside_rest y j p g at lt (f g a)))
 
-list_words : (k : Kind) (i : ℕ) (ps : Trees) → leads_to_lists k ≡ true → ListFits k i ps → (k ≡ kind.Block → ⊥) → (k ≡ kind.Case → ⊥) → (k ≡ kind.Default → ⊥) → WordsBehind ps
+pub list_words : (k : Kind) (i : ℕ) (ps : Trees) → leads_to_lists k ≡ true → ListFits k i ps → (k ≡ kind.Block → ⊥) → (k ≡ kind.Case → ⊥) → (k ≡ kind.Default → ⊥) → WordsBehind ps
 list_words kind.Block i ps e h a b d = absurd (a refl)
 list_words kind.Case i ps e h a b d = absurd (b refl)
 list_words kind.Default i ps e h a b d = absurd (d refl)
@@ -129,7 +129,7 @@ list_words kind.Switch i ps e h a b d = h
 list_words kind.For i ps e h a b d = h
 list_words k i ps e h a b d = absurd (true_false false e refl)
 
-leads_front : (k : Kind) (i : ℕ) → leads_to_lists k ≡ true → i < front k i
+pub leads_front : (k : Kind) (i : ℕ) → leads_to_lists k ≡ true → i < front k i
 leads_front kind.FunctionDeclaration i e = omega arith
 leads_front kind.Block i e = omega arith
 leads_front kind.If i e = omega arith

@@ -2,3 +2,4 @@ pub mod Patches
 pub mod Texts
 pub mod Functions
 pub mod Sites
+pub mod Copies

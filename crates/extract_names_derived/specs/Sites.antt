@@ -3,7 +3,8 @@ use Rattle.std.specs.Prelude.{◌≡◌, ℕ, ◌<◌, ◌⊎◌, true, List, []
 use Rattle.go_tokens.specs.declared.token.TokenKind.{TokenKind}
 use Rattle.go_grammar.specs.declared.kind.Category.TheVariants as category
 use Rattle.go_grammar.specs.Grammar.{Derives}
-use Rattle.go_rewriting.specs.Places.{Patch, become, places}
+use Rattle.go_rewriting.specs.Places.{Change, Patch, become, places}
+use Rattle.go_rewriting.specs.Sites.{AreSites, Site, patch_of, with_sites}
 use Rattle.go_tree.specs.declared.context.Entity.TheVariants as entity
 use Rattle.go_tree.specs.declared.context.Manner.TheVariants as manner
 use Rattle.go_tree.specs.declared.event.Declaration.{Declaration}
@@ -18,7 +19,7 @@ use Rattle.extract_names.specs.Gaps.{Redeclared, Gap, moved_by, ranges, Among, I
 use Rattle.extract_names.specs.Pieces.{Piece, stays, gap, pieces}
 use Rattle.extract_names.specs.Sites.{declared_at, found_as, GapTells, NamedThere, Says, DeclaredStill, UsedThere}
 use Rattle.extract_names_derived.specs.Functions.{IsDerivedFunction}
-use Rattle.extract_names_derived.specs.Patches.{InLists}
+use Rattle.extract_names_derived.specs.Patches.{InLists, ReplaceRuns}
 use Rattle.extract_names_derived.specs.Texts.{with_gaps}
 
 -- The statements in the place of each run tell what those of the gap have to.
@@ -54,3 +55,26 @@ pub record IsChosen (a : Alone) (outer : Outer) (gaps : List Gap) (new : Alone) 
       → (w : Declaration) × (z : Redeclared) × Among (event.Declaration w) (function_events a) × Among z g.declared × (w.name ≡ z.old) × (is_reused_of (found_as a d) (found_as a w) ≡ true)
   -- Each variable that is declared still is used.
   pub used : (d : Declaration) → Among (event.Declaration d) (function_events a) → is_new (own_names a) (found_as a d) ≡ true → d.entity ≡ entity.Variable → DeclaredStill gaps d.name → UsedThere a outer gaps new d.name
+
+-- The gaps stand where these changes of tokens do, and have as many tokens.
+abbrev pub AreOf : List Gap → List Change → Type 0
+AreOf [] [] = Unit {0}
+AreOf [] (x ∷ xs) = ⊥
+AreOf (g ∷ gs) [] = ⊥
+AreOf (g ∷ gs) (x ∷ xs) = (x.from ≡ g.from) × (x.upto ≡ g.upto) × (length x.words ≡ length g.texts) × AreOf gs xs
+
+-- The tokens of a derived function are changed at runs of its statements, and the new function has the tree that the changes make of it, and
+-- the texts with those of the gaps.
+pub record IsChangedFunction (ts : List TokenKind) (a : Alone) (gaps : List Gap) (xs : List Change) (ss : List Site) (new : Alone) : Type 0 where
+  pub function : IsDerivedFunction ts a
+  pub sites : AreSites ts xs category.Declaration a.tree ss
+  pub runs : ReplaceRuns a.tree ss
+  pub places : AreOf gaps xs
+  pub some : (g : Gap) → Among g gaps → 0 < length g.texts
+  pub tree : new.tree ≡ with_sites xs ss a.tree
+  pub texts : new.texts ≡ with_gaps gaps a.texts
+
+-- Such a function is rewritten by the patch of these sites.
+pub record RewritesBySites (ts us : List TokenKind) (a : Alone) (gaps : List Gap) (ss : List Site) (new : Alone) : Type 0 where
+  pub rewritten : IsRewritten ts us a gaps new
+  pub patch : rewritten.patch ≡ patch_of ss

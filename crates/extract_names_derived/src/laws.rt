@@ -1,24 +1,27 @@
 //! Laws, for the crates above. The functions do nothing: their contracts are the laws.
 
-ghost use Rattle.std.specs.Prelude.{◌≡◌, ℕ, List, Some, slice_get};
+ghost use Rattle.std.specs.Prelude.{◌≡◌, ℕ, List, [], ◌∷◌, Some, slice_get};
 ghost use Rattle.go_tokens.specs.declared.token.TokenKind.{TokenKind};
 ghost use Rattle.go_grammar.specs.declared.kind.Category.TheVariants as category;
 ghost use Rattle.go_grammar.specs.declared.kind.Kind.TheVariants as kind;
 ghost use Rattle.go_grammar.specs.Grammar.{Derives};
 ghost use Rattle.go_grammar.specs.Trees.{Tree, kind_of};
-ghost use Rattle.go_rewriting.specs.Places.{Ascending};
+ghost use Rattle.go_rewriting.specs.Places.{Ascending, Change, Patch, changed, places, range};
 ghost use Rattle.go_rewriting.specs.Sites.{Site, site_ranges};
 ghost use Rattle.go_heads.specs.Functions.{Alone, AreRead, Function, all_functions, function_alone};
 ghost use Rattle.go_heads.specs.Heads.{File};
 ghost use Rattle.go_heads.specs.Locals.{AreNamed};
 ghost use Rattle.go_scopes_bodies.specs.Meant.{Outer};
+ghost use Rattle.extract_names.specs.Copies.{Copy, IsCopy};
 ghost use Rattle.extract_names.specs.Gaps.{Gap};
 ghost use Rattle.extract_names.specs.Sites.{IsSite};
+ghost use Rattle.extract_names_derived.specs.Copies.{SplitsAt, IsTaken, PlacesRun, RunPlaced};
 ghost use Rattle.extract_names_derived.specs.Functions.{IsDerivedFunction, own_kinds};
-ghost use Rattle.extract_names_derived.specs.Patches.{ReplaceRuns, PatchesRuns};
-ghost use Rattle.extract_names_derived.specs.Sites.{IsRewritten, IsChosen};
+ghost use Rattle.extract_names_derived.specs.Patches.{InLists, ReplaceRuns, PatchesRuns};
+ghost use Rattle.extract_names_derived.specs.Sites.{IsRewritten, IsChosen, IsChangedFunction, RewritesBySites};
 
-use go_rewriting::laws::text_stands_elsewhere;
+use extract_names::laws::replaced_runs_tell;
+use go_rewriting::laws::{changed_sites, text_stands_elsewhere};
 use go_scopes_bodies::laws::lists_tell_each_statement;
 
 /// Each function of a package whose files are read is derived by itself, wherever it stands in its file (Go specification: Function
@@ -35,6 +38,15 @@ pub fn runs_at_paths_are_patched()
     ensures { (ts : List TokenKind) (t : Tree) (xs : List Site) (j : ℕ) → Derives ts category.Declaration t → kind_of t ≡ kind.FunctionDeclaration → ReplaceRuns t xs → Ascending 0 (site_ranges t xs) j → PatchesRuns t xs }
 {}
 
+/// Where the tokens of a derived function are changed at runs of its statements, each found by a path, and each new text is one of
+/// statements there, the function with the tree that the changes make is rewritten by one patch, and it is derived too (Go specification:
+/// Blocks, Statement lists).
+pub fn changed_functions_are_rewritten()
+    ensures { (ts : List TokenKind) (a : Alone) (gaps : List Gap) (xs : List Change) (ss : List Site) (new : Alone) → IsChangedFunction ts a gaps xs ss new → RewritesBySites ts (changed xs ts) a gaps ss new }
+{
+    changed_sites();
+}
+
 /// A derived function with statements in the place of runs is a site: what stays and what is replaced stand apart, blocks and scopes begin
 /// and end in no run, names stand in the order of their tokens, and the function declares itself and its locals. What is left to ask is
 /// what depends on the choice of the statements: what they tell and name, and what they declare (Go specification: Blocks, Declarations and
@@ -44,3 +56,28 @@ pub fn sites_are_derived()
 {
     lists_tell_each_statement();
 }
+
+/// What a derived function tells of names falls in three parts: what stands in front of a run of its statements, what the run tells, and what
+/// stands behind the run. What is declared in front is so in blocks that begin in front, and is in scope from a token in front on (Go
+/// specification: Blocks, Declarations and scope).
+pub fn runs_split_functions()
+    ensures { (ts : List TokenKind) (a : Alone) (c : Copy) (q : Patch) → IsDerivedFunction ts a → InLists a.tree q → places a.tree q ≡ range c.from c.upto ∷ [] → SplitsAt a c }
+{
+    lists_tell_each_statement();
+    replaced_runs_tell();
+}
+
+/// A derived function that begins with a copy of a run of a derived one is such a copy: what the old one tells falls in three parts, names
+/// stand in the order of their tokens, the run's tokens keep their order and their texts, and both functions declare themselves and their
+/// locals. What is left to ask is what the new function tells in the run and around it, and what depends on the choice (Go specification: Blocks, Declarations and scope).
+pub fn copies_are_derived()
+    ensures { (ts us : List TokenKind) (a : Alone) (outer : Outer) (c : Copy) (new : Alone) → IsDerivedFunction ts a → IsDerivedFunction us new → (s : SplitsAt a c) → IsTaken a outer c new s → IsCopy a outer c new }
+{
+    lists_tell_each_statement();
+}
+
+/// Where a function has the texts of a run of another one, with one token in the place of each hole, the tokens of the run keep their order
+/// and their texts, and in the place of a hole stands the text of its parameter.
+pub fn copied_runs_are_placed()
+    ensures { (a new : Alone) (c : Copy) → PlacesRun a new c → RunPlaced a new c }
+{}
