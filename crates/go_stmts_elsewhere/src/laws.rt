@@ -13,6 +13,7 @@ ghost use Rattle.go_stmts_defs.specs.Bodies.{start};
 ghost use Rattle.go_stmts_defs.specs.Frames.{Frame};
 ghost use Rattle.go_stmts_defs.specs.Reading.{reading};
 ghost use Rattle.go_stmts_elsewhere.specs.Above.{NodesAbove};
+ghost use Rattle.go_stmts_elsewhere.specs.Declaring.{AllDeclareInOrder, LeaveTheRest};
 ghost use Rattle.go_stmts_elsewhere.specs.Ends.{FunctionsEnd, ListsEnd, NodesEnd, ReturnsEnd};
 ghost use Rattle.go_stmts_elsewhere.specs.Frames.{AlongFrames, AlongReadings, KeepsPlaces};
 ghost use Rattle.go_stmts_elsewhere.specs.Functions.{AlongFunctions, LocalsStand, Numbered, NumberedFunctions, only_objects, stays};
@@ -148,3 +149,9 @@ pub fn functions_are_typed_around_gaps()
     expressions_follow_from_their_tokens();
     statements_follow_from_their_tokens();
 }
+
+/// Behind statements, whether a rule fails in them or none, a local that they don't declare stands for what it stood for, and right sides are
+/// as they were where no types are declared (Go specification: Declarations and scope). No local gets or loses its place.
+pub fn statements_leave_the_rest()
+    ensures { (f : Frame) (ts : Trees) → AllDeclareInOrder ts → LeaveTheRest f ts }
+{}
