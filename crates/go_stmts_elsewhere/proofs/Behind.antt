@@ -31,12 +31,12 @@ use Rattle.go_stmts_elsewhere.proofs.Placing.{different, placed_other, placed_ro
 some_same : (m k : ℕ) → Some m ≡ Some k → m ≡ k
 some_same m k e = ap (λ o. unwrap_or o m) e
 
-other_named : (n : ℕ) (r : Form) (k : ℕ) (x : Stands) (f : Frame) → is_new r ≡ Some k → declares n r ≡ false → local_stands (with_local k x f).locals n ≡ local_stands f.locals n
+pub other_named : (n : ℕ) (r : Form) (k : ℕ) (x : Stands) (f : Frame) → is_new r ≡ Some k → declares n r ≡ false → local_stands (with_local k x f).locals n ≡ local_stands f.locals n
 other_named n (form.New m) k x f e d = ap known (placed_other k n (Some x) f.locals (different k n (ap (λ z. nat_eq z n) (sym (some_same m k e)) ∙ d)))
 other_named n (form.Declared m) k x f e d = ap known (placed_other k n (Some x) f.locals (different k n (ap (λ z. nat_eq z n) (sym (some_same m k e)) ∙ d)))
 other_named n r k x f e d = cc
 
-right_aside : (n : ℕ) (o : Option ℕ) (t : Option TypeTree) (f : Frame) → local_stands (with_own_right o t f).locals n ≡ local_stands f.locals n
+pub right_aside : (n : ℕ) (o : Option ℕ) (t : Option TypeTree) (f : Frame) → local_stands (with_own_right o t f).locals n ≡ local_stands f.locals n
 right_aside n (Some k) t f = refl
 right_aside n None t f = refl
 
@@ -54,11 +54,11 @@ rights_stay f ts v e = behind_stays declares_types Rights (λ (g : Frame). g.aro
 
 -- ---- places, whatever is declared
 
-abbrev no_form : Form → Bool
+abbrev pub no_form : Form → Bool
 no_form f = false
 
 mutual
-  none_passes : (x : Part) → Without no_form x
+  pub none_passes : (x : Part) → Without no_form x
   none_passes (typed f i j l ps) = (refl, none_pass ps)
 
   none_pass : (ps : Typeds TypeTree) → RowWithout no_form ps
@@ -66,12 +66,12 @@ mutual
   none_pass (sort.more x xs) = (none_passes x, none_pass xs)
   none_pass (sort.skip xs) = none_pass xs
 
-no_forms : (xs : Parts) → AllWithout no_form xs
+pub no_forms : (xs : Parts) → AllWithout no_form xs
 no_forms [] = tt
 no_forms (None ∷ xs) = no_forms xs
 no_forms (Some x ∷ xs) = (none_passes x, no_forms xs)
 
-right_room : (n : ℕ) (o : Option ℕ) (t : Option TypeTree) (f : Frame) → has_room (with_own_right o t f).locals n ≡ has_room f.locals n
+pub right_room : (n : ℕ) (o : Option ℕ) (t : Option TypeTree) (f : Frame) → has_room (with_own_right o t f).locals n ≡ has_room f.locals n
 right_room n (Some k) t f = refl
 right_room n None t f = refl
 

@@ -87,7 +87,7 @@ given_forms (k ∷ ks) (None ∷ xs) = given_forms ks xs
 given_forms (k ∷ ks) (Some x ∷ xs) = (given_form k x, given_forms ks xs)
 
 -- of a node over parts
-built_form : (s : Frame) (k : Kind) (f : Form) (i j : ℕ) (ys : Parts) (own : List TypeFault) → form_of (built_by s k f i j ys own) ≡ f
+pub built_form : (s : Frame) (k : Kind) (f : Form) (i j : ℕ) (ys : Parts) (own : List TypeFault) → form_of (built_by s k f i j ys own) ≡ f
 built_form s k f i j ys [] = refl
 built_form s k f i j ys (o ∷ os) = refl
 
@@ -96,7 +96,7 @@ built_forms s k f i j ys [] = subst (SameForms ys) (sym (list_row (all_given (ta
 built_forms s k f i j ys (o ∷ os) = subst (SameForms ys) (sym (list_row ys)) (forms_stay ys)
 
 -- and its parts, where they take nothing
-built_parts : (s : Frame) (k : Kind) (f : Form) (i j : ℕ) (ys : Parts) (own : List TypeFault) → taking s k f ys ≡ [] → list_of (parts_of (built_by s k f i j ys own)) ≡ ys
+pub built_parts : (s : Frame) (k : Kind) (f : Form) (i j : ℕ) (ys : Parts) (own : List TypeFault) → taking s k f ys ≡ [] → list_of (parts_of (built_by s k f i j ys own)) ≡ ys
 built_parts s k f i j ys [] e = list_row (all_given (taking s k f ys) ys) ∙ ap (λ ks. all_given ks ys) e
 built_parts s k f i j ys (o ∷ os) e = list_row ys
 
@@ -146,6 +146,19 @@ behind_plain : (k : Kind) → is_naming (behind_names k value) ≡ false
 behind_plain kind.Values = refl
 behind_plain k = refl
 
+module _ (w : Form → Bool) (X : Type 0) (A : Frame → X) where
+  -- behind a tree with no such form this is as it was
+  abbrev pub StaysBehind : Frame → Reading → Type 0
+  StaysBehind f (read x fs g) = Without w x → A g ≡ A f
+
+  abbrev pub StayBehind : Frame → Parts → Readings → Type 0
+  StayBehind f xs (all_read ys fs g) = AllWithout w ys → AllWithout w xs × (A g ≡ A f)
+
+  abbrev pub EachStaysBehind : Trees → Type 0
+  EachStaysBehind none = Unit {0}
+  EachStaysBehind (more t ts) = ((f : Frame) (h : Hint) → StaysBehind f (reading f h t)) × EachStaysBehind ts
+  EachStaysBehind (skip ts) = EachStaysBehind ts
+
 module _ (w : Form → Bool) (X : Type 0) (A : Frame → X)
     (holds : (k : Kind) → w (form.Held k) ≡ false)
     (quiet : (f g : Frame) → g.locals ≡ f.locals → g.around.rights ≡ f.around.rights → g.types ≡ f.types → A g ≡ A f)
@@ -158,7 +171,7 @@ module _ (w : Form → Bool) (X : Type 0) (A : Frame → X)
   sort_same r e (Some k) d x f = named r k x f d e
   sort_same r e None d x f = refl
 
-  names_same : (xs : Parts) (f : Frame) → AllWithout w xs → A (declares_all xs f) ≡ A f
+  pub names_same : (xs : Parts) (f : Frame) → AllWithout w xs → A (declares_all xs f) ≡ A f
   names_same [] f e = refl
   names_same (None ∷ xs) f e = names_same xs f e
   names_same (Some (typed r i j l ps) ∷ xs) f e = names_same xs (declares_sort (is_new r) l.sort f) e.1 ∙ sort_same r e.0.0 (is_new r) refl l.sort f
@@ -193,17 +206,14 @@ module _ (w : Form → Bool) (X : Type 0) (A : Frame → X)
 
   -- ---- readings
 
-  -- behind a tree with no such form this is as it was
-  abbrev pub Stays : Frame → Reading → Type 0
-  Stays f (read x fs g) = Without w x → A g ≡ A f
+  abbrev Stays : Frame → Reading → Type 0
+  Stays f r = StaysBehind w X A f r
 
   abbrev AllStay : Frame → Parts → Readings → Type 0
-  AllStay f xs (all_read ys fs g) = AllWithout w ys → AllWithout w xs × (A g ≡ A f)
+  AllStay f xs r = StayBehind w X A f xs r
 
   abbrev EachStays : Trees → Type 0
-  EachStays none = Unit {0}
-  EachStays (more t ts) = ((f : Frame) (h : Hint) → Stays f (reading f h t)) × EachStays ts
-  EachStays (skip ts) = EachStays ts
+  EachStays ts = EachStaysBehind w X A ts
 
   either_stays : (b : Bool) (f : Frame) (r t : Reading) → Stays f r → Stays f t → Stays f (cond b r t)
   either_stays true f r t c d = c
@@ -230,7 +240,7 @@ module _ (w : Form → Bool) (X : Type 0) (A : Frame → X)
   fewer_stay : (r : Readings) (u : Frame) (xs ys : Parts) → AllStay u (xs ++ ys) r → AllStay u xs r
   fewer_stay (all_read zs fs g) u xs ys c = λ e. (front_without w xs ys (c e).0, (c e).1)
 
-  readings_stay : (u : Frame) (k : Kind) → ShowsAll k → (h : Hint) (all : Trees) (xs : Parts) (fs : Found) (ts : Trees) → EachStays ts → AllStay u xs (readings u k h all xs fs ts)
+  pub readings_stay : (u : Frame) (k : Kind) → ShowsAll k → (h : Hint) (all : Trees) (xs : Parts) (fs : Found) (ts : Trees) → EachStays ts → AllStay u xs (readings u k h all xs fs ts)
   readings_stay u k q h all xs fs none v = λ e. (e, refl)
   readings_stay u k q h all xs fs (skip ts) v =
       let a = entering k xs u in
@@ -254,12 +264,12 @@ module _ (w : Form → Bool) (X : Type 0) (A : Frame → X)
       let x = built_by g (kind.Specification declaring.Variable) r i j ys (own_faults g (kind.Specification declaring.Variable) r i j ys) in
       names_same (list_of (parts_of x)) (back f g) (parts_without w x d) ∙ quiet g (back f g) refl refl refl ∙ ap A e
 
-  variables_stay : (t : Tree) → IsSpecification declaring.Variable t → (f : Frame) (h : Hint) → Stays f (reading f h t)
+  pub variables_stay : (t : Tree) → IsSpecification declaring.Variable t → (f : Frame) (h : Hint) → Stays f (reading f h t)
   variables_stay (node (kind.Specification declaring.Variable) i j ps) v f h =
       variables_closed f i j ps (readings f (kind.Specification declaring.Variable) h ps [] [] ps) (frames_still f declaring.Variable h ps [] [] ps v)
   variables_stay t v f h = absurd v
 
-  each_variable : (ts : Trees) → AreSpecifications declaring.Variable ts → EachStays ts
+  pub each_variable : (ts : Trees) → AreSpecifications declaring.Variable ts → EachStays ts
   each_variable none v = tt
   each_variable (more t ts) v = (variables_stay t v.0, each_variable ts v.1)
   each_variable (skip ts) v = absurd v
@@ -492,7 +502,7 @@ module _ (w : Form → Bool) (X : Type 0) (A : Frame → X)
         either_stays (is_statement k) f (closed f k i j ps (readings (beginning k i f) k h ps [] [] ps)) (read (holding f h (node k i j ps)) (held_faults f h (node k i j ps)) f)
         (closed_stays k tt f i j ps (readings (beginning k i f) k h ps [] [] ps) (readings_stay (beginning k i f) k tt h ps [] [] ps (each_stays ps v))) (λ e. refl)
 
-    each_stays : (ts : Trees) → AllDeclareInOrder ts → EachStays ts
+    pub each_stays : (ts : Trees) → AllDeclareInOrder ts → EachStays ts
     each_stays none v = tt
     each_stays (more t ts) v = (reading_stays t v.0, each_stays ts v.1)
     each_stays (skip ts) v = each_stays ts v

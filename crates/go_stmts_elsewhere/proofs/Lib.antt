@@ -32,3 +32,4 @@ mod Without
 mod Silent
 mod Leaving
 mod Behind
+mod Standing

@@ -138,7 +138,7 @@ built_form : (s : Scope) (k : Kind) (h : Hint) (i j : ℕ) (ys : Parts) (b : Boo
 built_form s k h i j ys true = refl
 built_form s k h i j ys false = refl
 
-typed_form : (s : Scope) (h : Hint) (k : Kind) (i j : ℕ) (ps : Trees) → form_of (typing s h (node k i j ps)) ≡ tables.form_by s k h i j (tables.layout k (typings s k h ps [] ps))
+pub typed_form : (s : Scope) (h : Hint) (k : Kind) (i j : ℕ) (ps : Trees) → form_of (typing s h (node k i j ps)) ≡ tables.form_by s k h i j (tables.layout k (typings s k h ps [] ps))
 typed_form s h k i j ps =
     let ys = tables.layout k (typings s k h ps [] ps) in
     built_form s k h i j ys (tables.is_sound k ys (tables.own_faults s k h i j ys))

@@ -1,5 +1,5 @@
 -- What statements declare, and what they leave as it was: what is known behind them but for that.
-use Rattle.std.specs.Prelude.{◌≡◌, ℕ, Bool, true, false, nat_eq, [], ◌∷◌, Some, None}
+use Rattle.std.specs.Prelude.{◌≡◌, ℕ, Bool, true, false, ◌⊎◌, nat_eq, [], ◌∷◌, Some, None}
 use Rattle.go_grammar.specs.declared.kind.Kind.TheVariants as kind
 use Rattle.go_grammar.specs.declared.kind.Sort.{Sort}
 use Rattle.go_grammar.specs.declared.kind.Sort.TheVariants as declaring
@@ -7,12 +7,12 @@ use Rattle.go_grammar.specs.Trees.{Tree, node, Trees, none, more, skip, kind_of}
 use Rattle.go_types.specs.Trees.{TypeTree}
 use Rattle.go_typed.specs.declared.form.Form.{Form}
 use Rattle.go_typed.specs.declared.form.Form.TheVariants as form
-use Rattle.go_typed.specs.Trees.{typed, Typeds}
+use Rattle.go_typed.specs.Trees.{typed, Typeds, list_of, parts_of, form_of, sort_of}
 use Rattle.go_typed.specs.Trees as sort
 use Rattle.go_exprs_rules.specs.Settling.{Part}
 use Rattle.go_exprs_rules.specs.Tables.{Parts, is_placed}
 use Rattle.go_stmts_defs.specs.Frames.{Frame, local_stands}
-use Rattle.go_stmts_defs.specs.Reading.{is_statement}
+use Rattle.go_stmts_defs.specs.Reading.{is_new, is_statement}
 use Rattle.go_stmts_elsewhere.specs.Frames.{has_room}
 use Rattle.go_stmts_elsewhere.specs.Gaps.{run, parts_in, behind}
 
@@ -43,6 +43,26 @@ abbrev pub AllWithout : (Form → Bool) → Parts → Type 0
 AllWithout w [] = Unit {0}
 AllWithout w (None ∷ xs) = AllWithout w xs
 AllWithout w (Some x ∷ xs) = Without w x × AllWithout w xs
+
+-- Some part is so, and no node of those behind it has a form that passes the test.
+abbrev pub Lastly : (Form → Bool) → (Part → Type 0) → Parts → Type 0
+Lastly w P [] = ⊥
+Lastly w P (None ∷ xs) = Lastly w P xs
+Lastly w P (Some x ∷ xs) = (P x × AllWithout w xs) ⊎ Lastly w P xs
+
+-- a name of the local, which is declared as a variable of the type
+abbrev pub NamesVariable : ℕ → TypeTree → Part → Type 0
+NamesVariable n t x = (is_new (form_of x) ≡ Some n) × (sort_of x ≡ sort.Value t)
+
+-- The local is declared as a variable of the type by one of these parts, and not again behind it.
+abbrev pub NameVariable : ℕ → TypeTree → Parts → Type 0
+NameVariable n t xs = Lastly (declares n) (NamesVariable n t) xs
+
+-- The statement itself declares it so: a definition, or one specification of a declaration.
+abbrev pub DeclaresVariable : ℕ → TypeTree → Part → Type 0
+DeclaresVariable n t (typed (form.Define m) i j l ps) = NameVariable n t (list_of ps)
+DeclaresVariable n t (typed form.Variables i j l ps) = Lastly (declares n) (λ x. NameVariable n t (list_of (parts_of x))) (list_of ps)
+DeclaresVariable n t x = ⊥
 
 -- ---- how declarations stand in trees (Go specification: Declarations and scope)
 
@@ -121,3 +141,8 @@ pub record LeaveTheRest (f : Frame) (ts : Trees) : Type 0 where
   pub types : (behind f ts).types ≡ f.types
   pub tag : (behind f ts).tag ≡ f.tag
   pub results : (behind f ts).results ≡ f.results
+
+-- A local that one of these statements declares itself as a variable of a type, and none behind it declares, is one of this type behind them all.
+abbrev pub DeclaredLocalsStand : Type 0
+DeclaredLocalsStand = (f : Frame) (ts : Trees) → AllDeclareInOrder ts → (n : ℕ) (t : TypeTree) → has_room f.locals n ≡ true → Lastly (declares n) (DeclaresVariable n t) (parts_in (run f ts))
+    → local_stands (behind f ts).locals n ≡ sort.Value t
