@@ -28,3 +28,8 @@ mod ChangedNodes
 mod ChangedCases
 mod Replacing
 mod ReplacedFunctions
+mod Without
+mod Silent
+mod Leaving
+mod Behind
+mod Standing

@@ -15,14 +15,14 @@ use Rattle.go_stmts_elsewhere.proofs.Naming.{Counts, AllCount}
 
 -- ---- lists
 
-placed_room : {A : Type 0} (n : ℕ) (x : A) (xs : List A) (k : ℕ) → is_some (slice_get (placed n x xs) k) ≡ is_some (slice_get xs k)
+pub placed_room : {A : Type 0} (n : ℕ) (x : A) (xs : List A) (k : ℕ) → is_some (slice_get (placed n x xs) k) ≡ is_some (slice_get xs k)
 placed_room n x [] k = refl
 placed_room zero x (y ∷ ys) zero = refl
 placed_room zero x (y ∷ ys) (suc k) = refl
 placed_room (suc n) x (y ∷ ys) zero = refl
 placed_room (suc n) x (y ∷ ys) (suc k) = placed_room n x ys k
 
-placed_here : {A : Type 0} (n : ℕ) (x : A) (xs : List A) → is_some (slice_get xs n) ≡ true → slice_get (placed n x xs) n ≡ Some x
+pub placed_here : {A : Type 0} (n : ℕ) (x : A) (xs : List A) → is_some (slice_get xs n) ≡ true → slice_get (placed n x xs) n ≡ Some x
 placed_here n x [] e = cc
 placed_here zero x (y ∷ ys) e = refl
 placed_here (suc n) x (y ∷ ys) e = placed_here n x ys e
@@ -32,14 +32,14 @@ placed_nowhere n x [] e = refl
 placed_nowhere zero x (y ∷ ys) e = cc
 placed_nowhere (suc n) x (y ∷ ys) e = ap (λ zs. y ∷ zs) (placed_nowhere n x ys e)
 
-placed_other : {A : Type 0} (n k : ℕ) (x : A) (xs : List A) → (n ≡ k → ⊥) → slice_get (placed n x xs) k ≡ slice_get xs k
+pub placed_other : {A : Type 0} (n k : ℕ) (x : A) (xs : List A) → (n ≡ k → ⊥) → slice_get (placed n x xs) k ≡ slice_get xs k
 placed_other n k x [] e = refl
 placed_other zero zero x (y ∷ ys) e = absurd (e refl)
 placed_other zero (suc k) x (y ∷ ys) e = refl
 placed_other (suc n) zero x (y ∷ ys) e = refl
 placed_other (suc n) (suc k) x (y ∷ ys) e = placed_other n k x ys (λ h. e (ap suc h))
 
-different : (n k : ℕ) → nat_eq n k ≡ false → n ≡ k → ⊥
+pub different : (n k : ℕ) → nat_eq n k ≡ false → n ≡ k → ⊥
 different n k h e = let d = eq-eqb n k e in cc
 
 module _ (m : Moves) (l : ℕ → Bool) (f g : Frame) (c : AlongFrames m l f g) where

@@ -7,3 +7,4 @@ pub mod Worked
 pub mod Above
 pub mod Replaced
 pub mod Reached
+pub mod Declaring

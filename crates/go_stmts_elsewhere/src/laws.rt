@@ -13,6 +13,7 @@ ghost use Rattle.go_stmts_defs.specs.Bodies.{start};
 ghost use Rattle.go_stmts_defs.specs.Frames.{Frame};
 ghost use Rattle.go_stmts_defs.specs.Reading.{reading};
 ghost use Rattle.go_stmts_elsewhere.specs.Above.{NodesAbove};
+ghost use Rattle.go_stmts_elsewhere.specs.Declaring.{AllDeclareInOrder, DeclaredLocalsStand, LeaveTheRest};
 ghost use Rattle.go_stmts_elsewhere.specs.Ends.{FunctionsEnd, ListsEnd, NodesEnd, ReturnsEnd};
 ghost use Rattle.go_stmts_elsewhere.specs.Frames.{AlongFrames, AlongReadings, KeepsPlaces};
 ghost use Rattle.go_stmts_elsewhere.specs.Functions.{AlongFunctions, LocalsStand, Numbered, NumberedFunctions, only_objects, stays};
@@ -148,3 +149,15 @@ pub fn functions_are_typed_around_gaps()
     expressions_follow_from_their_tokens();
     statements_follow_from_their_tokens();
 }
+
+/// Behind statements, whether a rule fails in them or none, a local that they don't declare stands for what it stood for, and right sides are
+/// as they were where no types are declared (Go specification: Declarations and scope). No local gets or loses its place.
+pub fn statements_leave_the_rest()
+    ensures { (f : Frame) (ts : Trees) → AllDeclareInOrder ts → LeaveTheRest f ts }
+{}
+
+/// A local that one of the statements declares itself as a variable of a type, and none behind it declares, is a variable of this type behind
+/// them all, where it has a place among the locals.
+pub fn declared_locals_stand()
+    ensures { DeclaredLocalsStand }
+{}
