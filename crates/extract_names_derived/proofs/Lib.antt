@@ -17,5 +17,6 @@ mod Sided
 mod Split
 mod DerivedSites
 mod Placing
+mod News
 mod DerivedCopies
 mod Changed

@@ -3,3 +3,4 @@ pub mod Texts
 pub mod Functions
 pub mod Sites
 pub mod Copies
+pub mod News

@@ -8,17 +8,21 @@ ghost use Rattle.go_grammar.specs.Grammar.{Derives};
 ghost use Rattle.go_grammar.specs.Trees.{Tree, kind_of};
 ghost use Rattle.go_rewriting.specs.Places.{Ascending, Change, Patch, changed, places, range};
 ghost use Rattle.go_rewriting.specs.Sites.{Site, site_ranges};
+ghost use Rattle.go_tree.specs.Contexts.{file_context};
+ghost use Rattle.go_tree.specs.declared.event.Event.{Event};
 ghost use Rattle.go_heads.specs.Functions.{Alone, AreRead, Function, all_functions, function_alone};
 ghost use Rattle.go_heads.specs.Heads.{File};
 ghost use Rattle.go_heads.specs.Locals.{AreNamed};
 ghost use Rattle.go_scopes_bodies.specs.Meant.{Outer};
 ghost use Rattle.extract_names.specs.Copies.{Copy, IsCopy};
-ghost use Rattle.extract_names.specs.Gaps.{Gap};
-ghost use Rattle.extract_names.specs.Sites.{IsSite};
+ghost use Rattle.extract_names.specs.Gaps.{Gap, moved_by};
+ghost use Rattle.extract_names.specs.Pieces.{pieces};
+ghost use Rattle.extract_names.specs.Sites.{GapTells, IsSite};
 ghost use Rattle.extract_names_derived.specs.Copies.{SplitsAt, IsTaken, PlacesRun, RunPlaced};
 ghost use Rattle.extract_names_derived.specs.Functions.{IsDerivedFunction, own_kinds};
-ghost use Rattle.extract_names_derived.specs.Patches.{InLists, ReplaceRuns, PatchesRuns};
-ghost use Rattle.extract_names_derived.specs.Sites.{IsRewritten, IsChosen, IsChangedFunction, RewritesBySites};
+ghost use Rattle.extract_names_derived.specs.News.{StatementsAsked};
+ghost use Rattle.extract_names_derived.specs.Patches.{EachRun, InLists, ReplaceRuns, PatchesRuns};
+ghost use Rattle.extract_names_derived.specs.Sites.{AllTell, IsRewritten, IsChosen, IsChangedFunction, RewritesBySites, RunStands, TellsInPlace};
 
 use extract_names::laws::replaced_runs_tell;
 use go_rewriting::laws::{changed_sites, text_stands_elsewhere};
@@ -46,6 +50,20 @@ pub fn changed_functions_are_rewritten()
 {
     changed_sites();
 }
+
+/// Gaps tell what they have to where the statements of each one do in its place: in the list of a block of a function, behind which the run
+/// ends, and in which what the run declares ends with it or with the block (Go specification: Blocks, Statement lists).
+pub fn gaps_tell_one_by_one()
+    ensures { (ts us : List TokenKind) (a : Alone) (gaps : List Gap) (new : Alone) → (h : IsRewritten ts us a gaps new) → EachRun (TellsInPlace a new gaps) a.tree h.patch → AllTell a new gaps gaps (pieces (moved_by gaps) (file_context 0) a.tree h.patch) }
+{
+    lists_tell_each_statement();
+}
+
+/// Derived statements that have the tokens of a gap tell what the gap has to, where each name that they look up has to mean something, and
+/// what they declare is a variable of the run again (Go specification: Blocks, Declarations and scope).
+pub fn statements_tell_their_gap()
+    ensures { (us : List TokenKind) (v : ℕ → ℕ) (g : Gap) (old news : List Event) (x : RunStands v g old news) (a new : Alone) → StatementsAsked us a new v g old news x → GapTells a new v g old news }
+{}
 
 /// A derived function with statements in the place of runs is a site: what stays and what is replaced stand apart, blocks and scopes begin
 /// and end in no run, names stand in the order of their tokens, and the function declares itself and its locals. What is left to ask is
