@@ -128,7 +128,7 @@ itself_of ts tells a h =
     declares_itself a (first a.tree) (function_tells ts tells a.tree h.function h.derives) (ap (λ i. is_blank (own_text a (suc i))) h.begins ∙ h.named)
 
 module _ (tells : Tells) (ts us : List TokenKind) (a : Alone) (gaps : List Gap) (new : Alone) (h : IsRewritten ts us a gaps new) where
-  gaps_ascend : Ascending 1 (ranges gaps) (length a.texts)
+  pub gaps_ascend : Ascending 1 (ranges gaps) (length a.texts)
   gaps_ascend =
       let asc : Ascending (front (kind_of a.tree) (first a.tree)) (places a.tree h.patch) (last a.tree) = ascend_tree a.tree h.patch (derives_laid ts a.tree category.Declaration h.function.derives)
       (derives_fit ts a.tree category.Declaration h.function.derives) h.lists in

@@ -1,12 +1,14 @@
 //! Laws, for the crates above. The functions do nothing: their contracts are the laws.
 
-ghost use Rattle.std.specs.Prelude.{◌≡◌, ℕ, List, [], ◌∷◌, Some, slice_get};
+ghost use Rattle.std.specs.Prelude.{◌≡◌, ℕ, ◌+◌, ◌≤◌, List, [], ◌∷◌, length, Some, slice_get};
 ghost use Rattle.go_tokens.specs.declared.token.TokenKind.{TokenKind};
 ghost use Rattle.go_grammar.specs.declared.kind.Category.TheVariants as category;
 ghost use Rattle.go_grammar.specs.declared.kind.Kind.TheVariants as kind;
 ghost use Rattle.go_grammar.specs.Grammar.{Derives};
-ghost use Rattle.go_grammar.specs.Trees.{Tree, kind_of};
+ghost use Rattle.go_grammar.specs.Rules.{Items, item};
+ghost use Rattle.go_grammar.specs.Trees.{Tree, Trees, kind_of};
 ghost use Rattle.go_rewriting.specs.Places.{Ascending, Change, Patch, changed, places, range};
+ghost use Rattle.go_rewriting.specs.Replacing.{Run};
 ghost use Rattle.go_rewriting.specs.Sites.{Site, site_ranges};
 ghost use Rattle.go_tree.specs.Contexts.{file_context};
 ghost use Rattle.go_tree.specs.declared.event.Event.{Event};
@@ -20,7 +22,7 @@ ghost use Rattle.extract_names.specs.Pieces.{pieces};
 ghost use Rattle.extract_names.specs.Sites.{GapTells, IsSite};
 ghost use Rattle.extract_names_derived.specs.Copies.{SplitsAt, IsTaken, PlacesRun, RunPlaced};
 ghost use Rattle.extract_names_derived.specs.Functions.{IsDerivedFunction, own_kinds};
-ghost use Rattle.extract_names_derived.specs.News.{StatementsAsked};
+ghost use Rattle.extract_names_derived.specs.News.{AreNewStatements, IsAskedFor, StatementsAsked};
 ghost use Rattle.extract_names_derived.specs.Patches.{EachRun, InLists, ReplaceRuns, PatchesRuns};
 ghost use Rattle.extract_names_derived.specs.Sites.{AllTell, IsRewritten, IsChosen, IsChangedFunction, RewritesBySites, RunStands, TellsInPlace};
 
@@ -51,6 +53,11 @@ pub fn changed_functions_are_rewritten()
     changed_sites();
 }
 
+/// A run of statements is one statement at least, each derived by itself between the run's ends (Go specification: Statement lists).
+pub fn runs_are_statements()
+    ensures { (us : List TokenKind) (l : Items) (new : Trees) (i j : ℕ) → item l ≡ category.Statement → Run us l new i j → AreNewStatements us i j new }
+{}
+
 /// Gaps tell what they have to where the statements of each one do in its place: in the list of a block of a function, behind which the run
 /// ends, and in which what the run declares ends with it or with the block (Go specification: Blocks, Statement lists).
 pub fn gaps_tell_one_by_one()
@@ -62,7 +69,7 @@ pub fn gaps_tell_one_by_one()
 /// Derived statements that have the tokens of a gap tell what the gap has to, where each name that they look up has to mean something, and
 /// what they declare is a variable of the run again (Go specification: Blocks, Declarations and scope).
 pub fn statements_tell_their_gap()
-    ensures { (us : List TokenKind) (v : ℕ → ℕ) (g : Gap) (old news : List Event) (x : RunStands v g old news) (a new : Alone) → StatementsAsked us a new v g old news x → GapTells a new v g old news }
+    ensures { (us : List TokenKind) (v : ℕ → ℕ) (g : Gap) (old news : List Event) (x : RunStands v g old news) (a new : Alone) → v g.from + length g.texts ≤ v x.context.end → StatementsAsked us a new v g old news x → GapTells a new v g old news }
 {}
 
 /// A derived function with statements in the place of runs is a site: what stays and what is replaced stand apart, blocks and scopes begin
@@ -71,6 +78,14 @@ pub fn statements_tell_their_gap()
 /// scope, Function declarations).
 pub fn sites_are_derived()
     ensures { (ts us : List TokenKind) (a new : Alone) (outer : Outer) (gaps : List Gap) → (h : IsRewritten ts us a gaps new) → IsChosen a outer gaps new h.patch → IsSite a outer gaps new }
+{
+    lists_tell_each_statement();
+}
+
+/// So a derived function with derived statements in the place of runs is a site, where what is asked of these statements holds, and of what
+/// they name and declare (Go specification: Blocks, Declarations and scope).
+pub fn statements_make_sites()
+    ensures { (ts us : List TokenKind) (a : Alone) (outer : Outer) (gaps : List Gap) (new : Alone) → (h : IsRewritten ts us a gaps new) → IsAskedFor us a outer gaps new h.patch → IsSite a outer gaps new }
 {
     lists_tell_each_statement();
 }
