@@ -20,3 +20,4 @@ mod Placing
 mod News
 mod DerivedCopies
 mod Changed
+mod Examples

@@ -4,3 +4,4 @@ pub mod Functions
 pub mod Sites
 pub mod Copies
 pub mod News
+pub mod Examples

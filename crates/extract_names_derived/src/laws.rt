@@ -21,6 +21,7 @@ ghost use Rattle.extract_names.specs.Gaps.{Gap, moved_by};
 ghost use Rattle.extract_names.specs.Pieces.{pieces};
 ghost use Rattle.extract_names.specs.Sites.{GapTells, IsSite};
 ghost use Rattle.extract_names_derived.specs.Copies.{SplitsAt, IsTaken, PlacesRun, RunPlaced};
+ghost use Rattle.extract_names_derived.specs.Examples.{Examples};
 ghost use Rattle.extract_names_derived.specs.Functions.{IsDerivedFunction, own_kinds};
 ghost use Rattle.extract_names_derived.specs.News.{AreNewStatements, IsAskedFor, StatementsAsked};
 ghost use Rattle.extract_names_derived.specs.Patches.{EachRun, InLists, ReplaceRuns, PatchesRuns};
@@ -113,4 +114,9 @@ pub fn copies_are_derived()
 /// and their texts, and in the place of a hole stands the text of its parameter.
 pub fn copied_runs_are_placed()
     ensures { (a new : Alone) (c : Copy) → PlacesRun a new c → RunPlaced a new c }
+{}
+
+/// A run that is replaced by a declaration and a call, and the copy of the run, worked out by hand.
+pub fn examples()
+    ensures { Examples }
 {}
