@@ -59,8 +59,8 @@ pub fn runs_are_statements()
     ensures { (us : List TokenKind) (l : Items) (new : Trees) (i j : ℕ) → item l ≡ category.Statement → Run us l new i j → AreNewStatements us i j new }
 {}
 
-/// Gaps tell what they have to where the statements of each one do in its place: in the list of a block of a function, behind which the run
-/// ends, and in which what the run declares ends with it or with the block (Go specification: Blocks, Statement lists).
+/// Gaps tell what they have to where the statements of each one do in its place. This is asked in the list of any block of a function in which
+/// what the run declares is in scope up to the end of the run or of the block (Go specification: Blocks, Statement lists).
 pub fn gaps_tell_one_by_one()
     ensures { (ts us : List TokenKind) (a : Alone) (gaps : List Gap) (new : Alone) → (h : IsRewritten ts us a gaps new) → EachRun (TellsInPlace a new gaps) a.tree h.patch → AllTell a new gaps gaps (pieces (moved_by gaps) (file_context 0) a.tree h.patch) }
 {
@@ -103,7 +103,8 @@ pub fn runs_split_functions()
 
 /// A derived function that begins with a copy of a run of a derived one is such a copy: what the old one tells falls in three parts, names
 /// stand in the order of their tokens, the run's tokens keep their order and their texts, and both functions declare themselves and their
-/// locals. What is left to ask is what the new function tells in the run and around it, and what depends on the choice (Go specification: Blocks, Declarations and scope).
+/// locals. What is left to ask is what the new function tells in the run and around it, and what depends on the choice (Go specification:
+/// Blocks, Declarations and scope).
 pub fn copies_are_derived()
     ensures { (ts us : List TokenKind) (a : Alone) (outer : Outer) (c : Copy) (new : Alone) → IsDerivedFunction ts a → IsDerivedFunction us new → (s : SplitsAt a c) → IsTaken a outer c new s → IsCopy a outer c new }
 {
