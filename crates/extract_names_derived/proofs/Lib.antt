@@ -20,4 +20,5 @@ mod Placing
 mod News
 mod DerivedCopies
 mod Changed
+mod BodyParts
 mod Examples

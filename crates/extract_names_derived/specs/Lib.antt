@@ -5,3 +5,4 @@ pub mod Sites
 pub mod Copies
 pub mod News
 pub mod Examples
+pub mod Bodies

@@ -6,7 +6,7 @@ ghost use Rattle.go_grammar.specs.declared.kind.Category.TheVariants as category
 ghost use Rattle.go_grammar.specs.declared.kind.Kind.TheVariants as kind;
 ghost use Rattle.go_grammar.specs.Grammar.{Derives};
 ghost use Rattle.go_grammar.specs.Rules.{Items, item};
-ghost use Rattle.go_grammar.specs.Trees.{Tree, Trees, kind_of};
+ghost use Rattle.go_grammar.specs.Trees.{Tree, Trees, kind_of, more, node, none, onto};
 ghost use Rattle.go_rewriting.specs.Places.{Ascending, Change, Patch, changed, places, range};
 ghost use Rattle.go_rewriting.specs.Replacing.{Run};
 ghost use Rattle.go_rewriting.specs.Sites.{Site, site_ranges};
@@ -20,6 +20,7 @@ ghost use Rattle.extract_names.specs.Copies.{Copy, IsCopy};
 ghost use Rattle.extract_names.specs.Gaps.{Gap, moved_by};
 ghost use Rattle.extract_names.specs.Pieces.{pieces};
 ghost use Rattle.extract_names.specs.Sites.{GapTells, IsSite};
+ghost use Rattle.extract_names_derived.specs.Bodies.{BodySplits};
 ghost use Rattle.extract_names_derived.specs.Copies.{SplitsAt, IsTaken, PlacesRun, RunPlaced};
 ghost use Rattle.extract_names_derived.specs.Examples.{Examples};
 ghost use Rattle.extract_names_derived.specs.Functions.{IsDerivedFunction, own_kinds};
@@ -29,7 +30,7 @@ ghost use Rattle.extract_names_derived.specs.Sites.{AllTell, IsRewritten, IsChos
 
 use extract_names::laws::replaced_runs_tell;
 use go_rewriting::laws::{changed_sites, text_stands_elsewhere};
-use go_scopes_bodies::laws::lists_tell_each_statement;
+use go_scopes_bodies::laws::{lists_tell_each_statement, lists_tell_one_behind_the_other};
 
 /// Each function of a package whose files are read is derived by itself, wherever it stands in its file (Go specification: Function
 /// declarations).
@@ -116,6 +117,15 @@ pub fn copies_are_derived()
 pub fn copied_runs_are_placed()
     ensures { (a new : Alone) (c : Copy) → PlacesRun a new c → RunPlaced a new c }
 {}
+
+/// A derived function whose body has statements and others behind them tells what stands in front of the body, what the first statements
+/// tell, and what the others tell (Go specification: Function declarations, Statement lists).
+pub fn bodies_split_functions()
+    ensures { (ts : List TokenKind) (a : Alone) (i j k e : ℕ) (s : Tree) (xs ys : Trees) → a.tree ≡ node kind.FunctionDeclaration i j (more s (more (node kind.Block k e (onto xs ys)) none)) → IsDerivedFunction ts a → BodySplits a k e xs ys }
+{
+    lists_tell_each_statement();
+    lists_tell_one_behind_the_other();
+}
 
 /// A run that is replaced by a declaration and a call, and the copy of the run, worked out by hand.
 pub fn examples()
