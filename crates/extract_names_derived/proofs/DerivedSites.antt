@@ -4,9 +4,9 @@ use Rattle.std.specs.Prelude.{slice_get, nat_le, nat_lt, if◌then◌else◌}
 use Rattle.go_tokens.specs.declared.token.TokenKind.{TokenKind}
 use Rattle.go_grammar.specs.declared.kind.Category.TheVariants as category
 use Rattle.go_grammar.specs.declared.kind.Kind.TheVariants as kind
-use Rattle.go_grammar.specs.Trees.{Tree, node, kind_of, first, last}
+use Rattle.go_grammar.specs.Trees.{Tree, node, Trees, none, more, skip, kind_of, first, last}
 use Rattle.go_grammar.proofs.Public.{derives_grows}
-use Rattle.go_rewriting.specs.Places.{Patch, keep, put, inside, become, places, Ascending}
+use Rattle.go_rewriting.specs.Places.{Patch, Patches, keep, put, inside, done, part, run, items_behind, become, places, Ascending}
 use Rattle.go_rewriting.specs.Replacing.{moved}
 use Rattle.go_tree.specs.Contexts.{file_context}
 use Rattle.go_tree.specs.Units.{is_blank}
@@ -21,8 +21,8 @@ use Rattle.extract_names.specs.Gaps.{Gap, moved_by, ranges, Among, AreApart, Sta
 use Rattle.extract_names.specs.Pieces.{Piece, stays, gap, pieces}
 use Rattle.extract_names.specs.Sites.{DeclaresItself, AllStand, IsSite}
 use Rattle.extract_names_derived.specs.Functions.{IsDerivedFunction}
-use Rattle.extract_names_derived.specs.Patches.{InLists}
-use Rattle.extract_names_derived.specs.Sites.{AllTell, IsRewritten, IsChosen}
+use Rattle.extract_names_derived.specs.Patches.{InLists, EachRun, EachIn}
+use Rattle.extract_names_derived.specs.Sites.{AllTell, IsRewritten, IsChosen, TellsInPlace}
 use Rattle.extract_names_derived.proofs.Ascends.{ascend_tree}
 use Rattle.extract_names_derived.proofs.Fit.{front, derives_fit}
 use Rattle.extract_names_derived.proofs.Functions.{function_stays, function_gaps}
@@ -33,11 +33,43 @@ use Rattle.extract_names_derived.proofs.Texts.{low, texts_stay, gap_stands, text
 use Rattle.extract_names_derived.proofs.Walk.{AllStay}
 use Rattle.extract_names_derived.proofs.Whole.{Tells}
 
-all_stand : (a new : Alone) (all gs : List Gap) (ps : List Piece) → AllStay all gs ps → AllTell a new all gs ps → AllStand a new all gs ps
-all_stand a new all gs [] h t = h
-all_stand a new all gs (stays es ∷ ps) h t = (h.0, all_stand a new all gs ps h.1 t)
-all_stand a new all [] (gap old news ∷ ps) h t = absurd h
-all_stand a new all (g ∷ gs) (gap old news ∷ ps) h t = (h.0, t.0, all_stand a new all gs ps h.1 t.1)
+all_stand : (P : ℕ → Trees → Type 0) (v : ℕ → ℕ) (a new : Alone) (all gs : List Gap) (ps : List Piece) → AllStay P v all gs ps → AllTell a new all gs ps → AllStand a new all gs ps
+all_stand P v a new all gs [] h t = h
+all_stand P v a new all gs (stays es ∷ ps) h t = (h.0, all_stand P v a new all gs ps h.1 t)
+all_stand P v a new all [] (gap old news ∷ ps) h t = absurd h
+all_stand P v a new all (g ∷ gs) (gap old news ∷ ps) h t = (h.0, t.0, all_stand P v a new all gs ps h.2 t.1)
+
+-- of each run nothing need be known
+abbrev Any : ℕ → Trees → Type 0
+Any from ps = Unit {0}
+
+mutual
+  each_any : (t : Tree) (q : Patch) → EachRun Any t q
+  each_any t keep = tt
+  each_any t (put s) = tt
+  each_any (node k i j ps) (inside qs) = all_any ps qs
+
+  all_any : (ps : Trees) (qs : Patches) → EachIn Any ps qs
+  all_any ps done = tt
+  all_any none (part q qs) = tt
+  all_any (more p ps) (part q qs) = (each_any p q, all_any ps qs)
+  all_any (skip ps) (part q qs) = all_any ps qs
+  all_any none (run n new qs) = tt
+  all_any (more p ps) (run n new qs) = (tt, all_any (items_behind n ps) qs)
+  all_any (skip ps) (run n new qs) = tt
+
+-- What is told in the place of each run by itself is told in all.
+all_tell : (a new : Alone) (all gs : List Gap) (ps : List Piece) → ((g : Gap) → Among g gs → Among g all) → AllStay (TellsInPlace a new all) (moved_by all) all gs ps → AllTell a new all gs ps
+all_tell a new all gs [] f h = tt
+all_tell a new all gs (stays es ∷ ps) f h = all_tell a new all gs ps f h.1
+all_tell a new all [] (gap old news ∷ ps) f h = absurd h
+all_tell a new all (g ∷ gs) (gap old news ∷ ps) f h = (h.1.1 g (f g (inl refl)) refl old news h.1.0 refl, all_tell a new all gs ps (λ x m. f x (inr m)) h.2)
+
+pub gaps_tell : (tells : Tells) (ts us : List TokenKind) (a : Alone) (gaps : List Gap) (new : Alone) (h : IsRewritten ts us a gaps new) → EachRun (TellsInPlace a new gaps) a.tree h.patch
+    → AllTell a new gaps gaps (pieces (moved_by gaps) (file_context 0) a.tree h.patch)
+gaps_tell tells ts us a gaps new h r =
+    all_tell a new gaps gaps (pieces (moved_by gaps) (file_context 0) a.tree h.patch) (λ g m. m)
+    (function_stays (TellsInPlace a new gaps) ts tells gaps (moved_by gaps) a.tree h.patch h.function.function h.function.derives h.lists h.places r)
 
 apart_by : (gs : List Gap) (i j : ℕ) → Ascending i (ranges gs) j → ((g : Gap) → Among g gs → 0 < length g.texts) → AreApart i gs
 apart_by [] i j h f = tt
@@ -96,7 +128,7 @@ itself_of ts tells a h =
     declares_itself a (first a.tree) (function_tells ts tells a.tree h.function h.derives) (ap (λ i. is_blank (own_text a (suc i))) h.begins ∙ h.named)
 
 module _ (tells : Tells) (ts us : List TokenKind) (a : Alone) (gaps : List Gap) (new : Alone) (h : IsRewritten ts us a gaps new) where
-  gaps_ascend : Ascending 1 (ranges gaps) (length a.texts)
+  pub gaps_ascend : Ascending 1 (ranges gaps) (length a.texts)
   gaps_ascend =
       let asc : Ascending (front (kind_of a.tree) (first a.tree)) (places a.tree h.patch) (last a.tree) = ascend_tree a.tree h.patch (derives_laid ts a.tree category.Declaration h.function.derives)
       (derives_fit ts a.tree category.Declaration h.function.derives) h.lists in
@@ -133,7 +165,8 @@ module _ (tells : Tells) (ts us : List TokenKind) (a : Alone) (gaps : List Gap) 
     apart = apart_by gaps 1 (length a.texts) gaps_ascend h.some;
     itself = itself_of ts tells a h.function;
     new_itself = itself_of us tells new new_function;
-    stand = all_stand a new gaps gaps (pieces (moved_by gaps) (file_context 0) a.tree h.patch) (function_stays ts tells gaps (moved_by gaps) a.tree h.patch h.function.function h.function.derives h.lists h.places) c.tell;
+    stand = all_stand Any (moved_by gaps) a new gaps gaps (pieces (moved_by gaps) (file_context 0) a.tree h.patch)
+        (function_stays Any ts tells gaps (moved_by gaps) a.tree h.patch h.function.function h.function.derives h.lists h.places (each_any a.tree h.patch)) c.tell;
     order = order_of ts a h.function;
     new_order = order_of us new new_function;
     texts = old_text_stays;

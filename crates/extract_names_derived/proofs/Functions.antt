@@ -14,7 +14,7 @@ use Rattle.go_scopes_events.proofs.Public.{IsLaidOut, LieIn, derives_laid, lie_o
 use Rattle.extract_names.specs.Gaps.{Gap, ranges, Among}
 use Rattle.extract_names.specs.Pieces.{pieces, row_pieces}
 use Rattle.extract_names.specs.Sites.{EachEvent, EventStays}
-use Rattle.extract_names_derived.specs.Patches.{InLists, InParts}
+use Rattle.extract_names_derived.specs.Patches.{InLists, InParts, EachRun, EachIn}
 use Rattle.extract_names_derived.proofs.Fit.{IsFit, AreFit, derives_fit}
 use Rattle.extract_names_derived.proofs.Lying.{each_event_append}
 use Rattle.extract_names_derived.proofs.Stays.{edge_by}
@@ -84,7 +84,7 @@ gaps_inside i j a b ss ps (inside (part (inside rs) qs)) all h f l e = absurd (t
 
 -- ---- the whole
 
-module _ (tells : Tells) (all : List Gap) (v : ℕ → ℕ) (i j a b : ℕ) (ss : Trees) where
+module _ (P : ℕ → Trees → Type 0) (tells : Tells) (all : List Gap) (v : ℕ → ℕ) (i j a b : ℕ) (ss : Trees) where
   abbrev signature : Tree
   signature = node kind.Signature a b ss
 
@@ -115,15 +115,16 @@ module _ (tells : Tells) (all : List Gap) (v : ℕ → ℕ) (i j a b : ℕ) (ss 
         (each_event_append (EventStays all) (events (enter (file_context 0) kind.FunctionDeclaration i j row (ends_named row) 1 body false) body) [] (none_kept e) tt)
 
     -- the body's gaps are all
-    body_row : (qs : Patches) → InParts (more body none) qs → places_in (more body none) qs ≡ ranges all → AllStay all all (row_pieces v (file_context 0) kind.FunctionDeclaration i j row 1 (more body none) qs)
-    body_row done l e = (each_event_append (EventStays all) (events (enter (file_context 0) kind.FunctionDeclaration i j row (ends_named row) 1 body false) body) [] (none_kept (no_gaps all e)) tt, no_gaps all e)
-    body_row (run n new qs) l e = absurd l
-    body_row (part q qs) l e =
+    body_row : (qs : Patches) → InParts (more body none) qs → places_in (more body none) qs ≡ ranges all → EachIn P (more body none) qs
+        → AllStay P v all all (row_pieces v (file_context 0) kind.FunctionDeclaration i j row 1 (more body none) qs)
+    body_row done l e y0 = (each_event_append (EventStays all) (events (enter (file_context 0) kind.FunctionDeclaration i j row (ends_named row) 1 body false) body) [] (none_kept (no_gaps all e)) tt, no_gaps all e)
+    body_row (run n new qs) l e y0 = absurd l
+    body_row (part q qs) l e y0 =
         let s = split_gaps all (places body q) (places_in none qs) e in
         let placed : Placed all (suc c) d s.before = λ g m. inr (by qs l.1 s.before s.behind s.second g (among_append g s.before s.behind (subst (Among g) s.whole m))) in
-        subst (λ z. AllStay all z (pieces v (enter (file_context 0) kind.FunctionDeclaration i j row (ends_named row) 1 body false) body q ++ row_pieces v (file_context 0) kind.FunctionDeclaration i j row 2 none qs)) (sym s.whole)
-        (stay_append all s.before s.behind (pieces v (enter (file_context 0) kind.FunctionDeclaration i j row (ends_named row) 1 body false) body q) (row_pieces v (file_context 0) kind.FunctionDeclaration i j row 2 none qs)
-        (body_walked tells all v i j row (ends_named row) false c d bs q s.before laid.1.2.1 fit.1.3.2 l.0 s.first placed)
+        subst (λ z. AllStay P v all z (pieces v (enter (file_context 0) kind.FunctionDeclaration i j row (ends_named row) 1 body false) body q ++ row_pieces v (file_context 0) kind.FunctionDeclaration i j row 2 none qs)) (sym s.whole)
+        (stay_append P v all s.before s.behind (pieces v (enter (file_context 0) kind.FunctionDeclaration i j row (ends_named row) 1 body false) body q) (row_pieces v (file_context 0) kind.FunctionDeclaration i j row 2 none qs)
+        (body_walked tells all v i j row (ends_named row) false c d bs P q s.before laid.1.2.1 fit.1.3.2 l.0 s.first placed y0.0)
         (rest qs l.1 s.behind s.second))
       where
         nothing : (qs : Patches) → InParts none qs → places_in none qs ≡ []
@@ -135,19 +136,20 @@ module _ (tells : Tells) (all : List Gap) (v : ℕ → ℕ) (i j a b : ℕ) (ss 
         by qs l before behind e g (inl m) = m
         by qs l before behind e g (inr m) = absurd (subst (Among g) (no_gaps behind (sym (nothing qs l) ∙ e)) m)
 
-        rest : (qs : Patches) → InParts none qs → (behind : List Gap) → places_in none qs ≡ ranges behind → AllStay all behind (row_pieces v (file_context 0) kind.FunctionDeclaration i j row 2 none qs)
+        rest : (qs : Patches) → InParts none qs → (behind : List Gap) → places_in none qs ≡ ranges behind → AllStay P v all behind (row_pieces v (file_context 0) kind.FunctionDeclaration i j row 2 none qs)
         rest done l behind e = (tt, no_gaps behind e)
         rest (part q qs) l behind e = no_gaps behind e
         rest (run n new qs) l behind e = absurd l
 
-    pub bodied_stays : (q : Patch) → InLists (node kind.FunctionDeclaration i j row) q → places (node kind.FunctionDeclaration i j row) q ≡ ranges all → AllStay all all (pieces v (file_context 0) (node kind.FunctionDeclaration i j row) q)
-    bodied_stays keep l e = (each_event_append (EventStays all) (declaration_events i j row) (events_of (file_context 0) kind.FunctionDeclaration i j row 0 row) own_stays (all_kept (no_gaps all e)), no_gaps all e)
-    bodied_stays (put s) l e = absurd l
-    bodied_stays (inside done) l e = (own_stays, (all_kept (no_gaps all e), no_gaps all e))
-    bodied_stays (inside (run n new qs)) l e = absurd l.1
-    bodied_stays (inside (part keep qs)) l e = (own_stays, (front_stays, body_row qs l.1.1 e))
-    bodied_stays (inside (part (put s) qs)) l e = absurd l.1.0
-    bodied_stays (inside (part (inside rs) qs)) l e = absurd (true_false false l.1.0.0 refl)
+    pub bodied_stays : (q : Patch) → InLists (node kind.FunctionDeclaration i j row) q → places (node kind.FunctionDeclaration i j row) q ≡ ranges all → EachRun P (node kind.FunctionDeclaration i j row) q
+        → AllStay P v all all (pieces v (file_context 0) (node kind.FunctionDeclaration i j row) q)
+    bodied_stays keep l e y0 = (each_event_append (EventStays all) (declaration_events i j row) (events_of (file_context 0) kind.FunctionDeclaration i j row 0 row) own_stays (all_kept (no_gaps all e)), no_gaps all e)
+    bodied_stays (put s) l e y0 = absurd l
+    bodied_stays (inside done) l e y0 = (own_stays, (all_kept (no_gaps all e), no_gaps all e))
+    bodied_stays (inside (run n new qs)) l e y0 = absurd l.1
+    bodied_stays (inside (part keep qs)) l e y0 = (own_stays, (front_stays, body_row qs l.1.1 e y0.1))
+    bodied_stays (inside (part (put s) qs)) l e y0 = absurd l.1.0
+    bodied_stays (inside (part (inside rs) qs)) l e y0 = absurd (true_false false l.1.0.0 refl)
 
   -- of one without a body
   module _ (laid : IsLaidOut (node kind.FunctionDeclaration i j (more signature (skip none)))) (fit : IsFit (node kind.FunctionDeclaration i j (more signature (skip none)))) (plain : IsPlain signature) (f : Inside all b j) where
@@ -163,7 +165,7 @@ module _ (tells : Tells) (all : List Gap) (v : ℕ → ℕ) (i j a b : ℕ) (ss 
     bare_kept : EachEvent (EventStays all) (events_of (file_context 0) kind.FunctionDeclaration i j bare 0 bare)
     bare_kept = each_event_append (EventStays all) (events (enter (file_context 0) kind.FunctionDeclaration i j bare (ends_named bare) 0 signature false) signature) [] bare_front tt
 
-    bare_row : (qs : Patches) → InParts (skip none) qs → places_in (skip none) qs ≡ ranges all → AllStay all all (row_pieces v (file_context 0) kind.FunctionDeclaration i j bare 1 (skip none) qs)
+    bare_row : (qs : Patches) → InParts (skip none) qs → places_in (skip none) qs ≡ ranges all → AllStay P v all all (row_pieces v (file_context 0) kind.FunctionDeclaration i j bare 1 (skip none) qs)
     bare_row done l e = (tt, no_gaps all e)
     bare_row (run n new qs) l e = absurd l
     bare_row (part q done) l e = (tt, no_gaps all e)
@@ -171,7 +173,7 @@ module _ (tells : Tells) (all : List Gap) (v : ℕ → ℕ) (i j a b : ℕ) (ss 
     bare_row (part q (run n new qs)) l e = absurd l
 
     pub bare_stays : (q : Patch) → InLists (node kind.FunctionDeclaration i j bare) q → places (node kind.FunctionDeclaration i j bare) q ≡ ranges all
-        → AllStay all all (pieces v (file_context 0) (node kind.FunctionDeclaration i j bare) q)
+        → AllStay P v all all (pieces v (file_context 0) (node kind.FunctionDeclaration i j bare) q)
     bare_stays keep l e = (each_event_append (EventStays all) (declaration_events i j bare) (events_of (file_context 0) kind.FunctionDeclaration i j bare 0 bare) bare_own bare_kept, no_gaps all e)
     bare_stays (put s) l e = absurd l
     bare_stays (inside done) l e = (bare_own, (bare_kept, no_gaps all e))
@@ -180,21 +182,22 @@ module _ (tells : Tells) (all : List Gap) (v : ℕ → ℕ) (i j a b : ℕ) (ss 
     bare_stays (inside (part (put s) qs)) l e = absurd l.1.0
     bare_stays (inside (part (inside rs) qs)) l e = absurd (true_false false l.1.0.0 refl)
 
-row_stays : (tells : Tells) (all : List Gap) (v : ℕ → ℕ) (i j : ℕ) (ps : Trees) (q : Patch) → IsFunctionRow ps → IsLaidOut (node kind.FunctionDeclaration i j ps) → IsFit (node kind.FunctionDeclaration i j ps)
+row_stays : (P : ℕ → Trees → Type 0) (tells : Tells) (all : List Gap) (v : ℕ → ℕ) (i j : ℕ) (ps : Trees) (q : Patch) → IsFunctionRow ps → IsLaidOut (node kind.FunctionDeclaration i j ps) → IsFit (node kind.FunctionDeclaration i j ps)
     → AreLayered Function ps → InLists (node kind.FunctionDeclaration i j ps) q → places (node kind.FunctionDeclaration i j ps) q ≡ ranges all
-    → AllStay all all (pieces v (file_context 0) (node kind.FunctionDeclaration i j ps) q)
-row_stays tells all v i j (more (node kind.Signature a b ss) (more (node kind.Block c d bs) none)) q r laid fit x l e =
-    bodied_stays tells all v i j a b ss c d bs laid fit x.0 (gaps_inside i j a b ss (more (node kind.Block c d bs) none) q all laid.1.2 fit.1.3 l e) q l e
-row_stays tells all v i j (more (node kind.Signature a b ss) (skip none)) q r laid fit x l e =
-    bare_stays tells all v i j a b ss laid fit x.0 (gaps_inside i j a b ss (skip none) q all laid.1.2 fit.1.3 l e) q l e
-row_stays tells all v i j ps q r laid fit x l e = absurd r
+    → EachRun P (node kind.FunctionDeclaration i j ps) q → AllStay P v all all (pieces v (file_context 0) (node kind.FunctionDeclaration i j ps) q)
+row_stays P tells all v i j (more (node kind.Signature a b ss) (more (node kind.Block c d bs) none)) q r laid fit x l e y0 =
+    bodied_stays P tells all v i j a b ss c d bs laid fit x.0 (gaps_inside i j a b ss (more (node kind.Block c d bs) none) q all laid.1.2 fit.1.3 l e) q l e y0
+row_stays P tells all v i j (more (node kind.Signature a b ss) (skip none)) q r laid fit x l e y0 =
+    bare_stays P tells all v i j a b ss laid fit x.0 (gaps_inside i j a b ss (skip none) q all laid.1.2 fit.1.3 l e) q l e
+row_stays P tells all v i j ps q r laid fit x l e y0 = absurd r
 
-pub function_stays : (ts : List TokenKind) (tells : Tells) (all : List Gap) (v : ℕ → ℕ) (t : Tree) (q : Patch) → kind_of t ≡ kind.FunctionDeclaration → Derives ts category.Declaration t → InLists t q → places t q ≡ ranges all
-    → AllStay all all (pieces v (file_context 0) t q)
-function_stays ts tells all v (node kind.FunctionDeclaration i j ps) q k h l e =
-    row_stays tells all v i j ps q (function_row ts i j ps h) (derives_laid ts (node kind.FunctionDeclaration i j ps) category.Declaration h) (derives_fit ts (node kind.FunctionDeclaration i j ps) category.Declaration h)
-    (derives_layered ts (node kind.FunctionDeclaration i j ps) category.Declaration h) l e
-function_stays ts tells all v (node k i j ps) q e h l g = absurd cc
+pub function_stays : (P : ℕ → Trees → Type 0) (ts : List TokenKind) (tells : Tells) (all : List Gap) (v : ℕ → ℕ) (t : Tree) (q : Patch) → kind_of t ≡ kind.FunctionDeclaration → Derives ts category.Declaration t → InLists t q
+    → places t q ≡ ranges all
+    → EachRun P t q → AllStay P v all all (pieces v (file_context 0) t q)
+function_stays P ts tells all v (node kind.FunctionDeclaration i j ps) q k h l e y0 =
+    row_stays P tells all v i j ps q (function_row ts i j ps h) (derives_laid ts (node kind.FunctionDeclaration i j ps) category.Declaration h) (derives_fit ts (node kind.FunctionDeclaration i j ps) category.Declaration h)
+    (derives_layered ts (node kind.FunctionDeclaration i j ps) category.Declaration h) l e y0
+function_stays P ts tells all v (node k i j ps) q e h l g y0 = absurd cc
 
 -- Runs stand behind the signature.
 row_gaps : (i j : ℕ) (ps : Trees) (q : Patch) (all : List Gap) → IsFunctionRow ps → IsLaidOut (node kind.FunctionDeclaration i j ps) → IsFit (node kind.FunctionDeclaration i j ps)

@@ -17,5 +17,8 @@ mod Sided
 mod Split
 mod DerivedSites
 mod Placing
+mod News
 mod DerivedCopies
 mod Changed
+mod BodyParts
+mod Examples

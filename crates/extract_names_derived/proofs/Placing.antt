@@ -123,7 +123,7 @@ module _ (a new : Alone) (c : Copy) (h : PlacesRun a new c) where
   from_on x e = above gs c.from c.upto x h.apart (holes_edge w c.holes x e.2) e.0
 
   place_rises : (x y : ℕ) → IsEdge c x → IsEdge c y → x < y → c.place x < c.place y
-  place_rises x y e f lt = omega (arith, h.place x, h.place y, from_on x e, moves_up x y e.2 f.2 lt)
+  place_rises x y e f lt = omega (arith, h.place x e, h.place y f, from_on x e, moves_up x y e.2 f.2 lt)
 
   kept_edge : (t : ℕ) → IsKept c t → IsEdge c t
   kept_edge t k = (k.0, omega (arith, k.1), outside_edge c.holes k.2)
@@ -136,8 +136,20 @@ module _ (a new : Alone) (c : Copy) (h : PlacesRun a new c) where
           by (inl y) = inl (omega arith)
           by (inr y) = inr y
 
+  -- behind a token that stays something may begin
+  next_edge : (t : ℕ) → IsKept c t → IsEdge c (suc t)
+  next_edge t k = (omega (arith, k.0), omega (arith, k.1), outside_next c.holes k.2)
+    where
+      outside_next : (hs : List Replaced) → StaysOutside hs t → AtHole hs (suc t)
+      outside_next [] s = tt
+      outside_next (x ∷ hs) s = (by s.0, outside_next hs s.1)
+        where
+          by : (t < x.from) ⊎ (x.upto ≤ t) → (suc t ≤ x.from) ⊎ (x.upto ≤ suc t)
+          by (inl y) = inl (omega arith)
+          by (inr y) = inr (omega arith)
+
   place_next : (t : ℕ) → IsKept c t → c.place (suc t) ≡ suc (c.place t)
-  place_next t k = omega (arith, h.place t, h.place (suc t), from_on t (kept_edge t k), steps_on gs c.from c.upto t h.apart (holes_stay w c.holes t k.2))
+  place_next t k = omega (arith, h.place t (kept_edge t k), h.place (suc t) (next_edge t k), from_on t (kept_edge t k), steps_on gs c.from c.upto t h.apart (holes_stay w c.holes t k.2))
 
   -- the texts that are placed
   far : moved_by gs c.upto ≤ length all
@@ -171,7 +183,7 @@ module _ (a new : Alone) (c : Copy) (h : PlacesRun a new c) where
   place_texts : (t : ℕ) → IsKept c t → own_text new (c.place t) ≡ own_text a t
   place_texts t k =
       let e : IsEdge c t = kept_edge t k in
-      ap text_there (stands t (moved_by gs t) (h.place t) (from_on t e) (moves_up t c.upto e.2 (edge_last).2 k.1) ∙ texts_stay a.texts gs c.from t long_apart (holes_stay w c.holes t k.2))
+      ap text_there (stands t (moved_by gs t) (h.place t e) (from_on t e) (moves_up t c.upto e.2 (edge_last).2 k.1) ∙ texts_stay a.texts gs c.from t long_apart (holes_stay w c.holes t k.2))
 
   hole_lies : (x : Replaced) → Among x c.holes → (x.from < x.upto) × (x.from < c.upto) × IsEdge c x.from
   hole_lies x m =
@@ -190,7 +202,7 @@ module _ (a new : Alone) (c : Copy) (h : PlacesRun a new c) where
       let here : moved_by gs x.from ≡ moved_by gs g.0.from + 0 = sym at ∙ ap (λ n. moved_by gs n + 0) (sym g.2) in
       let some : 0 < length g.0.texts = subst (λ us. 0 < length us) (sym g.4) (let z : 0 < 1 = omega arith in z) in
       ap text_there
-      (stands x.from (moved_by gs x.from) (h.place x.from) (from_on x.from l.2) (moves_up x.from c.upto (l.2).2 (edge_last).2 l.1) ∙ ap (slice_get all) here
+      (stands x.from (moved_by gs x.from) (h.place x.from l.2) (from_on x.from l.2) (moves_up x.from c.upto (l.2).2 (edge_last).2 l.1) ∙ ap (slice_get all) here
       ∙ gap_stands a.texts gs c.from long_apart g.0 g.1 0 some ∙ ap (λ us. slice_get us 0) g.4)
 
   pub run_placed : RunPlaced a new c

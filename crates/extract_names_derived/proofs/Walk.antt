@@ -15,23 +15,25 @@ use Rattle.go_scopes_bodies.specs.Listed.{list_context, told_list, is_specificat
 use Rattle.extract_names.specs.Gaps.{Gap, Among, AtEdge, BlockAtEdge}
 use Rattle.extract_names.specs.Pieces.{leads_to_lists, Piece, stays, gap}
 use Rattle.extract_names.specs.Sites.{EachEvent, specification_at, EventStays, EventGoes, RunGoes}
+use Rattle.extract_names_derived.specs.Sites.{RunStands}
 use Rattle.extract_names_derived.proofs.Fit.{front, may_hold, holds_specifications, IsFit, AreFit, Rises, front_from, front_below, part_inner}
 use Rattle.extract_names_derived.proofs.Lying.{RoleLies, OptionIn, ContextLies, EventLies, events_lie, each_event_append, each_event_map}
 use Rattle.extract_names_derived.proofs.Stays.{Aside, event_stays, event_goes}
 use Rattle.extract_names_derived.proofs.Ascends.{run_lies}
 
 -- the pieces stand, each gap with its run
-abbrev pub AllStay : List Gap → List Gap → List Piece → Type 0
-AllStay all gs [] = gs ≡ []
-AllStay all gs (stays es ∷ ps) = EachEvent (EventStays all) es × AllStay all gs ps
-AllStay all [] (gap old news ∷ ps) = ⊥
-AllStay all (g ∷ gs) (gap old news ∷ ps) = RunGoes all g old × AllStay all gs ps
+abbrev pub AllStay : (ℕ → Trees → Type 0) → (ℕ → ℕ) → List Gap → List Gap → List Piece → Type 0
+AllStay P v all gs [] = gs ≡ []
+AllStay P v all gs (stays es ∷ ps) = EachEvent (EventStays all) es × AllStay P v all gs ps
+AllStay P v all [] (gap old news ∷ ps) = ⊥
+AllStay P v all (g ∷ gs) (gap old news ∷ ps) = RunGoes all g old × ((x : RunStands v g old news) × P g.from x.new) × AllStay P v all gs ps
 
-pub stay_append : (all gs hs : List Gap) (ps qs : List Piece) → AllStay all gs ps → AllStay all hs qs → AllStay all (gs ++ hs) (ps ++ qs)
-stay_append all gs hs [] qs h g = subst (λ z. AllStay all (z ++ hs) qs) (sym h) g
-stay_append all gs hs (stays es ∷ ps) qs h g = (h.0, stay_append all gs hs ps qs h.1 g)
-stay_append all [] hs (gap old news ∷ ps) qs h g = absurd h
-stay_append all (x ∷ gs) hs (gap old news ∷ ps) qs h g = (h.0, stay_append all gs hs ps qs h.1 g)
+module _ (P : ℕ → Trees → Type 0) (v : ℕ → ℕ) where
+  pub stay_append : (all gs hs : List Gap) (ps qs : List Piece) → AllStay P v all gs ps → AllStay P v all hs qs → AllStay P v all (gs ++ hs) (ps ++ qs)
+  stay_append all gs hs [] qs h g = subst (λ z. AllStay P v all (z ++ hs) qs) (sym h) g
+  stay_append all gs hs (stays es ∷ ps) qs h g = (h.0, stay_append all gs hs ps qs h.1 g)
+  stay_append all [] hs (gap old news ∷ ps) qs h g = absurd h
+  stay_append all (x ∷ gs) hs (gap old news ∷ ps) qs h g = (h.0, h.1, stay_append all gs hs ps qs h.2 g)
 
 -- ---- statements
 

@@ -14,7 +14,7 @@ use Rattle.go_scopes_bodies.specs.Listed.{list_context, is_specification}
 use Rattle.extract_names.specs.Gaps.{Gap, ranges, Among, AtEdge}
 use Rattle.extract_names.specs.Pieces.{leads_to_lists, pieces, row_pieces, case_pieces, list_pieces}
 use Rattle.extract_names.specs.Sites.{EachEvent, EventStays}
-use Rattle.extract_names_derived.specs.Patches.{InLists, InParts, InCase, InList}
+use Rattle.extract_names_derived.specs.Patches.{InLists, InParts, InCase, InList, EachRun, EachIn}
 use Rattle.extract_names_derived.proofs.Fit.{case_rises, front, AreFit, Rises, AllWords, WordsBehind, ListFits, front_from, front_below, word_front}
 use Rattle.extract_names_derived.proofs.Lying.{each_event_append}
 use Rattle.extract_names_derived.proofs.Stays.{Aside, edge_by}
@@ -158,120 +158,141 @@ placed_behind all x gs y z j le e f g a = by (f g a)
     by (inr (inl h)) = let u : g.upto ≡ x.upto = ap (λ (w : Gap). w.upto) h in inl (inl (omega (arith, u, e)))
     by (inr (inr h)) = inr h
 
-mutual
-  pub walk_tree : (all : List Gap) (v : ℕ → ℕ) (c : Context) (t : Tree) (q : Patch) (gs : List Gap) → Calm all (last t) c → IsPart t → InLists t q → places t q ≡ ranges gs
-      → Placed all (front (kind_of t) (first t)) (last t) gs → AllStay all gs (pieces v c t q)
-  walk_tree all v c (node k i j ps) keep gs h p l e f = (kept all c (node k i j ps) h p (none_among all (front k i) j gs (no_gaps gs e) f), no_gaps gs e)
-  walk_tree all v c (node k i j ps) (put s) gs h p l e f = absurd l
-  walk_tree all v c (node kind.Block i j ps) (inside qs) gs h p l e f =
-      let asc : Ascending (suc i) (ranges gs) j = subst (λ z. Ascending (suc i) z j) e (ascend_tree (node kind.Block i j ps) (inside qs) p.laid p.fit l) in
-      let edges = node_edge all (suc i) i j gs (omega arith) (omega arith) p.laid.0 asc f in (
-        statement_stays all c.listed i j,
-        walk_list all v (list_context c i j) false kind.Block i ps qs gs (suc i) (suc i) j refl refl (calm_list all j c i j edges.0 edges.1 h) (lie_front kind.Block i i j ps p.laid.0 p.laid.1 p.fit.1) p.fit.0 p.fit.1 l e f,
-      )
-  walk_tree all v c (node kind.Default i j ps) (inside qs) gs h p l e f =
-      let asc : Ascending (suc i) (ranges gs) j = subst (λ z. Ascending (suc i) z j) e (ascend_tree (node kind.Default i j ps) (inside qs) p.laid p.fit l) in
-      let edges = node_edge all (suc i) i j gs (omega arith) (omega arith) p.laid.0 asc f in (
-        statement_stays all c.listed i j,
-        walk_list all v (list_context c i j) c.followed kind.Default i ps qs gs (suc i) (suc i) j refl refl (calm_list all j c i j edges.0 edges.1 h) (lie_front kind.Default i i j ps p.laid.0 p.laid.1 p.fit.1) p.fit.0 p.fit.1 l e f,
-      )
-  walk_tree all v c (node kind.Case i j ps) (inside qs) gs h p l e f =
-      let asc : Ascending (suc i) (ranges gs) j = subst (λ z. Ascending (suc i) z j) e (ascend_tree (node kind.Case i j ps) (inside qs) p.laid p.fit l) in
-      let edges = node_edge all (suc i) i j gs (omega arith) (omega arith) p.laid.0 asc f in
-      (statement_stays all c.listed i j, walk_case all v c i j ps qs gs edges.0 edges.1 h p.laid.0 p.laid.1 (case_rises i ps p.fit.0) p.fit.1 l e f)
-  walk_tree all v c (node k i j ps) (inside qs) gs h p l e f =
-      let asc : Ascending (front k i) (ranges gs) j = subst (λ z. Ascending (front k i) z j) e (ascend_tree (node k i j ps) (inside qs) p.laid p.fit l) in
-      let w : WordsBehind ps = list_words k i ps l.0 p.fit.0 (λ x. cc) (λ x. cc) (λ x. cc) in
-      let edges = node_edge all (front k i) i j gs (leads_front k i l.0) (front_below k i) p.laid.0 asc f in (
-        each_event_append (EventStays all) (statement_events c.listed i j) (own_events c k i j ps) (statement_stays all c.listed i j) (own_stays all c k i j ps l.0 p.inner),
-        walk_row all v c k i j ps 0 ps qs gs (front k i) (front k i) l.0 p.inner edges.0 edges.1 h (lie_front k i (behind_name k i) j ps p.laid.0 p.laid.1 p.fit.1) p.fit.1 w (omega arith) l.1 e f,
-      )
+module _ (P : ℕ → Trees → Type 0) where
+  mutual
+    pub walk_tree : (all : List Gap) (v : ℕ → ℕ) (c : Context) (t : Tree) (q : Patch) (gs : List Gap) → Calm all (last t) c → IsPart t → InLists t q → places t q ≡ ranges gs
+        → Placed all (front (kind_of t) (first t)) (last t) gs → EachRun P t q → AllStay P v all gs (pieces v c t q)
+    walk_tree all v c (node k i j ps) keep gs h p l e f y0 = (kept all c (node k i j ps) h p (none_among all (front k i) j gs (no_gaps gs e) f), no_gaps gs e)
+    walk_tree all v c (node k i j ps) (put s) gs h p l e f y0 = absurd l
+    walk_tree all v c (node kind.Block i j ps) (inside qs) gs h p l e f y0 =
+        let asc : Ascending (suc i) (ranges gs) j = subst (λ z. Ascending (suc i) z j) e (ascend_tree (node kind.Block i j ps) (inside qs) p.laid p.fit l) in
+        let edges = node_edge all (suc i) i j gs (omega arith) (omega arith) p.laid.0 asc f in (
+          statement_stays all c.listed i j,
+          walk_list all v (list_context c i j) false kind.Block i ps qs gs (suc i) (suc i) j refl refl (calm_list all j c i j edges.0 edges.1 h) (lie_front kind.Block i i j ps p.laid.0 p.laid.1 p.fit.1) p.fit.0 p.fit.1 l e f y0,
+        )
+    walk_tree all v c (node kind.Default i j ps) (inside qs) gs h p l e f y0 =
+        let asc : Ascending (suc i) (ranges gs) j = subst (λ z. Ascending (suc i) z j) e (ascend_tree (node kind.Default i j ps) (inside qs) p.laid p.fit l) in
+        let edges = node_edge all (suc i) i j gs (omega arith) (omega arith) p.laid.0 asc f in (
+          statement_stays all c.listed i j,
+          walk_list all v (list_context c i j) c.followed kind.Default i ps qs gs (suc i) (suc i) j refl refl (calm_list all j c i j edges.0 edges.1 h) (lie_front kind.Default i i j ps p.laid.0 p.laid.1 p.fit.1) p.fit.0 p.fit.1 l e f y0,
+        )
+    walk_tree all v c (node kind.Case i j ps) (inside qs) gs h p l e f y0 =
+        let asc : Ascending (suc i) (ranges gs) j = subst (λ z. Ascending (suc i) z j) e (ascend_tree (node kind.Case i j ps) (inside qs) p.laid p.fit l) in
+        let edges = node_edge all (suc i) i j gs (omega arith) (omega arith) p.laid.0 asc f in
+        (statement_stays all c.listed i j, walk_case all v c i j ps qs gs edges.0 edges.1 h p.laid.0 p.laid.1 (case_rises i ps p.fit.0) p.fit.1 l e f y0)
+    walk_tree all v c (node k i j ps) (inside qs) gs h p l e f y0 =
+        let asc : Ascending (front k i) (ranges gs) j = subst (λ z. Ascending (front k i) z j) e (ascend_tree (node k i j ps) (inside qs) p.laid p.fit l) in
+        let w : WordsBehind ps = list_words k i ps l.0 p.fit.0 (λ x. cc) (λ x. cc) (λ x. cc) in
+        let edges = node_edge all (front k i) i j gs (leads_front k i l.0) (front_below k i) p.laid.0 asc f in (
+          each_event_append (EventStays all) (statement_events c.listed i j) (own_events c k i j ps) (statement_stays all c.listed i j) (own_stays all c k i j ps l.0 p.inner),
+          walk_row all v c k i j ps 0 ps qs gs (front k i) (front k i) l.0 p.inner edges.0 edges.1 h (lie_front k i (behind_name k i) j ps p.laid.0 p.laid.1 p.fit.1) p.fit.1 w (omega arith) l.1 e f y0,
+        )
 
-  walk_case : (all : List Gap) (v : ℕ → ℕ) (c : Context) (i j : ℕ) (ps : Trees) (qs : Patches) (gs : List Gap) → AtEdge all i → AtEdge all j → Calm all j c → i < j → LieIn i j ps → Rises (suc i) ps → AreFit kind.Case i ps
-      → InCase ps qs → places_in ps qs ≡ ranges gs → Placed all (suc i) j gs
-      → AllStay all gs (case_pieces v c i j ps qs)
-  walk_case all v c i j (more p ps) (part keep qs) gs ei ej h lt l r t il e f =
-      let hi : last p ≤ j = lie_order (last p) j ps l.2 in
-      let grows : first p < last p = laid_grows p l.1 in
-      let asc : Ascending (last p) (ranges gs) j = subst (λ z. Ascending (last p) z j) e (ascend_list kind.Case i ps qs (last p) j l.2 t.3 il) in
-      let other : is_specification (kind_of p) ≡ false = statement_part kind.Case (kind_of p) refl t.0 in
-      let low : suc i ≤ front (kind_of p) (first p) = omega (arith, t.1, front_from (kind_of p) (first p)) in (
-        kept all (enter c kind.Case i j (more p ps) (ends_named (more p ps)) 0 p (is_more ps)) p (enter_calm all c i j (more p ps) (ends_named (more p ps)) 0 p (is_more ps) kind.Case refl refl ei ej hi other h)
-            (is_part kind.Case i i j p ps refl refl l t)
-            (none_among all (front (kind_of p) (first p)) (last p) [] refl (placed_part all [] gs (suc i) j p low grows hi j asc f)),
-        walk_list all v (list_context c i j) c.followed kind.Case i ps qs gs (last p) (suc (last p)) j refl refl (calm_list all j c i j ei ej h) l.2 r.1 t.3 il e
-            (placed_rest all [] gs (suc i) j p low grows hi (omega (arith, grows, front_below (kind_of p) (first p))) f),
-      )
-  walk_case all v c i j (more p ps) (part (put s) qs) gs ei ej h lt l r t il e f = absurd il
-  walk_case all v c i j (more p ps) (part (inside rs) qs) gs ei ej h lt l r t il e f = absurd il
-  walk_case all v c i j (more p ps) done gs ei ej h lt l r t il e f = absurd il
-  walk_case all v c i j (more p ps) (run n new qs) gs ei ej h lt l r t il e f = absurd il
-  walk_case all v c i j none qs gs ei ej h lt l r t il e f = absurd il
-  walk_case all v c i j (skip ps) qs gs ei ej h lt l r t il e f = absurd il
+    walk_case : (all : List Gap) (v : ℕ → ℕ) (c : Context) (i j : ℕ) (ps : Trees) (qs : Patches) (gs : List Gap) → AtEdge all i → AtEdge all j → Calm all j c → i < j → LieIn i j ps → Rises (suc i) ps → AreFit kind.Case i ps
+        → InCase ps qs → places_in ps qs ≡ ranges gs → Placed all (suc i) j gs
+        → EachIn P ps qs → AllStay P v all gs (case_pieces v c i j ps qs)
+    walk_case all v c i j (more p ps) (part keep qs) gs ei ej h lt l r t il e f y0 =
+        let hi : last p ≤ j = lie_order (last p) j ps l.2 in
+        let grows : first p < last p = laid_grows p l.1 in
+        let asc : Ascending (last p) (ranges gs) j = subst (λ z. Ascending (last p) z j) e (ascend_list kind.Case i ps qs (last p) j l.2 t.3 il) in
+        let other : is_specification (kind_of p) ≡ false = statement_part kind.Case (kind_of p) refl t.0 in
+        let low : suc i ≤ front (kind_of p) (first p) = omega (arith, t.1, front_from (kind_of p) (first p)) in (
+          kept all (enter c kind.Case i j (more p ps) (ends_named (more p ps)) 0 p (is_more ps)) p (enter_calm all c i j (more p ps) (ends_named (more p ps)) 0 p (is_more ps) kind.Case refl refl ei ej hi other h)
+              (is_part kind.Case i i j p ps refl refl l t)
+              (none_among all (front (kind_of p) (first p)) (last p) [] refl (placed_part all [] gs (suc i) j p low grows hi j asc f)),
+          walk_list all v (list_context c i j) c.followed kind.Case i ps qs gs (last p) (suc (last p)) j refl refl (calm_list all j c i j ei ej h) l.2 r.1 t.3 il e
+              (placed_rest all [] gs (suc i) j p low grows hi (omega (arith, grows, front_below (kind_of p) (first p))) f) y0.1,
+        )
+    walk_case all v c i j (more p ps) (part (put s) qs) gs ei ej h lt l r t il e f y0 = absurd il
+    walk_case all v c i j (more p ps) (part (inside rs) qs) gs ei ej h lt l r t il e f y0 = absurd il
+    walk_case all v c i j (more p ps) done gs ei ej h lt l r t il e f y0 = absurd il
+    walk_case all v c i j (more p ps) (run n new qs) gs ei ej h lt l r t il e f y0 = absurd il
+    walk_case all v c i j none qs gs ei ej h lt l r t il e f y0 = absurd il
+    walk_case all v c i j (skip ps) qs gs ei ej h lt l r t il e f y0 = absurd il
 
-  pub walk_row : (all : List Gap) (v : ℕ → ℕ) (c : Context) (k : Kind) (i j : ℕ) (ps : Trees) (n : ℕ) (rs : Trees) (qs : Patches) (gs : List Gap) (x y : ℕ) → leads_to_lists k ≡ true → is_top k ≡ false → AtEdge all i
-      → AtEdge all j → Calm all j c → LieIn x j rs → AreFit k i rs → RowWords n rs → Low n x y → InParts rs qs → places_in rs qs ≡ ranges gs → Placed all y j gs
-      → AllStay all gs (row_pieces v c k i j ps n rs qs)
-  walk_row all v c k i j ps n rs done gs x y lead top ei ej h l t w lo il e f =
-      (parts_kept all c k i j ps n rs x y lead top ei ej h l t w lo (none_among all y j gs (no_gaps gs e) f), no_gaps gs e)
-  walk_row all v c k i j ps n none (part q qs) gs x y lead top ei ej h l t w lo il e f = no_gaps gs e
-  walk_row all v c k i j ps n (skip rs) (part q qs) gs x y lead top ei ej h l t w lo il e f = walk_row all v c k i j ps (suc n) rs qs gs x y lead top ei ej h l t (words_skip n rs w) (low_skip n x y lo) il e f
-  walk_row all v c k i j ps n none (run m new qs) gs x y lead top ei ej h l t w lo il e f = absurd il
-  walk_row all v c k i j ps n (more p rs) (run m new qs) gs x y lead top ei ej h l t w lo il e f = absurd il
-  walk_row all v c k i j ps n (skip rs) (run m new qs) gs x y lead top ei ej h l t w lo il e f = absurd il
-  walk_row all v c k i j ps n (more p rs) (part q qs) gs x y lead top ei ej h l t w lo il e f =
-      let hi : last p ≤ j = lie_order (last p) j rs l.2 in
-      let lt : first p < last p = laid_grows p l.1 in
-      let at : y ≤ front (kind_of p) (first p) = low_front n x y p rs w lo l.0 in
-      let other : is_specification (kind_of p) ≡ false = statement_part k (kind_of p) lead t.0 in
-      let s = split_gaps gs (places p q) (places_in rs qs) e in
-      let asc : Ascending (front (kind_of p) (first p)) (ranges s.before) (last p) = subst (λ z. Ascending (front (kind_of p) (first p)) z (last p)) s.first (ascend_tree p q l.1 t.2 il.0) in
-      let asc2 : Ascending (last p) (ranges s.behind) j = subst (λ z. Ascending (last p) z j) s.second (ascend_parts k i rs qs (last p) j l.2 t.3 il.1) in
-      let f2 : Placed all y j (s.before ++ s.behind) = subst (λ z. Placed all y j z) s.whole f in
-      subst (λ z. AllStay all z (pieces v (enter c k i j ps (ends_named ps) n p (is_more rs)) p q ++ row_pieces v c k i j ps (suc n) rs qs)) (sym s.whole)
-      (stay_append all s.before s.behind (pieces v (enter c k i j ps (ends_named ps) n p (is_more rs)) p q) (row_pieces v c k i j ps (suc n) rs qs)
-      (walk_tree all v (enter c k i j ps (ends_named ps) n p (is_more rs)) p q s.before (enter_calm all c i j ps (ends_named ps) n p (is_more rs) k lead top ei ej hi other h) (is_part k i x j p rs lead top l t) il.0 s.first
-      (placed_part all s.before s.behind y j p at lt hi j asc2 f2))
-      (walk_row all v c k i j ps (suc n) rs qs s.behind (last p) (suc (last p)) lead top ei ej h l.2 t.3 (words_next n p rs w) (omega arith) il.1 s.second (placed_rest all s.before s.behind y j p at lt hi asc f2)))
+    pub walk_row : (all : List Gap) (v : ℕ → ℕ) (c : Context) (k : Kind) (i j : ℕ) (ps : Trees) (n : ℕ) (rs : Trees) (qs : Patches) (gs : List Gap) (x y : ℕ) → leads_to_lists k ≡ true → is_top k ≡ false → AtEdge all i
+        → AtEdge all j → Calm all j c → LieIn x j rs → AreFit k i rs → RowWords n rs → Low n x y → InParts rs qs → places_in rs qs ≡ ranges gs → Placed all y j gs
+        → EachIn P rs qs → AllStay P v all gs (row_pieces v c k i j ps n rs qs)
+    walk_row all v c k i j ps n rs done gs x y lead top ei ej h l t w lo il e f y0 =
+        (parts_kept all c k i j ps n rs x y lead top ei ej h l t w lo (none_among all y j gs (no_gaps gs e) f), no_gaps gs e)
+    walk_row all v c k i j ps n none (part q qs) gs x y lead top ei ej h l t w lo il e f y0 = no_gaps gs e
+    walk_row all v c k i j ps n (skip rs) (part q qs) gs x y lead top ei ej h l t w lo il e f y0 = walk_row all v c k i j ps (suc n) rs qs gs x y lead top ei ej h l t (words_skip n rs w) (low_skip n x y lo) il e f y0
+    walk_row all v c k i j ps n none (run m new qs) gs x y lead top ei ej h l t w lo il e f y0 = absurd il
+    walk_row all v c k i j ps n (more p rs) (run m new qs) gs x y lead top ei ej h l t w lo il e f y0 = absurd il
+    walk_row all v c k i j ps n (skip rs) (run m new qs) gs x y lead top ei ej h l t w lo il e f y0 = absurd il
+    walk_row all v c k i j ps n (more p rs) (part q qs) gs x y lead top ei ej h l t w lo il e f y0 =
+        let hi : last p ≤ j = lie_order (last p) j rs l.2 in
+        let lt : first p < last p = laid_grows p l.1 in
+        let at : y ≤ front (kind_of p) (first p) = low_front n x y p rs w lo l.0 in
+        let other : is_specification (kind_of p) ≡ false = statement_part k (kind_of p) lead t.0 in
+        let s = split_gaps gs (places p q) (places_in rs qs) e in
+        let asc : Ascending (front (kind_of p) (first p)) (ranges s.before) (last p) = subst (λ z. Ascending (front (kind_of p) (first p)) z (last p)) s.first (ascend_tree p q l.1 t.2 il.0) in
+        let asc2 : Ascending (last p) (ranges s.behind) j = subst (λ z. Ascending (last p) z j) s.second (ascend_parts k i rs qs (last p) j l.2 t.3 il.1) in
+        let f2 : Placed all y j (s.before ++ s.behind) = subst (λ z. Placed all y j z) s.whole f in
+        subst (λ z. AllStay P v all z (pieces v (enter c k i j ps (ends_named ps) n p (is_more rs)) p q ++ row_pieces v c k i j ps (suc n) rs qs)) (sym s.whole)
+        (stay_append P v all s.before s.behind (pieces v (enter c k i j ps (ends_named ps) n p (is_more rs)) p q) (row_pieces v c k i j ps (suc n) rs qs)
+        (walk_tree all v (enter c k i j ps (ends_named ps) n p (is_more rs)) p q s.before (enter_calm all c i j ps (ends_named ps) n p (is_more rs) k lead top ei ej hi other h) (is_part k i x j p rs lead top l t) il.0 s.first
+        (placed_part all s.before s.behind y j p at lt hi j asc2 f2) y0.0)
+        (walk_row all v c k i j ps (suc n) rs qs s.behind (last p) (suc (last p)) lead top ei ej h l.2 t.3 (words_next n p rs w) (omega arith) il.1 s.second (placed_rest all s.before s.behind y j p at lt hi asc f2) y0.1))
 
-  pub walk_list : (all : List Gap) (v : ℕ → ℕ) (c : Context) (d : Bool) (k : Kind) (i : ℕ) (ps : Trees) (qs : Patches) (gs : List Gap) (x y j : ℕ) → leads_to_lists k ≡ true → is_top k ≡ false → Calm all j c → LieIn x j ps
-      → Rises y ps → AreFit k i ps → InList ps qs → places_in ps qs ≡ ranges gs → Placed all y j gs
-      → AllStay all gs (list_pieces v c d ps qs)
-  walk_list all v c d k i ps done gs x y j lead top h l r t il e f =
-      (told_kept all c d k i x y j ps lead top h l r t (none_among all y j gs (no_gaps gs e) f), no_gaps gs e)
-  walk_list all v c d k i none (part q qs) gs x y j lead top h l r t il e f = no_gaps gs e
-  walk_list all v c d k i (skip ps) (part q qs) gs x y j lead top h l r t il e f = walk_list all v c d k i ps qs gs x y j lead top h l r t il e f
-  walk_list all v c d k i none (run n new qs) gs x y j lead top h l r t il e f = absurd il
-  walk_list all v c d k i (skip ps) (run n new qs) gs x y j lead top h l r t il e f = absurd il
-  walk_list all v c d k i (more p ps) (part q qs) gs x y j lead top h l r t il e f =
-      let hi : last p ≤ j = lie_order (last p) j ps l.2 in
-      let lt : first p < last p = laid_grows p l.1 in
-      let at : y ≤ front (kind_of p) (first p) = omega (arith, r.0, front_from (kind_of p) (first p)) in
-      let s = split_gaps gs (places p q) (places_in ps qs) e in
-      let asc : Ascending (front (kind_of p) (first p)) (ranges s.before) (last p) = subst (λ z. Ascending (front (kind_of p) (first p)) z (last p)) s.first (ascend_tree p q l.1 t.2 il.0) in
-      let asc2 : Ascending (last p) (ranges s.behind) j = subst (λ z. Ascending (last p) z j) s.second (ascend_list k i ps qs (last p) j l.2 t.3 il.1) in
-      let f2 : Placed all y j (s.before ++ s.behind) = subst (λ z. Placed all y j z) s.whole f in
-      let b : Bool = d && not (is_more ps) in
-      subst (λ z. AllStay all z (pieces v (record c { falls = b }) p q ++ list_pieces v c d ps qs)) (sym s.whole)
-      (stay_append all s.before s.behind (pieces v (record c { falls = b }) p q) (list_pieces v c d ps qs)
-      (walk_tree all v (record c { falls = b }) p q s.before (calm_falls all (last p) c b (calm_less all (last p) j c hi h)) (is_part k i x j p ps lead top l t) il.0 s.first (placed_part all s.before s.behind y j p at lt hi j asc2 f2))
-      (walk_list all v c d k i ps qs s.behind (last p) (suc (last p)) j lead top h l.2 r.1 t.3 il.1 s.second (placed_rest all s.before s.behind y j p at lt hi asc f2)))
-  walk_list all v c d k i (more p ps) (run n new qs) [] x y j lead top h l r t il e f = absurd cc
-  walk_list all v c d k i (more p ps) (run n new qs) (g ∷ gs) x y j lead top h l r t il e f =
-      let from : g.from ≡ first p = range_from (first p) (items_end n p ps) g.from g.upto (places_in (items_behind n ps) qs) (ranges gs) e in
-      let upto : g.upto ≡ items_end n p ps = range_upto (first p) (items_end n p ps) g.from g.upto (places_in (items_behind n ps) qs) (ranges gs) e in
-      let tail : places_in (items_behind n ps) qs ≡ ranges gs = range_tail (first p) (items_end n p ps) g.from g.upto (places_in (items_behind n ps) qs) (ranges gs) e in
-      let far = run_lies n p ps j il.0 l.2 in
-      let lt : first p < last p = laid_grows p l.1 in
-      let b : Bool = d && not (is_more (items_behind n ps)) in (
-        record {
-          block = c.block;
-          end = c.end;
-          begins = h.block;
-          ends = h.end;
-          behind = omega (arith, upto, far.upto, h.behind);
-          each = run_told all g c b n k i x j p ps lead top h l t il.0 (omega (arith, from)) (omega (arith, upto));
-        },
-        walk_list all v c d k i (items_behind n ps) qs gs (items_end n p ps) (suc (items_end n p ps)) j lead top h far.others (rises_behind n p ps il.0 r.1) (fit_behind n k i ps il.0 t.3) il.3 tail
-            (placed_behind all g gs y (items_end n p ps) j (omega (arith, r.0, lt, far.from)) upto f),
-      )
+    pub walk_list : (all : List Gap) (v : ℕ → ℕ) (c : Context) (d : Bool) (k : Kind) (i : ℕ) (ps : Trees) (qs : Patches) (gs : List Gap) (x y j : ℕ) → leads_to_lists k ≡ true → is_top k ≡ false → Calm all j c → LieIn x j ps
+        → Rises y ps → AreFit k i ps → InList ps qs → places_in ps qs ≡ ranges gs → Placed all y j gs
+        → EachIn P ps qs → AllStay P v all gs (list_pieces v c d ps qs)
+    walk_list all v c d k i ps done gs x y j lead top h l r t il e f y0 =
+        (told_kept all c d k i x y j ps lead top h l r t (none_among all y j gs (no_gaps gs e) f), no_gaps gs e)
+    walk_list all v c d k i none (part q qs) gs x y j lead top h l r t il e f y0 = no_gaps gs e
+    walk_list all v c d k i (skip ps) (part q qs) gs x y j lead top h l r t il e f y0 = walk_list all v c d k i ps qs gs x y j lead top h l r t il e f y0
+    walk_list all v c d k i none (run n new qs) gs x y j lead top h l r t il e f y0 = absurd il
+    walk_list all v c d k i (skip ps) (run n new qs) gs x y j lead top h l r t il e f y0 = absurd il
+    walk_list all v c d k i (more p ps) (part q qs) gs x y j lead top h l r t il e f y0 =
+        let hi : last p ≤ j = lie_order (last p) j ps l.2 in
+        let lt : first p < last p = laid_grows p l.1 in
+        let at : y ≤ front (kind_of p) (first p) = omega (arith, r.0, front_from (kind_of p) (first p)) in
+        let s = split_gaps gs (places p q) (places_in ps qs) e in
+        let asc : Ascending (front (kind_of p) (first p)) (ranges s.before) (last p) = subst (λ z. Ascending (front (kind_of p) (first p)) z (last p)) s.first (ascend_tree p q l.1 t.2 il.0) in
+        let asc2 : Ascending (last p) (ranges s.behind) j = subst (λ z. Ascending (last p) z j) s.second (ascend_list k i ps qs (last p) j l.2 t.3 il.1) in
+        let f2 : Placed all y j (s.before ++ s.behind) = subst (λ z. Placed all y j z) s.whole f in
+        let b : Bool = d && not (is_more ps) in
+        subst (λ z. AllStay P v all z (pieces v (record c { falls = b }) p q ++ list_pieces v c d ps qs)) (sym s.whole)
+        (stay_append P v all s.before s.behind (pieces v (record c { falls = b }) p q) (list_pieces v c d ps qs)
+        (walk_tree all v (record c { falls = b }) p q s.before (calm_falls all (last p) c b (calm_less all (last p) j c hi h)) (is_part k i x j p ps lead top l t) il.0 s.first
+        (placed_part all s.before s.behind y j p at lt hi j asc2 f2) y0.0)
+        (walk_list all v c d k i ps qs s.behind (last p) (suc (last p)) j lead top h l.2 r.1 t.3 il.1 s.second (placed_rest all s.before s.behind y j p at lt hi asc f2) y0.1))
+    walk_list all v c d k i (more p ps) (run n new qs) [] x y j lead top h l r t il e f y0 = absurd cc
+    walk_list all v c d k i (more p ps) (run n new qs) (g ∷ gs) x y j lead top h l r t il e f y0 =
+        let from : g.from ≡ first p = range_from (first p) (items_end n p ps) g.from g.upto (places_in (items_behind n ps) qs) (ranges gs) e in
+        let upto : g.upto ≡ items_end n p ps = range_upto (first p) (items_end n p ps) g.from g.upto (places_in (items_behind n ps) qs) (ranges gs) e in
+        let tail : places_in (items_behind n ps) qs ≡ ranges gs = range_tail (first p) (items_end n p ps) g.from g.upto (places_in (items_behind n ps) qs) (ranges gs) e in
+        let far = run_lies n p ps j il.0 l.2 in
+        let lt : first p < last p = laid_grows p l.1 in
+        let b : Bool = d && not (is_more (items_behind n ps)) in (
+          record {
+            block = c.block;
+            end = c.end;
+            begins = h.block;
+            ends = h.end;
+            behind = omega (arith, upto, far.upto, h.behind);
+            each = run_told all g c b n k i x j p ps lead top h l t il.0 (omega (arith, from)) (omega (arith, upto));
+          },
+          (
+            record {
+              context = c;
+              followed = b;
+              new = new;
+              told = refl;
+              local = h.local;
+              within = omega (arith, upto, far.upto, h.behind);
+              role = h.role;
+              site = h.site;
+              specification = h.specification;
+              source = h.source;
+              group = h.group;
+              parameters = h.parameters;
+              initial = h.initial;
+              each = run_told all g c b n k i x j p ps lead top h l t il.0 (omega (arith, from)) (omega (arith, upto));
+            },
+            subst (λ o. P o new) (sym from) y0.0,
+          ),
+          walk_list all v c d k i (items_behind n ps) qs gs (items_end n p ps) (suc (items_end n p ps)) j lead top h far.others (rises_behind n p ps il.0 r.1) (fit_behind n k i ps il.0 t.3) il.3 tail
+              (placed_behind all g gs y (items_end n p ps) j (omega (arith, r.0, lt, far.from)) upto f) y0.1,
+        )

@@ -18,7 +18,7 @@ use Rattle.go_scopes_bodies.specs.Listed.{list_context, told_list, AreStatements
 use Rattle.extract_names.specs.Gaps.{Gap, ranges, Among, AtEdge}
 use Rattle.extract_names.specs.Pieces.{leads_to_lists, pieces}
 use Rattle.extract_names.specs.Sites.{EachEvent, EventStays, DeclarationStays}
-use Rattle.extract_names_derived.specs.Patches.{InLists}
+use Rattle.extract_names_derived.specs.Patches.{InLists, EachRun}
 use Rattle.extract_names_derived.proofs.Fit.{IsFit, AreFit}
 use Rattle.extract_names_derived.proofs.Lying.{ContextLies, ParametersLie, EventLies, events_lie, each_event_append, each_event_map}
 use Rattle.extract_names_derived.proofs.Stays.{Aside, ParametersStay, stays_by, edge_by, event_stays}
@@ -120,9 +120,9 @@ module _ (tells : Tells) (all : List Gap) (v : ℕ → ℕ) (i j : ℕ) (ps : Tr
       (each_event_append (EventStays all) (statement_events body_context.listed a b) (told_list (list_context body_context a b) false bs) (statement_stays all body_context.listed a b)
       (told_kept all (list_context body_context a b) false kind.Block a (suc a) (suc a) b bs refl refl (body_calm all i j a b ps named x bs ea eb) (lie_front kind.Block a a b bs laid.0 laid.1 fit.1) fit.0 fit.1 f))
 
-  pub body_walked : (q : Patch) (gs : List Gap) → IsLaidOut (node kind.Block a b bs) → IsFit (node kind.Block a b bs) → InLists (node kind.Block a b bs) q → places (node kind.Block a b bs) q ≡ ranges gs
-      → Placed all (suc a) b gs → AllStay all gs (pieces v body_context (node kind.Block a b bs) q)
-  body_walked keep gs laid fit l e f =
+  pub body_walked : (P : ℕ → Trees → Type 0) (q : Patch) (gs : List Gap) → IsLaidOut (node kind.Block a b bs) → IsFit (node kind.Block a b bs) → InLists (node kind.Block a b bs) q → places (node kind.Block a b bs) q ≡ ranges gs
+      → Placed all (suc a) b gs → EachRun P (node kind.Block a b bs) q → AllStay P v all gs (pieces v body_context (node kind.Block a b bs) q)
+  body_walked P keep gs laid fit l e f y0 =
       let asc : Ascending (suc a) (ranges gs) b = subst (λ z. Ascending (suc a) z b) e (ascend_tree (node kind.Block a b bs) keep laid fit l) in
       let edges = node_edge all (suc a) a b gs (omega arith) (omega arith) laid.0 asc f in
       (body_kept laid fit edges.0 edges.1 (λ g m. by gs (no_gaps gs e) g (f g m)), no_gaps gs e)
@@ -130,10 +130,11 @@ module _ (tells : Tells) (all : List Gap) (v : ℕ → ℕ) (i j : ℕ) (ps : Tr
       by : (gs : List Gap) → gs ≡ [] → (g : Gap) → Aside (suc a) b g ⊎ Among g gs → Aside (suc a) b g
       by gs h g (inl z) = z
       by gs h g (inr z) = absurd (subst (Among g) h z)
-  body_walked (put s) gs laid fit l e f = absurd l
-  body_walked (inside qs) gs laid fit l e f =
+  body_walked P (put s) gs laid fit l e f y0 = absurd l
+  body_walked P (inside qs) gs laid fit l e f y0 =
       let asc : Ascending (suc a) (ranges gs) b = subst (λ z. Ascending (suc a) z b) e (ascend_tree (node kind.Block a b bs) (inside qs) laid fit l) in
       let edges = node_edge all (suc a) a b gs (omega arith) (omega arith) laid.0 asc f in (
         statement_stays all body_context.listed a b,
-        walk_list all v (list_context body_context a b) false kind.Block a bs qs gs (suc a) (suc a) b refl refl (body_calm all i j a b ps named x bs edges.0 edges.1) (lie_front kind.Block a a b bs laid.0 laid.1 fit.1) fit.0 fit.1 l e f,
+        walk_list P all v (list_context body_context a b) false kind.Block a bs qs gs (suc a) (suc a) b refl refl (body_calm all i j a b ps named x bs edges.0 edges.1)
+            (lie_front kind.Block a a b bs laid.0 laid.1 fit.1) fit.0 fit.1 l e f y0,
       )

@@ -63,14 +63,14 @@ abbrev pub hole_gaps : (ℕ → List ℕ) → List Replaced → List Gap
 hole_gaps w [] = []
 hole_gaps w (h ∷ hs) = record { from = h.from; upto = h.upto; texts = w h.parameter ∷ []; means = λ i. None; declared = [] } ∷ hole_gaps w hs
 
--- The new function has the texts of the run, with one token in the place of each hole, behind other texts and in front of others; and a token
--- of the run is placed where its text stands.
+-- The new function has the texts of the run, with one token in the place of each hole, behind other texts and in front of others; and where
+-- something begins or ends in the run is placed where its text stands.
 pub record PlacesRun (a new : Alone) (c : Copy) : Type 0 where
   pub apart : Ascending c.from (ranges (hole_gaps (own_text new) c.holes)) c.upto
   pub long : c.upto ≤ length a.texts
   pub front : List (List ℕ)
   pub back : List (List ℕ)
-  pub place : (t : ℕ) → c.place t ≡ moved c.from (length front) (moved_by (hole_gaps (own_text new) c.holes) t)
+  pub place : (t : ℕ) → IsEdge c t → c.place t ≡ moved c.from (length front) (moved_by (hole_gaps (own_text new) c.holes) t)
   pub texts : new.texts ≡ front ++ (drop c.from (take (moved_by (hole_gaps (own_text new) c.holes) c.upto) (with_gaps (hole_gaps (own_text new) c.holes) a.texts)) ++ back)
 
 -- So its tokens keep their order and their texts, and in the place of a hole stands the text of its parameter.

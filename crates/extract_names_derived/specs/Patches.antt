@@ -2,7 +2,7 @@
 use Rattle.std.specs.Prelude.{◌≡◌, ℕ, true, List, [], ◌∷◌, Some}
 use Rattle.go_grammar.specs.declared.kind.Kind.{Kind}
 use Rattle.go_grammar.specs.declared.kind.Kind.TheVariants as kind
-use Rattle.go_grammar.specs.Trees.{Tree, node, Trees, none, more, skip}
+use Rattle.go_grammar.specs.Trees.{Tree, node, Trees, none, more, skip, first}
 use Rattle.go_rewriting.specs.Places.{Patch, Patches, keep, put, inside, done, part, run, has_items, items_behind, places}
 use Rattle.go_rewriting.specs.Lists.{has_run}
 use Rattle.go_rewriting.specs.Replacing.{subtree_at}
@@ -74,3 +74,21 @@ ReplaceRuns t (x ∷ xs) = ReplacesRun t x × ReplaceRuns t xs
 pub record PatchesRuns (t : Tree) (xs : List Site) : Type 0 where
   pub lists : InLists t (patch_of xs)
   pub places : places t (patch_of xs) ≡ site_ranges t xs
+
+-- ---- what holds of each run
+
+abbrev mutual
+  -- of the old token that it begins at, and the statements in its place
+  pub EachRun : (ℕ → Trees → Type 0) → Tree → Patch → Type 0
+  EachRun P t keep = Unit {0}
+  EachRun P t (put s) = Unit {0}
+  EachRun P (node k i j ps) (inside qs) = EachIn P ps qs
+
+  pub EachIn : (ℕ → Trees → Type 0) → Trees → Patches → Type 0
+  EachIn P ps done = Unit {0}
+  EachIn P none (part q qs) = Unit {0}
+  EachIn P (more p ps) (part q qs) = EachRun P p q × EachIn P ps qs
+  EachIn P (skip ps) (part q qs) = EachIn P ps qs
+  EachIn P none (run n new qs) = Unit {0}
+  EachIn P (more p ps) (run n new qs) = P (first p) new × EachIn P (items_behind n ps) qs
+  EachIn P (skip ps) (run n new qs) = Unit {0}

@@ -1,23 +1,29 @@
 -- A derived function in which other statements stand in the place of runs, by its tokens and its tree.
-use Rattle.std.specs.Prelude.{◌≡◌, ℕ, ◌<◌, ◌⊎◌, true, List, [], ◌∷◌, length, Some, slice_get}
+use Rattle.std.specs.Prelude.{◌≡◌, ℕ, ◌<◌, ◌≤◌, ◌⊎◌, Bool, true, false, List, [], ◌∷◌, length, Some, None, slice_get}
 use Rattle.go_tokens.specs.declared.token.TokenKind.{TokenKind}
 use Rattle.go_grammar.specs.declared.kind.Category.TheVariants as category
 use Rattle.go_grammar.specs.Grammar.{Derives}
+use Rattle.go_grammar.specs.Trees.{Trees}
 use Rattle.go_rewriting.specs.Places.{Change, Patch, become, places}
 use Rattle.go_rewriting.specs.Sites.{AreSites, Site, patch_of, with_sites}
 use Rattle.go_tree.specs.declared.context.Entity.TheVariants as entity
 use Rattle.go_tree.specs.declared.context.Manner.TheVariants as manner
+use Rattle.go_tree.specs.declared.context.Context.{Context}
+use Rattle.go_tree.specs.declared.context.Role.TheVariants as role
+use Rattle.go_tree.specs.declared.event.Event.{Event}
 use Rattle.go_tree.specs.declared.event.Declaration.{Declaration}
 use Rattle.go_tree.specs.declared.event.Event.TheVariants as event
-use Rattle.go_tree.specs.Contexts.{file_context}
+use Rattle.go_tree.specs.Contexts.{is_package, file_context}
 use Rattle.go_tree.specs.Declarations.{is_reused_of, is_new}
 use Rattle.go_heads.specs.Bodies.{function_events}
 use Rattle.go_heads.specs.Functions.{Alone}
 use Rattle.go_heads.specs.Names.{own_names}
+use Rattle.go_scopes_bodies.specs.Carried.{carried_context}
+use Rattle.go_scopes_bodies.specs.Listed.{told_list}
 use Rattle.go_scopes_bodies.specs.Meant.{Meant, Outer}
 use Rattle.extract_names.specs.Gaps.{Redeclared, Gap, moved_by, ranges, Among, IsInRun, Stays}
 use Rattle.extract_names.specs.Pieces.{Piece, stays, gap, pieces}
-use Rattle.extract_names.specs.Sites.{declared_at, found_as, GapTells, NamedThere, Says, DeclaredStill, UsedThere}
+use Rattle.extract_names.specs.Sites.{declared_at, found_as, EachEvent, specification_at, EventGoes, GapTells, NamedThere, Says, DeclaredStill, UsedThere}
 use Rattle.extract_names_derived.specs.Functions.{IsDerivedFunction}
 use Rattle.extract_names_derived.specs.Patches.{InLists, ReplaceRuns}
 use Rattle.extract_names_derived.specs.Texts.{with_gaps}
@@ -78,3 +84,26 @@ pub record IsChangedFunction (ts : List TokenKind) (a : Alone) (gaps : List Gap)
 pub record RewritesBySites (ts us : List TokenKind) (a : Alone) (gaps : List Gap) (ss : List Site) (new : Alone) : Type 0 where
   pub rewritten : IsRewritten ts us a gaps new
   pub patch : rewritten.patch ≡ patch_of ss
+
+-- ---- what gaps tell, one by one
+
+-- A run stands in the list of a block of a function, and so do the statements in its place.
+pub record RunStands (v : ℕ → ℕ) (g : Gap) (old news : List Event) : Type 0 where
+  pub context : Context
+  pub followed : Bool
+  pub new : Trees
+  pub told : news ≡ told_list (carried_context v context) followed new
+  pub local : is_package context.block ≡ false
+  pub within : g.upto ≤ context.end
+  pub role : context.role ≡ role.Operand
+  pub site : specification_at context.site ≡ None
+  pub specification : context.specification ≡ None
+  pub source : context.source ≡ None
+  pub group : context.group ≡ None
+  pub parameters : context.parameters ≡ None
+  pub initial : context.initial ≡ false
+  pub each : EachEvent (EventGoes g context.block context.end) old
+
+-- Wherever a run stands that begins at this token, these statements tell in its place what those of its gap have to.
+abbrev pub TellsInPlace : Alone → Alone → List Gap → ℕ → Trees → Type 0
+TellsInPlace a new gaps from ps = (g : Gap) → Among g gaps → g.from ≡ from → (old news : List Event) → (x : RunStands (moved_by gaps) g old news) → x.new ≡ ps → GapTells a new (moved_by gaps) g old news

@@ -1,28 +1,36 @@
 //! Laws, for the crates above. The functions do nothing: their contracts are the laws.
 
-ghost use Rattle.std.specs.Prelude.{◌≡◌, ℕ, List, [], ◌∷◌, Some, slice_get};
+ghost use Rattle.std.specs.Prelude.{◌≡◌, ℕ, ◌+◌, ◌≤◌, List, [], ◌∷◌, length, Some, slice_get};
 ghost use Rattle.go_tokens.specs.declared.token.TokenKind.{TokenKind};
 ghost use Rattle.go_grammar.specs.declared.kind.Category.TheVariants as category;
 ghost use Rattle.go_grammar.specs.declared.kind.Kind.TheVariants as kind;
 ghost use Rattle.go_grammar.specs.Grammar.{Derives};
-ghost use Rattle.go_grammar.specs.Trees.{Tree, kind_of};
+ghost use Rattle.go_grammar.specs.Rules.{Items, item};
+ghost use Rattle.go_grammar.specs.Trees.{Tree, Trees, kind_of, more, node, none, onto};
 ghost use Rattle.go_rewriting.specs.Places.{Ascending, Change, Patch, changed, places, range};
+ghost use Rattle.go_rewriting.specs.Replacing.{Run};
 ghost use Rattle.go_rewriting.specs.Sites.{Site, site_ranges};
+ghost use Rattle.go_tree.specs.Contexts.{file_context};
+ghost use Rattle.go_tree.specs.declared.event.Event.{Event};
 ghost use Rattle.go_heads.specs.Functions.{Alone, AreRead, Function, all_functions, function_alone};
 ghost use Rattle.go_heads.specs.Heads.{File};
 ghost use Rattle.go_heads.specs.Locals.{AreNamed};
 ghost use Rattle.go_scopes_bodies.specs.Meant.{Outer};
 ghost use Rattle.extract_names.specs.Copies.{Copy, IsCopy};
-ghost use Rattle.extract_names.specs.Gaps.{Gap};
-ghost use Rattle.extract_names.specs.Sites.{IsSite};
+ghost use Rattle.extract_names.specs.Gaps.{Gap, moved_by};
+ghost use Rattle.extract_names.specs.Pieces.{pieces};
+ghost use Rattle.extract_names.specs.Sites.{GapTells, IsSite};
+ghost use Rattle.extract_names_derived.specs.Bodies.{BodySplits};
 ghost use Rattle.extract_names_derived.specs.Copies.{SplitsAt, IsTaken, PlacesRun, RunPlaced};
+ghost use Rattle.extract_names_derived.specs.Examples.{Examples};
 ghost use Rattle.extract_names_derived.specs.Functions.{IsDerivedFunction, own_kinds};
-ghost use Rattle.extract_names_derived.specs.Patches.{InLists, ReplaceRuns, PatchesRuns};
-ghost use Rattle.extract_names_derived.specs.Sites.{IsRewritten, IsChosen, IsChangedFunction, RewritesBySites};
+ghost use Rattle.extract_names_derived.specs.News.{AreNewStatements, IsAskedFor, StatementsAsked};
+ghost use Rattle.extract_names_derived.specs.Patches.{EachRun, InLists, ReplaceRuns, PatchesRuns};
+ghost use Rattle.extract_names_derived.specs.Sites.{AllTell, IsRewritten, IsChosen, IsChangedFunction, RewritesBySites, RunStands, TellsInPlace};
 
 use extract_names::laws::replaced_runs_tell;
 use go_rewriting::laws::{changed_sites, text_stands_elsewhere};
-use go_scopes_bodies::laws::lists_tell_each_statement;
+use go_scopes_bodies::laws::{lists_tell_each_statement, lists_tell_one_behind_the_other};
 
 /// Each function of a package whose files are read is derived by itself, wherever it stands in its file (Go specification: Function
 /// declarations).
@@ -47,12 +55,39 @@ pub fn changed_functions_are_rewritten()
     changed_sites();
 }
 
+/// A run of statements is one statement at least, each derived by itself between the run's ends (Go specification: Statement lists).
+pub fn runs_are_statements()
+    ensures { (us : List TokenKind) (l : Items) (new : Trees) (i j : ℕ) → item l ≡ category.Statement → Run us l new i j → AreNewStatements us i j new }
+{}
+
+/// Gaps tell what they have to where the statements of each one do in its place. This is asked in the list of any block of a function in which
+/// what the run declares is in scope up to the end of the run or of the block (Go specification: Blocks, Statement lists).
+pub fn gaps_tell_one_by_one()
+    ensures { (ts us : List TokenKind) (a : Alone) (gaps : List Gap) (new : Alone) → (h : IsRewritten ts us a gaps new) → EachRun (TellsInPlace a new gaps) a.tree h.patch → AllTell a new gaps gaps (pieces (moved_by gaps) (file_context 0) a.tree h.patch) }
+{
+    lists_tell_each_statement();
+}
+
+/// Derived statements that have the tokens of a gap tell what the gap has to, where each name that they look up has to mean something, and
+/// what they declare is a variable of the run again (Go specification: Blocks, Declarations and scope).
+pub fn statements_tell_their_gap()
+    ensures { (us : List TokenKind) (v : ℕ → ℕ) (g : Gap) (old news : List Event) (x : RunStands v g old news) (a new : Alone) → v g.from + length g.texts ≤ v x.context.end → StatementsAsked us a new v g old news x → GapTells a new v g old news }
+{}
+
 /// A derived function with statements in the place of runs is a site: what stays and what is replaced stand apart, blocks and scopes begin
 /// and end in no run, names stand in the order of their tokens, and the function declares itself and its locals. What is left to ask is
 /// what depends on the choice of the statements: what they tell and name, and what they declare (Go specification: Blocks, Declarations and
 /// scope, Function declarations).
 pub fn sites_are_derived()
     ensures { (ts us : List TokenKind) (a new : Alone) (outer : Outer) (gaps : List Gap) → (h : IsRewritten ts us a gaps new) → IsChosen a outer gaps new h.patch → IsSite a outer gaps new }
+{
+    lists_tell_each_statement();
+}
+
+/// So a derived function with derived statements in the place of runs is a site, where what is asked of these statements holds, and of what
+/// they name and declare (Go specification: Blocks, Declarations and scope).
+pub fn statements_make_sites()
+    ensures { (ts us : List TokenKind) (a : Alone) (outer : Outer) (gaps : List Gap) (new : Alone) → (h : IsRewritten ts us a gaps new) → IsAskedFor us a outer gaps new h.patch → IsSite a outer gaps new }
 {
     lists_tell_each_statement();
 }
@@ -69,7 +104,8 @@ pub fn runs_split_functions()
 
 /// A derived function that begins with a copy of a run of a derived one is such a copy: what the old one tells falls in three parts, names
 /// stand in the order of their tokens, the run's tokens keep their order and their texts, and both functions declare themselves and their
-/// locals. What is left to ask is what the new function tells in the run and around it, and what depends on the choice (Go specification: Blocks, Declarations and scope).
+/// locals. What is left to ask is what the new function tells in the run and around it, and what depends on the choice (Go specification:
+/// Blocks, Declarations and scope).
 pub fn copies_are_derived()
     ensures { (ts us : List TokenKind) (a : Alone) (outer : Outer) (c : Copy) (new : Alone) → IsDerivedFunction ts a → IsDerivedFunction us new → (s : SplitsAt a c) → IsTaken a outer c new s → IsCopy a outer c new }
 {
@@ -80,4 +116,18 @@ pub fn copies_are_derived()
 /// and their texts, and in the place of a hole stands the text of its parameter.
 pub fn copied_runs_are_placed()
     ensures { (a new : Alone) (c : Copy) → PlacesRun a new c → RunPlaced a new c }
+{}
+
+/// A derived function whose body has statements and others behind them tells what stands in front of the body, what the first statements
+/// tell, and what the others tell (Go specification: Function declarations, Statement lists).
+pub fn bodies_split_functions()
+    ensures { (ts : List TokenKind) (a : Alone) (i j k e : ℕ) (s : Tree) (xs ys : Trees) → a.tree ≡ node kind.FunctionDeclaration i j (more s (more (node kind.Block k e (onto xs ys)) none)) → IsDerivedFunction ts a → BodySplits a k e xs ys }
+{
+    lists_tell_each_statement();
+    lists_tell_one_behind_the_other();
+}
+
+/// A run that is replaced by a declaration and a call, and the copy of the run, worked out by hand.
+pub fn examples()
+    ensures { Examples }
 {}
