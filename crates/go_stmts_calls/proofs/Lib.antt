@@ -5,3 +5,4 @@ mod Called
 mod Assigned
 mod Declared
 mod Worked
+mod Taking

@@ -1,10 +1,14 @@
 //! The law of calls that stand in place of statements, for the crates above. This function does nothing: its contract is what holds.
 
 ghost use Rattle.go_stmts_calls.specs.Calls.{CallsAreTyped};
+ghost use Rattle.go_stmts_calls.specs.Places.{CallsTakeThePlace};
 ghost use Rattle.go_stmts_calls.specs.Worked.{WorkedCall};
 
 use go_print_laws::laws::{literals_read_back, types_read_back};
-use go_stmts_elsewhere::laws::lists_are_read_alone;
+use go_stmts_elsewhere::laws::{
+    declared_locals_stand, frames_stay_related_behind_statements, lists_are_read_alone,
+    statements_leave_the_rest,
+};
 use go_types_relations::laws::functions_are_the_relations;
 
 /// A call of a function of the package, with the variables that are declared in front of it and with the variables that its results are
@@ -17,6 +21,17 @@ pub fn calls_are_typed()
     lists_are_read_alone();
     literals_read_back();
     types_read_back();
+}
+
+/// A call takes the place of statements that declare no types, and of whose locals just those are needed behind them that it declares: where
+/// it is read in front of them, no rule fails in it, and behind both what counts stands for the same.
+pub fn calls_take_the_place()
+    ensures { CallsTakeThePlace }
+{
+    calls_are_typed();
+    declared_locals_stand();
+    frames_stay_related_behind_statements();
+    statements_leave_the_rest();
 }
 
 /// A worked call: the one that takes the place of the first worked class, with the variable that is declared in front of it.

@@ -23,6 +23,7 @@ use Rattle.go_stmts_defs.specs.Rules.{own_faults, built_by}
 use Rattle.go_stmts_elsewhere.specs.Declaring.{declares, declares_types, Without, RowWithout, AllWithout, AllDeclareInOrder, LeaveTheRest}
 use Rattle.go_stmts_elsewhere.specs.Frames.{has_room}
 use Rattle.go_stmts_elsewhere.specs.Gaps.{run, behind, parts_in, frame_in}
+use Rattle.go_stmts_elsewhere.proofs.Around.{behind_kept}
 use Rattle.go_stmts_elsewhere.proofs.Leaving.{behind_stays}
 use Rattle.go_stmts_elsewhere.proofs.Placing.{different, placed_other, placed_room}
 
@@ -155,4 +156,5 @@ rest_left f ts v =
       types = types_stay f ts v;
       tag = o.1;
       results = o.2;
+      says = behind_kept f.around f (record { texts = λ i. refl; characters = λ i. refl; objects = λ i. refl; sorts = λ n o. refl; referents = λ n. refl; needed = refl; limits = refl }) ts;
     }

@@ -33,3 +33,5 @@ mod Silent
 mod Leaving
 mod Behind
 mod Standing
+mod Following
+pub mod Public

@@ -11,10 +11,13 @@ use Rattle.go_typed.specs.Trees.{typed, Typeds, list_of, parts_of, form_of, sort
 use Rattle.go_typed.specs.Trees as sort
 use Rattle.go_exprs_rules.specs.Settling.{Part}
 use Rattle.go_exprs_rules.specs.Tables.{Parts, is_placed}
-use Rattle.go_stmts_defs.specs.Frames.{Frame, local_stands}
+use Rattle.go_stmts_defs.specs.Frames.{Frame, Locals, local_stands}
 use Rattle.go_stmts_defs.specs.Reading.{is_new, is_statement}
+use Rattle.go_exprs_elsewhere.specs.Elsewhere.{Moves}
 use Rattle.go_stmts_elsewhere.specs.Frames.{has_room}
 use Rattle.go_stmts_elsewhere.specs.Gaps.{run, parts_in, behind}
+use Rattle.go_stmts_elsewhere.specs.Marked.{AlongAt}
+use Rattle.go_stmts_elsewhere.specs.Replaced.{SaysAs, unsourced}
 
 -- ---- what typed trees declare
 
@@ -141,8 +144,24 @@ pub record LeaveTheRest (f : Frame) (ts : Trees) : Type 0 where
   pub types : (behind f ts).types ≡ f.types
   pub tag : (behind f ts).tag ≡ f.tag
   pub results : (behind f ts).results ≡ f.results
+  pub says : SaysAs f.around (behind f ts)
 
 -- A local that one of these statements declares itself as a variable of a type, and none behind it declares, is one of this type behind them all.
 abbrev pub DeclaredLocalsStand : Type 0
 DeclaredLocalsStand = (f : Frame) (ts : Trees) → AllDeclareInOrder ts → (n : ℕ) (t : TypeTree) → has_room f.locals n ≡ true → Lastly (declares n) (DeclaresVariable n t) (parts_in (run f ts))
     → local_stands (behind f ts).locals n ≡ sort.Value t
+
+-- Frames are related whatever constants repeat. The statements declare no types in the first one; then it is related behind them to the second
+-- one with other locals, of which those that count stand for the same.
+abbrev pub RelatedBehind : Type 0
+RelatedBehind = (p q : ℕ → Bool) (m : Moves) (l : ℕ → Bool) (f g : Frame) (ts : Trees) (ls : Locals) → AllDeclareInOrder ts → AllWithout declares_types (parts_in (run f ts))
+    → AlongAt p q m l (unsourced f) (unsourced g)
+    → ((n : ℕ) → l n ≡ true → has_room ls (m.local n) ≡ has_room (behind f ts).locals n)
+    → ((n : ℕ) → l n ≡ true → local_stands ls (m.local n) ≡ local_stands (behind f ts).locals n)
+    → AlongAt p q m l (unsourced (behind f ts)) (unsourced (record g { locals = ls }))
+
+-- locals that count, in frames that are related
+pub record LocalsAlong (m : Moves) (l : ℕ → Bool) (f g : Frame) : Type 0 where
+  pub apart : (n k : ℕ) → l n ≡ true → l k ≡ true → m.local n ≡ m.local k → n ≡ k
+  pub room : (n : ℕ) → l n ≡ true → has_room g.locals (m.local n) ≡ has_room f.locals n
+  pub locals : (n : ℕ) → l n ≡ true → local_stands g.locals (m.local n) ≡ local_stands f.locals n

@@ -13,14 +13,14 @@ ghost use Rattle.go_stmts_defs.specs.Bodies.{start};
 ghost use Rattle.go_stmts_defs.specs.Frames.{Frame};
 ghost use Rattle.go_stmts_defs.specs.Reading.{reading};
 ghost use Rattle.go_stmts_elsewhere.specs.Above.{NodesAbove};
-ghost use Rattle.go_stmts_elsewhere.specs.Declaring.{AllDeclareInOrder, DeclaredLocalsStand, LeaveTheRest};
+ghost use Rattle.go_stmts_elsewhere.specs.Declaring.{AllDeclareInOrder, DeclaredLocalsStand, LeaveTheRest, LocalsAlong, RelatedBehind};
 ghost use Rattle.go_stmts_elsewhere.specs.Ends.{FunctionsEnd, ListsEnd, NodesEnd, ReturnsEnd};
 ghost use Rattle.go_stmts_elsewhere.specs.Frames.{AlongFrames, AlongReadings, KeepsPlaces};
 ghost use Rattle.go_stmts_elsewhere.specs.Functions.{AlongFunctions, LocalsStand, Numbered, NumberedFunctions, only_objects, stays};
 ghost use Rattle.go_stmts_elsewhere.specs.Gaps.{GapRead, ListsAreReadAlone, behind};
 ghost use Rattle.go_stmts_elsewhere.specs.Marked.{AlongAt, AlongReadingsAt, AllKeepAt, KeepAt, RelatedAt, SameReadingsAt};
 ghost use Rattle.go_stmts_elsewhere.specs.Reached.{AgreeFrames, ReadAlike, Reaches};
-ghost use Rattle.go_stmts_elsewhere.specs.Replaced.{Changed, ChangedFunctions, ChangedReadings, EachTakesItsPlace, Gap, OldsRead, Related, StaysTerminating, function_tree, inside_function};
+ghost use Rattle.go_stmts_elsewhere.specs.Replaced.{Changed, ChangedFunctions, ChangedReadings, EachTakesItsPlace, Gap, OldsRead, Related, StaysTerminating, function_tree, inside_function, unsourced};
 ghost use Rattle.go_stmts_elsewhere.specs.Worked.{WorkedGaps};
 
 use go_package_alike::laws::{
@@ -160,4 +160,11 @@ pub fn statements_leave_the_rest()
 /// them all, where it has a place among the locals.
 pub fn declared_locals_stand()
     ensures { DeclaredLocalsStand }
+{}
+
+/// Frames that are related, whatever constants repeat, are related behind statements that declare no types in the first one, where the locals
+/// that count stand for the same again; and those that count stand for the same in them.
+pub fn frames_stay_related_behind_statements()
+    ensures behind { RelatedBehind }
+    ensures locals { (p q : ℕ → Bool) (m : Moves) (l : ℕ → Bool) (f g : Frame) → AlongAt p q m l (unsourced f) (unsourced g) → LocalsAlong m l f g }
 {}
