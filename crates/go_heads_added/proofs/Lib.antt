@@ -21,4 +21,3 @@ mod Asks
 mod Faultless
 mod Rounds
 mod Circles
-mod Tells
