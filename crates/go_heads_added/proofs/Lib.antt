@@ -21,3 +21,4 @@ mod Asks
 mod Faultless
 mod Rounds
 mod Circles
+mod Tells

@@ -20,7 +20,7 @@ ghost use Rattle.go_heads_added.specs.Added.{IsAdded, LiesIn, NoneSays, KeepsAll
 ghost use Rattle.go_heads_added.specs.Appended.{AreAdded, HasNames, IsFront, IsParameterOf, IsParsed, TellsMore, context_behind, empty_function, unit_of};
 ghost use Rattle.go_heads_added.specs.Examples.{Examples};
 ghost use Rattle.go_heads_added.specs.Faults.{FunctionIsFine, FileIsWithin};
-ghost use Rattle.go_heads_added.specs.Within.{EventWithin};
+ghost use Rattle.go_heads_added.specs.Within.{EventWithin, IsOfFunction};
 
 use go_scopes_cycles::laws::declarations_bound_rounds;
 use go_scopes_events::laws::locals_stand_in_functions;
@@ -54,6 +54,13 @@ pub fn longer_files_tell_more()
 pub fn empty_functions_declare_parameters()
     ensures { (ts : List TokenKind) (end i j a b : ℕ) (s : Tree) (ps : Trees) → let d = empty_function i j s a b in Derives ts category.Declaration d
         → (es : List Event) × (events (context_behind end ps d) d ≡ function_declared i j ∷ es) × EachDeclared (IsParameterOf (last s)) es }
+{}
+
+/// What a function with an empty body tells, it tells of itself: names that it declares, names of its signature, and members of groups of it,
+/// all of whose specifications and groups begin where it does or behind that.
+pub fn empty_functions_tell_of_themselves()
+    ensures { (ts : List TokenKind) (n end i j a b : ℕ) (s : Tree) (ps : Trees) → let d = empty_function i j s a b in Derives ts category.Declaration d → n ≤ i
+        → AllByRecursion (IsOfFunction n) (events (context_behind end ps d) d) }
 {}
 
 /// Where a function with an empty body stands behind all declarations of a file, and the tokens in front of it say what they said, the file
