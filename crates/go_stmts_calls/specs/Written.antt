@@ -6,7 +6,7 @@ use Rattle.go_grammar.specs.declared.kind.Sign.TheVariants as sign
 use Rattle.go_grammar.specs.Trees.{last}
 use Rattle.go_tree.specs.declared.object.Object.{Object}
 use Rattle.go_tree.specs.declared.object.Object.TheVariants as object
-use Rattle.go_types.specs.Trees.{TypeTree, TypeRow, none, more, function}
+use Rattle.go_types.specs.Trees.{TypeTree, TypeRow, more, function}
 use Rattle.go_typed.specs.declared.form.Form.TheVariants as form
 use Rattle.go_typed.specs.Trees.{typed}
 use Rattle.go_typed.specs.Trees as sort
