@@ -42,14 +42,14 @@ parts_in_tree (node k i j ps) = ps
 
 -- ---- a printed type is no node that only holds parts
 
-object_unheld : (s : Scope) (o : Option Object) → is_held (object_form s o) ≡ false
+pub object_unheld : (s : Scope) (o : Option Object) → is_held (object_form s o) ≡ false
 object_unheld s None = refl
 object_unheld s (Some object.Import) = refl
 object_unheld s (Some (object.Predeclared p)) = refl
 object_unheld s (Some (object.Package n)) = refl
 object_unheld s (Some (object.Local f n)) = refl
 
-either_unheld : (x : Stands) (f : Form) → is_held f ≡ false → is_held (form_or_type x f) ≡ false
+pub either_unheld : (x : Stands) (f : Form) → is_held f ≡ false → is_held (form_or_type x f) ≡ false
 either_unheld (sort.IsType t) f e = refl
 either_unheld x f e = e
 

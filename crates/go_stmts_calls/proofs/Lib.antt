@@ -6,3 +6,5 @@ mod Assigned
 mod Declared
 mod Worked
 mod Taking
+mod Quiet
+mod Written

@@ -1,8 +1,10 @@
 -- A call takes the place of statements.
-use Rattle.std.proofs.Common.{◌≡◌, ◌∙◌, ℕ, Bool, true, false, List, [], ◌∷◌, map, Option, Some, None, refl, sym, ap, subst, is_some, slice_get, nat_eq}
+use Rattle.std.proofs.Common.{◌≡◌, ◌∙◌, ℕ, suc, Bool, true, false, List, [], ◌∷◌, map, Option, Some, None, refl, sym, ap, subst, is_some, slice_get, nat_eq}
 use Rattle.std.specs.Prelude.{◌||◌}
 use Rattle.std.proofs.lemmas.Bool.{eqb-true, eq-eqb}
-use Rattle.go_grammar.specs.Trees.{Trees}
+use Rattle.go_grammar.specs.Trees.{Trees, last}
+use Rattle.go_print_laws.specs.Calls.{Argument}
+use Rattle.go_print_laws.specs.Trees.{type_tree}
 use Rattle.go_types.specs.Trees.{TypeTree, TypeRow, none, more}
 use Rattle.go_typed.specs.Trees as sort
 use Rattle.go_exprs_rules.specs.Scopes.{Scope}
@@ -14,10 +16,11 @@ use Rattle.go_stmts_elsewhere.specs.Declaring.{declares, declares_types, AllWith
 use Rattle.go_stmts_elsewhere.specs.Frames.{has_room}
 use Rattle.go_stmts_elsewhere.specs.Gaps.{behind}
 use Rattle.go_stmts_elsewhere.specs.Marked.{AlongAt}
-use Rattle.go_stmts_elsewhere.specs.Replaced.{TakesThePlace, unsourced}
+use Rattle.go_stmts_elsewhere.specs.Replaced.{AreStatementParts, IsStatementPart, TakesThePlace, unsourced}
 use Rattle.go_stmts_elsewhere.proofs.Public.{placed_here, placed_other, placed_room}
 use Rattle.go_stmts_calls.specs.Calls.{with_variables, CallsAreTyped}
-use Rattle.go_stmts_calls.specs.Places.{PlacedCall, call_trees, is_among, AreResults, CallFits}
+use Rattle.go_stmts_calls.specs.Places.{PlacedCall, call_trees, is_among, AreResults, written_call, CallFits}
+use Rattle.go_stmts_calls.specs.Written.{statement_in, written_parts, CallsAreReadAlike}
 
 different : (n k : ℕ) → nat_eq n k ≡ false → n ≡ k → ⊥
 different n k h e = let d = eq-eqb n k e in cc
@@ -69,21 +72,34 @@ module _ (m : Moves) (l : ℕ → Bool) (xs : Parts) (F : Frame) (apart : (n k :
   variables_along [] (more t ts) w g r h k e = absurd w
   variables_along (a ∷ ks) none w g r h k e = absurd w
 
+-- ---- statements that a call is read to be
+
+statement_stands : (t : Scope) (i : ℕ) (xs : List (List ℕ)) (number : ℕ) (gs : List Argument) (ps rs : TypeRow) → IsStatementPart (Some (statement_in t i xs number gs ps rs))
+statement_stands t i [] number gs ps rs = (refl, refl)
+statement_stands t i (x ∷ xs) number gs ps none = (refl, refl)
+statement_stands t i (x ∷ xs) number gs ps (more r rs) = (refl, refl)
+
+written_stand : (t : Scope) (i : ℕ) (ys : List (List ℕ)) (us : TypeRow) (ns : List ℕ) (xs : List (List ℕ)) (number : ℕ) (gs : List Argument) (ps rs : TypeRow) → AreStatementParts (written_parts t i ys us ns xs number gs ps rs)
+written_stand t i (y ∷ ys) (more u us) (n ∷ ns) xs number gs ps rs = ((refl, refl), written_stand t (suc (last (type_tree (suc (suc i)) u))) ys us ns xs number gs ps rs)
+written_stand t i [] us ns xs number gs ps rs = (statement_stands t i xs number gs ps rs, tt)
+written_stand t i (y ∷ ys) none ns xs number gs ps rs = (statement_stands t i xs number gs ps rs, tt)
+written_stand t i (y ∷ ys) (more u us) [] xs number gs ps rs = (statement_stands t i xs number gs ps rs, tt)
+
 -- ---- the law
 
 module _ (leaves : (f : Frame) (ts : Trees) → AllDeclareInOrder ts → LeaveTheRest f ts) (declared : DeclaredLocalsStand) (follows : RelatedBehind)
-    (locals : (p q : ℕ → Bool) (m : Moves) (l : ℕ → Bool) (f g : Frame) → AlongAt p q m l (unsourced f) (unsourced g) → LocalsAlong m l f g) (typed : CallsAreTyped) where
-  pub call_takes : (p q : ℕ → Bool) (m : Moves) (l : ℕ → Bool) (s t : Scope) (old : Trees) (olds : Parts) (c : PlacedCall) (results : List ℕ) (news : Parts) → CallFits p q m l s t old olds c results news
-      → TakesThePlace p q m l s t (record { old = old; new = call_trees c; olds = olds; news = news })
-  call_takes p q m l s t old olds c results news w = record {
+    (locals : (p q : ℕ → Bool) (m : Moves) (l : ℕ → Bool) (f g : Frame) → AlongAt p q m l (unsourced f) (unsourced g) → LocalsAlong m l f g) (typed : CallsAreTyped) (alike : CallsAreReadAlike) where
+  pub call_takes : (p q : ℕ → Bool) (m : Moves) (l : ℕ → Bool) (s t : Scope) (old : Trees) (olds : Parts) (c : PlacedCall) (results : List ℕ) → CallFits p q m l s t old olds c results
+      → TakesThePlace p q m l s t (record { old = old; new = call_trees c; olds = olds; news = written_call t c (map m.local results) })
+  call_takes p q m l s t old olds c results w = record {
     reads = λ f g r e free.
         let v = w.reads f g r e free in
         let ns = map m.local results in
-        let a = typed g c.first c.declared c.types ns c.targets c.function c.arguments c.parameters c.results v.0 in
+        let a = typed g c.first c.declared c.types ns c.targets c.function c.arguments c.parameters c.results v in
         let b = leaves f old w.in_order in
         let k = locals p q m l f g r.0 in
         let room = λ (n : ℕ) (d : l n ≡ true). k.room n d ∙ sym (b.room n) in (
-          a.parts ∙ v.1,
+          a.parts ∙ alike t g r.2 c.first c.declared c.types ns c.targets c.function c.arguments c.parameters c.results v,
           a.found,
           subst (λ (u : Frame). AlongAt p q m l (unsourced (behind f old)) (unsourced u)) (sym (a.frame ∙ variables_alone ns c.types g))
               (follows p q m l f g old (with_variables ns c.types g).locals w.in_order (subst (AllWithout declares_types) (sym e) w.no_types) r.0 (λ n d. variables_room ns c.types g (m.local n) ∙ room n d)
@@ -92,5 +108,5 @@ module _ (leaves : (f : Frame) (ts : Trees) → AllDeclareInOrder ts → LeaveTh
               (λ n d x. k.locals n d ∙ sym (b.locals n (subst (AllWithout (declares n)) (sym e) (w.others_stay n d x)))))),
         );
     olds_stand = w.statements;
-    news_stand = w.new_statements;
+    news_stand = written_stand t c.first c.declared c.types (map m.local results) c.targets c.function c.arguments c.parameters c.results;
   }

@@ -3,6 +3,7 @@
 ghost use Rattle.go_stmts_calls.specs.Calls.{CallsAreTyped};
 ghost use Rattle.go_stmts_calls.specs.Places.{CallsTakeThePlace};
 ghost use Rattle.go_stmts_calls.specs.Worked.{WorkedCall};
+ghost use Rattle.go_stmts_calls.specs.Written.{CallsAreReadAlike};
 
 use go_print_laws::laws::{literals_read_back, types_read_back};
 use go_stmts_elsewhere::laws::{
@@ -23,11 +24,21 @@ pub fn calls_are_typed()
     types_read_back();
 }
 
+/// A call is read to be the same wherever its tokens mean the same, whatever right sides there are and whatever locals stand for: its typed trees
+/// are written down from its names, its constants and its types alone.
+pub fn calls_are_read_alike()
+    ensures { CallsAreReadAlike }
+{
+    literals_read_back();
+    types_read_back();
+}
+
 /// A call takes the place of statements that declare no types, and of whose locals just those are needed behind them that it declares: where
 /// it is read in front of them, no rule fails in it, and behind both what counts stands for the same.
 pub fn calls_take_the_place()
     ensures { CallsTakeThePlace }
 {
+    calls_are_read_alike();
     calls_are_typed();
     declared_locals_stand();
     frames_stay_related_behind_statements();
