@@ -21,4 +21,5 @@ mod Asks
 mod Faultless
 mod Rounds
 mod Circles
+mod Bare
 mod Tells

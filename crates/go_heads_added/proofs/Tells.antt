@@ -6,12 +6,9 @@ use Rattle.go_tokens.specs.declared.token.TokenKind.{TokenKind}
 use Rattle.go_grammar.specs.declared.kind.Kind.{Kind}
 use Rattle.go_grammar.specs.declared.kind.Kind.TheVariants as kind
 use Rattle.go_grammar.specs.declared.kind.Sort.TheVariants as sort
-use Rattle.go_grammar.specs.declared.kind.Category.{Category}
 use Rattle.go_grammar.specs.declared.kind.Category.TheVariants as category
-use Rattle.go_grammar.specs.Categories.{place_of}
-use Rattle.go_grammar.specs.Rules.{Items, Rule, End, Then, Maybe, Unless, Many, item}
 use Rattle.go_grammar.specs.Trees.{Tree, node, Trees, none, more, skip, kind_of, first, last, parts}
-use Rattle.go_grammar.specs.Grammar.{rule, Derives, Spells, Goes, ends_named, is_name, count}
+use Rattle.go_grammar.specs.Grammar.{Derives, ends_named, is_name, count}
 use Rattle.go_tree.specs.Views.{part_at}
 use Rattle.go_tree.specs.declared.context.Role.{Role}
 use Rattle.go_tree.specs.declared.context.Role.TheVariants as role
@@ -23,47 +20,12 @@ use Rattle.go_tree.specs.declared.context.Context.{Context}
 use Rattle.go_tree.specs.declared.event.Event.{Event}
 use Rattle.go_tree.specs.Contexts.{is_there, is_called, called_in, if_name, if_first, field_role, key_role, parameter_role, entry_role, role_in, group_in, specification_in, value_site, element_site, length_site, column_site, typed_site, sequence_site, site_in, listed_in, enter}
 use Rattle.go_tree.specs.Events.{statement_events, own_events, name_events, is_more, pass, begin, events, events_of}
-use Rattle.go_scopes_events.proofs.Public.{IsLaidOut, LieIn, behind_name, derives_laid, laid_grows, all_plain, and_both, has_plain, is_plain, rule_plain, within_plain}
+use Rattle.go_scopes_events.proofs.Public.{IsLaidOut, LieIn, behind_name, derives_laid, laid_grows}
 use Rattle.go_heads_added.specs.Appended.{context_behind, empty_function}
 use Rattle.go_heads_added.specs.Within.{SiteBehind, SourceBehind, IsOfFunction}
+use Rattle.go_heads_added.proofs.Bare.{IsBare, AreBare, derives_bare, is_bare}
 use Rattle.go_heads_added.proofs.Parameters.{signature_context, function_tells}
 use Rattle.go_heads_added.proofs.Texts.{all_both}
-
--- ---- trees of expressions and types
-
-abbrev mutual
-  IsBare : Tree → Type 0
-  IsBare (node k i j ps) = (is_plain k ≡ true) × AreBare ps
-
-  AreBare : Trees → Type 0
-  AreBare none = Prim.Unit {0}
-  AreBare (more p ps) = IsBare p × AreBare ps
-  AreBare (skip ps) = AreBare ps
-
-module _ (ts : List TokenKind) where
-  mutual
-    derives_bare : (t : Tree) (c : Category) → has_plain c ≡ true → Derives ts c t → IsBare t
-    derives_bare (node k i j ps) c e h =
-        let plain : is_plain k ≡ true = within_plain c k e h.0 in
-        (plain, spells_bare ps (rule (place_of c) k) i j (rule_plain (place_of c) k plain) h.1)
-
-    spells_bare : (ps : Trees) (r : Rule) (i j : ℕ) → all_plain r ≡ true → Spells ts r i ps j → AreBare ps
-    spells_bare none r i j e h = tt
-    spells_bare (more p ps) (End ws) i j e h = absurd h
-    spells_bare (skip ps) (End ws) i j e h = absurd h
-    spells_bare (more p ps) (Then ws c r) i j e h = let b = and_both (has_plain c) (all_plain r) e in (derives_bare p c b.0 h.1, spells_bare ps r (last p) j b.1 h.2)
-    spells_bare (skip ps) (Then ws c r) i j e h = absurd h
-    spells_bare (more p ps) (Maybe ws c r) i j e h = let b = and_both (has_plain c) (all_plain r) e in (derives_bare p c b.0 h.1, spells_bare ps r (last p) j b.1 h.2)
-    spells_bare (skip ps) (Maybe ws c r) i j e h = spells_bare ps r h.0 j (and_both (has_plain c) (all_plain r) e).1 h.2
-    spells_bare (more p ps) (Unless ws c us r) i j e h = let b = and_both (has_plain c) (all_plain r) e in (derives_bare p c b.0 h.1, spells_bare ps r (last p) j b.1 h.2)
-    spells_bare (skip ps) (Unless ws c us r) i j e h = spells_bare ps r h.0 j (and_both (has_plain c) (all_plain r) e).1 h.3
-    spells_bare (more p ps) (Many ws l) i j e h = (derives_bare p (item l) e h.3, goes_bare ps l (last p) j e h.4)
-    spells_bare (skip ps) (Many ws l) i j e h = absurd h
-
-    goes_bare : (ps : Trees) (l : Items) (i j : ℕ) → has_plain (item l) ≡ true → Goes ts l i ps j → AreBare ps
-    goes_bare none l i j e h = tt
-    goes_bare (more p ps) l i j e h = (derives_bare p (item l) e h.3, goes_bare ps l (last p) j e h.4)
-    goes_bare (skip ps) l i j e h = absurd h
 
 never : false ≡ true → ⊥
 never e = cc
@@ -88,7 +50,7 @@ module _ (n : ℕ) where
   name_tells c i (role.Parameter g (Some s)) z h = (h, ((refl, (λ e. refl), tt), tt))
   name_tells c i r z h = (z, tt)
 
-  own_tells : (c : Context) (k : Kind) (i j : ℕ) (ps : Trees) → is_plain k ≡ true → RoleBehind c.role → SiteBehind n c.site → AreOf (own_events c k i j ps)
+  own_tells : (c : Context) (k : Kind) (i j : ℕ) (ps : Trees) → is_bare k ≡ true → RoleBehind c.role → SiteBehind n c.site → AreOf (own_events c k i j ps)
   own_tells c kind.ImportPath i j ps e r z = absurd (never e)
   own_tells c kind.FunctionDeclaration i j ps e r z = absurd (never e)
   own_tells c (kind.Specification sort.Type) i j ps e r z = absurd (never e)
@@ -129,7 +91,7 @@ module _ (n : ℕ) where
   entry_behind true p i x h = named_behind p (role.Parameter i x) h
   entry_behind false p i x h = tt
 
-  part_role : (c : Context) (k : Kind) (i j : ℕ) (named : Bool) (m : ℕ) (p : Tree) → is_plain k ≡ true → n ≤ i → RoleBehind c.role → SourceBehind n c.group → RoleBehind (role_in c k i j named m p)
+  part_role : (c : Context) (k : Kind) (i j : ℕ) (named : Bool) (m : ℕ) (p : Tree) → is_bare k ≡ true → n ≤ i → RoleBehind c.role → SourceBehind n c.group → RoleBehind (role_in c k i j named m p)
   part_role c (kind.Specification sort.Constant) i j named m p e l r g = absurd (never e)
   part_role c (kind.Specification sort.Variable) i j named m p e l r g = absurd (never e)
   part_role c (kind.Specification sort.Type) i j named m p e l r g = absurd (never e)
@@ -192,7 +154,7 @@ module _ (n : ℕ) where
   sequence_behind c ps zero h = length_behind c.site h
   sequence_behind c ps (suc m) h = element_behind (is_there (part_at ps 0)) c.site h
 
-  part_site : (c : Context) (k : Kind) (i : ℕ) (ps : Trees) (m : ℕ) (p : Tree) → is_plain k ≡ true → SiteBehind n c.site → SourceBehind n c.specification → SiteBehind n (site_in c k i ps m p)
+  part_site : (c : Context) (k : Kind) (i : ℕ) (ps : Trees) (m : ℕ) (p : Tree) → is_bare k ≡ true → SiteBehind n c.site → SourceBehind n c.specification → SiteBehind n (site_in c k i ps m p)
   part_site c (kind.Specification sort.Constant) i ps m p e h o = absurd (never e)
   part_site c (kind.Specification sort.Type) i ps m p e h o = absurd (never e)
   part_site c (kind.Specification sort.Variable) i ps m p e h o = absurd (never e)
@@ -204,7 +166,7 @@ module _ (n : ℕ) where
   part_site c kind.FunctionType i ps m p e h o = element_behind false c.site h
   part_site c k i ps m p e h o = h
 
-  part_listed : (k : Kind) (m : ℕ) → is_plain k ≡ true → listed_in k m ≡ false
+  part_listed : (k : Kind) (m : ℕ) → is_bare k ≡ true → listed_in k m ≡ false
   part_listed kind.Block m e = absurd (never e)
   part_listed kind.Case m e = absurd (never e)
   part_listed kind.Default m e = absurd (never e)
@@ -224,7 +186,7 @@ module _ (n : ℕ) where
   around_pass : (c : Context) (p : Tree) → IsAround c → IsAround (pass c p)
   around_pass c p a = record { role = a.role; group = a.group; site = a.site; specification = a.specification; listed = a.listed }
 
-  around_part : (c : Context) (k : Kind) (i j : ℕ) (ps : Trees) (m : ℕ) (p : Tree) (b : Bool) → is_plain k ≡ true → n ≤ i → IsAround c → IsAround (enter c k i j ps (ends_named ps) m p b)
+  around_part : (c : Context) (k : Kind) (i j : ℕ) (ps : Trees) (m : ℕ) (p : Tree) (b : Bool) → is_bare k ≡ true → n ≤ i → IsAround c → IsAround (enter c k i j ps (ends_named ps) m p b)
   around_part c k i j ps m p b e l a = record {
     role = part_role c k i j (ends_named ps) m p e l a.role a.group;
     group = part_group c k i l a.group;
@@ -251,7 +213,7 @@ module _ (n : ℕ) where
         (all_both (IsOfFunction n) (statement_events c.listed i j) (own_events c k i j ps) (subst (λ x. AreOf (statement_events x i j)) (sym a.listed) tt) (own_tells c k i j ps b.0 a.role a.site))
         (parts_tell (begin c k) k i j ps 0 ps (behind_name k i) b.0 b.1 l.1 h (begins_behind k i h) (around_begin c k a))
 
-    parts_tell : (c : Context) (k : Kind) (i j : ℕ) (all : Trees) (m : ℕ) (qs : Trees) (lo : ℕ) → is_plain k ≡ true → AreBare qs → LieIn lo j qs → n ≤ i → n ≤ lo → IsAround c → AreOf (events_of c k i j all m qs)
+    parts_tell : (c : Context) (k : Kind) (i j : ℕ) (all : Trees) (m : ℕ) (qs : Trees) (lo : ℕ) → is_bare k ≡ true → AreBare qs → LieIn lo j qs → n ≤ i → n ≤ lo → IsAround c → AreOf (events_of c k i j all m qs)
     parts_tell c k i j all m none lo e b l h o a = tt
     parts_tell c k i j all m (skip qs) lo e b l h o a = parts_tell c k i j all (suc m) qs lo e b l h o a
     parts_tell c k i j all m (more p qs) lo e b l h o a =
