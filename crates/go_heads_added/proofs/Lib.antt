@@ -22,3 +22,4 @@ mod Faultless
 mod Rounds
 mod Circles
 mod Tells
+mod Derived
