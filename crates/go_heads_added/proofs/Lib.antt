@@ -23,3 +23,4 @@ mod Rounds
 mod Circles
 mod Bare
 mod Tells
+mod Derived

@@ -107,6 +107,10 @@ module _ (k n i j end x y u v : ℕ) (a b : TokenList) (kts : List TokenKind) (p
         later = subst (AreLater n) (sym is) (omega (arith, l), later);
       }
 
+  pub told_is : (f : IsFront n a b) (h : Derives kts category.Declaration d) (l : n ≤ x) → (tells_more f h l).longer.added ≡ events (context_behind end ps d) d
+  unfolding tells_more
+  told_is f h l = refl
+
 -- what a file tells stands in front of its end
 pub file_earlier : (kts : List TokenKind) (t : Tree) (n : ℕ) → IsFile kts t → last t ≡ n → AreEarlier n (events (file_context (last t)) t)
 file_earlier kts t n f e =

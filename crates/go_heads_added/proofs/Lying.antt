@@ -27,9 +27,9 @@ use Rattle.go_tree.specs.Units.{Unit, word, is_blank, bytes_at}
 use Rattle.go_scopes_events.specs.Orders.{EachDeclared, IsOuter, LocalsFollow, begins_function}
 use Rattle.go_scopes_events.proofs.Public.{derives_laid}
 use Rattle.go_heads_added.specs.Added.{AreHoused, BlockWithin, IsEarlier, MayStand, housed}
-use Rattle.go_heads_added.specs.Appended.{AreAdded, HasNames, IsFront, IsParsed, TellsMore, empty_function, unit_of}
+use Rattle.go_heads_added.specs.Appended.{context_behind, AreAdded, HasNames, IsFront, IsParsed, TellsMore, empty_function, unit_of}
 use Rattle.go_heads_added.proofs.Blocks.{file_in}
-use Rattle.go_heads_added.proofs.Longer.{file_earlier, tells_more}
+use Rattle.go_heads_added.proofs.Longer.{told_is, file_earlier, tells_more}
 
 -- ---- blocks
 
@@ -112,7 +112,7 @@ function_or d o = by d.block d.entity d.manner o
     by block.Package entity.Parameter m q = inr refl
     by (block.Local i) e m q = absurd q
 
-abbrev LocalsFollowAll : Type 0
+abbrev pub LocalsFollowAll : Type 0
 LocalsFollowAll = (ts : List TokenKind) (t : Tree) → IsFile ts t → LocalsFollow false (events (file_context (last t)) t)
 
 module _ (all : List Found) where
@@ -203,3 +203,11 @@ module _ (follow : LocalsFollowAll) (k j end x y u v : ℕ) (a b : TokenList) (t
           named = blank;
         };
       }
+
+  -- it is this package
+  pub added_here : length before ≡ k → AllByRecursion IsParsed before → AllByRecursion IsParsed behind → IsFile ts t → HasNames (unit_of a t) → IsFront j a b → Derives us category.Declaration d → j ≤ x → is_blank (word b (suc x)) ≡ false
+      → imports_fmt b (events (file_context end) (with_declaration t d end)) ≡ imports_fmt a (events (file_context j) t)
+      → (m : AreAdded k j (word b (suc x)) old new) × (m.added.a ≡ unit_of a t) × (m.added.b ≡ unit_of b (with_declaration t d end)) × (m.added.longer.added ≡ events (context_behind end ps d) d)
+  unfolding are_added
+  added_here place first later file names front h l blank imports =
+      (are_added place first later file names front h l blank imports, refl, refl, told_is k j 0 j end x y u v a b us ps s front h l)

@@ -2,6 +2,8 @@
 use Rattle.std.specs.Prelude.{◌≡◌, ℕ, ◌<◌, true, false, nat_eq, List, [], Option, Some, None, codes}
 use Rattle.std.specs.List.{AllByRecursion}
 use Rattle.go_tokens.specs.Spellings.{same_text}
+use Rattle.go_tokens.specs.Tokens.{TokenList}
+use Rattle.go_tree.specs.declared.event.Event.{Event}
 use Rattle.go_tree.specs.Declarations.{Found}
 use Rattle.go_tree.specs.Duplicates.{second_members}
 use Rattle.go_tree.specs.Faults.{lookup_faults}
@@ -34,3 +36,12 @@ pub record FunctionIsFine (k n : ℕ) (name : List ℕ) (old new : List Unit) (h
 pub record FileIsWithin (k n : ℕ) (name : List ℕ) (old new : List Unit) (h : IsAdded k n name old new) : Type 0 where
   pub clause : 1 < n
   pub events : AllByRecursion (EventWithin n) h.a.events
+
+-- What is asked of a function with an empty body besides its derivation, by what it tells: its name may be that of a function; no two of its
+-- parameters have one name; no rule fails at the names that it looks up; and these mean what is declared elsewhere.
+pub record MayBeAdded (k n : ℕ) (name : List ℕ) (b : TokenList) (told : List Event) (new : List Unit) : Type 0 where
+  pub initial : same_text name (codes "init") ≡ false
+  pub imported : is_fmt name ≡ false
+  pub members : second_members [] k b told ≡ []
+  pub asks : lookup_faults (asked_in (meanings new) k b told) ≡ []
+  pub outer : AllByRecursion (λ a. MeansOuter k n a.meaning) (asked_in (meanings new) k b told)

@@ -19,7 +19,7 @@ ghost use Rattle.go_tree.specs.Units.{Unit, word, is_blank};
 ghost use Rattle.go_heads_added.specs.Added.{IsAdded, LiesIn, NoneSays, KeepsAll, KeepsDeclared, AreEarlier, BlockWithin, gap_in, reaching};
 ghost use Rattle.go_heads_added.specs.Appended.{AreAdded, HasNames, IsFront, IsParameterOf, IsParsed, TellsMore, context_behind, empty_function, unit_of};
 ghost use Rattle.go_heads_added.specs.Examples.{Examples};
-ghost use Rattle.go_heads_added.specs.Faults.{FunctionIsFine, FileIsWithin};
+ghost use Rattle.go_heads_added.specs.Faults.{FunctionIsFine, FileIsWithin, MayBeAdded};
 ghost use Rattle.go_heads_added.specs.Within.{EventWithin, IsOfFunction};
 
 use go_scopes_cycles::laws::declarations_bound_rounds;
@@ -102,6 +102,20 @@ pub fn appended_functions_are_added()
 {
     locals_stand_in_functions();
     longer_files_import_the_same();
+}
+
+/// Where the files of a package are derived, and no rule on names fails, none fails behind a function with an empty body that is appended to
+/// one of them, whose name no token says, and at which no rule fails.
+pub fn appended_functions_fail_no_rule()
+    ensures { (k j end x y u v : ℕ) (a b : TokenList) (ts us : List TokenKind) (ps : Trees) (s : Tree) (before behind : List Unit) → let d = empty_function x y s u v in
+        let t = node kind.File 0 j ps in let old = before ++ unit_of a t ∷ behind in let new = before ++ unit_of b (with_declaration t d end) ∷ behind in
+        let name = word b (suc x) in length before ≡ k → AllByRecursion IsParsed before → AllByRecursion IsParsed behind → IsFile ts t → HasNames (unit_of a t)
+        → IsFront j a b → Derives us category.Declaration d → j ≤ x → is_blank name ≡ false
+        → NoneSays name old → MayBeAdded k j name b (events (context_behind end ps d) d) new → reported old ≡ None → reported new ≡ None }
+{
+    locals_stand_in_functions();
+    longer_files_import_the_same();
+    declarations_bound_rounds();
 }
 
 /// A worked example: a file with a function more, its tree, and what it tells.

@@ -1,0 +1,4 @@
+//! What declarations stand for where a function is appended that nothing names.
+#![tactic(auto)]
+
+pub mod laws;
