@@ -8,3 +8,4 @@ mod Worked
 mod Taking
 mod Quiet
 mod Written
+mod Facts

@@ -33,11 +33,11 @@ AreQuiet xs = (list_any varies_in xs ≡ false) × (list_any calls_in xs ≡ fal
 quiet_front : (x : Part) (xs : Parts) → IsQuiet x → AreQuiet xs → AreQuiet (Some x ∷ xs)
 quiet_front x xs e d = (ap (λ b. b || list_any varies_in xs) e.0 ∙ d.0, ap (λ b. b || list_any calls_in xs) e.1 ∙ d.1)
 
-first_quiet : (b c : Bool) → (b || c) ≡ false → b ≡ false
+pub first_quiet : (b c : Bool) → (b || c) ≡ false → b ≡ false
 first_quiet true c e = e
 first_quiet false c e = refl
 
-rest_quiet : (b c : Bool) → (b || c) ≡ false → c ≡ false
+pub rest_quiet : (b c : Bool) → (b || c) ≡ false → c ≡ false
 rest_quiet true c e = cc
 rest_quiet false c e = e
 

@@ -1,7 +1,8 @@
-//! The law of calls that stand in place of statements, for the crates above. This function does nothing: its contract is what holds.
+//! Laws of calls that stand in place of statements, for the crates above. These functions do nothing: their contracts are what holds.
 
 ghost use Rattle.go_stmts_calls.specs.Calls.{CallsAreTyped};
-ghost use Rattle.go_stmts_calls.specs.Places.{CallsTakeThePlace};
+ghost use Rattle.go_stmts_calls.specs.Facts.{CallsAreReadInPlace};
+ghost use Rattle.go_stmts_calls.specs.Taking.{CallsTakeThePlace};
 ghost use Rattle.go_stmts_calls.specs.Worked.{WorkedCall};
 ghost use Rattle.go_stmts_calls.specs.Written.{CallsAreReadAlike};
 
@@ -33,12 +34,21 @@ pub fn calls_are_read_alike()
     types_read_back();
 }
 
-/// A call takes the place of statements that declare no types, and of whose locals just those are needed behind them that it declares: where
-/// it is read in front of them, no rule fails in it, and behind both what counts stands for the same.
+/// In front of the statements whose place it takes a call is read where its names mean locals that stand for their types there, or results that
+/// it declares, and its constants and types are spelled as they have to be: so it is in all frames that are related.
+pub fn calls_are_read_in_place()
+    ensures { CallsAreReadInPlace }
+{
+    frames_stay_related_behind_statements();
+}
+
+/// A call takes the place of statements that declare no types, and of whose locals those that are needed behind them are just those that it
+/// declares: where its names mean what they have to, no rule fails in it, and behind both what counts stands for the same.
 pub fn calls_take_the_place()
     ensures { CallsTakeThePlace }
 {
     calls_are_read_alike();
+    calls_are_read_in_place();
     calls_are_typed();
     declared_locals_stand();
     frames_stay_related_behind_statements();

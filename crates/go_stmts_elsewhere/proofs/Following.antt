@@ -6,7 +6,7 @@ use Rattle.go_exprs_rules.specs.Scopes.{Needed, Scope}
 use Rattle.go_package_alike.specs.Scopes.{Says, said, MeanSame, SaySame}
 use Rattle.go_stmts_defs.specs.Frames.{Frame, local_stands}
 use Rattle.go_exprs_elsewhere.specs.Elsewhere.{Moves}
-use Rattle.go_stmts_elsewhere.specs.Declaring.{RelatedBehind, LocalsAlong}
+use Rattle.go_stmts_elsewhere.specs.Declaring.{RelatedBehind, SharedAlong}
 use Rattle.go_stmts_elsewhere.specs.Frames.{has_room}
 use Rattle.go_stmts_elsewhere.specs.Gaps.{behind}
 use Rattle.go_stmts_elsewhere.specs.Marked.{AlongAt}
@@ -73,8 +73,10 @@ related_behind p q m l f g ts ls v e c room locals =
       };
     }
 
-pub locals_along : (p q : ℕ → Bool) (m : Moves) (l : ℕ → Bool) (f g : Frame) → AlongAt p q m l (unsourced f) (unsourced g) → LocalsAlong m l f g
-locals_along p q m l f g c = record {
+pub shared_along : (p q : ℕ → Bool) (m : Moves) (l : ℕ → Bool) (f g : Frame) → AlongAt p q m l (unsourced f) (unsourced g) → SharedAlong m l f g
+shared_along p q m l f g c = record {
+  rights = c.new_same.around.rights ∙ c.along.rights ∙ sym c.old_same.around.rights;
+  limits = c.new_same.around.limits ∙ c.along.limits ∙ sym c.old_same.around.limits;
   apart = c.along.apart;
   room = λ n e. ap (λ ls. has_room ls (m.local n)) c.new_same.locals ∙ c.along.room n e ∙ ap (λ ls. has_room ls n) (sym c.old_same.locals);
   locals = λ n e. ap (λ ls. local_stands ls (m.local n)) c.new_same.locals ∙ c.along.locals n e ∙ ap (λ ls. local_stands ls n) (sym c.old_same.locals);

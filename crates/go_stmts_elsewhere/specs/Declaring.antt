@@ -160,8 +160,10 @@ RelatedBehind = (p q : ℕ → Bool) (m : Moves) (l : ℕ → Bool) (f g : Frame
     → ((n : ℕ) → l n ≡ true → local_stands ls (m.local n) ≡ local_stands (behind f ts).locals n)
     → AlongAt p q m l (unsourced (behind f ts)) (unsourced (record g { locals = ls }))
 
--- locals that count, in frames that are related
-pub record LocalsAlong (m : Moves) (l : ℕ → Bool) (f g : Frame) : Type 0 where
+-- what frames share that are related: right sides, what is judged, and the locals that count
+pub record SharedAlong (m : Moves) (l : ℕ → Bool) (f g : Frame) : Type 0 where
+  pub rights : g.around.rights ≡ f.around.rights
+  pub limits : g.around.limits ≡ f.around.limits
   pub apart : (n k : ℕ) → l n ≡ true → l k ≡ true → m.local n ≡ m.local k → n ≡ k
   pub room : (n : ℕ) → l n ≡ true → has_room g.locals (m.local n) ≡ has_room f.locals n
   pub locals : (n : ℕ) → l n ≡ true → local_stands g.locals (m.local n) ≡ local_stands f.locals n

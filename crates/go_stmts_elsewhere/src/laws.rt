@@ -13,7 +13,7 @@ ghost use Rattle.go_stmts_defs.specs.Bodies.{start};
 ghost use Rattle.go_stmts_defs.specs.Frames.{Frame};
 ghost use Rattle.go_stmts_defs.specs.Reading.{reading};
 ghost use Rattle.go_stmts_elsewhere.specs.Above.{NodesAbove};
-ghost use Rattle.go_stmts_elsewhere.specs.Declaring.{AllDeclareInOrder, DeclaredLocalsStand, LeaveTheRest, LocalsAlong, RelatedBehind};
+ghost use Rattle.go_stmts_elsewhere.specs.Declaring.{AllDeclareInOrder, DeclaredLocalsStand, LeaveTheRest, SharedAlong, RelatedBehind};
 ghost use Rattle.go_stmts_elsewhere.specs.Ends.{FunctionsEnd, ListsEnd, NodesEnd, ReturnsEnd};
 ghost use Rattle.go_stmts_elsewhere.specs.Frames.{AlongFrames, AlongReadings, KeepsPlaces};
 ghost use Rattle.go_stmts_elsewhere.specs.Functions.{AlongFunctions, LocalsStand, Numbered, NumberedFunctions, only_objects, stays};
@@ -163,8 +163,8 @@ pub fn declared_locals_stand()
 {}
 
 /// Frames that are related, whatever constants repeat, are related behind statements that declare no types in the first one, where the locals
-/// that count stand for the same again; and those that count stand for the same in them.
+/// that count stand for the same again; and they share right sides and those locals.
 pub fn frames_stay_related_behind_statements()
     ensures behind { RelatedBehind }
-    ensures locals { (p q : ℕ → Bool) (m : Moves) (l : ℕ → Bool) (f g : Frame) → AlongAt p q m l (unsourced f) (unsourced g) → LocalsAlong m l f g }
+    ensures shared { (p q : ℕ → Bool) (m : Moves) (l : ℕ → Bool) (f g : Frame) → AlongAt p q m l (unsourced f) (unsourced g) → SharedAlong m l f g }
 {}

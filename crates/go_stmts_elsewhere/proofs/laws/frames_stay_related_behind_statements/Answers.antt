@@ -1,5 +1,5 @@
-use Rattle.go_stmts_elsewhere.proofs.Following.{locals_along, related_behind}
+use Rattle.go_stmts_elsewhere.proofs.Following.{related_behind, shared_along}
 use Rattle.go_stmts_elsewhere.proofs.laws.frames_stay_related_behind_statements.Goals as goal
 
 pub returns : goal.returns
-returns c = record { behind = related_behind; locals = locals_along }
+returns c = record { behind = related_behind; shared = shared_along }
