@@ -19,7 +19,7 @@ use Rattle.go_stmts_elsewhere.specs.Marked.{AlongAt}
 use Rattle.go_stmts_elsewhere.specs.Replaced.{AreStatementParts, IsStatementPart, TakesThePlace, unsourced}
 use Rattle.go_stmts_elsewhere.proofs.Public.{placed_here, placed_other, placed_room}
 use Rattle.go_stmts_calls.specs.Calls.{with_variables, CallsAreTyped}
-use Rattle.go_stmts_calls.specs.Facts.{CallsAreReadInPlace}
+use Rattle.go_stmts_calls.specs.Facts.{IsWritten, CallsAreReadInPlace}
 use Rattle.go_stmts_calls.specs.Places.{PlacedCall, call_trees, is_among}
 use Rattle.go_stmts_calls.specs.Taking.{AreResults, written_call, CallFits}
 use Rattle.go_stmts_calls.specs.Written.{statement_in, written_parts, CallsAreReadAlike}
@@ -92,11 +92,11 @@ written_stand t i (y ∷ ys) (more u us) [] xs number gs ps rs = (statement_stan
 module _ (leaves : (f : Frame) (ts : Trees) → AllDeclareInOrder ts → LeaveTheRest f ts) (declared : DeclaredLocalsStand) (follows : RelatedBehind)
     (locals : (p q : ℕ → Bool) (m : Moves) (l : ℕ → Bool) (f g : Frame) → AlongAt p q m l (unsourced f) (unsourced g) → SharedAlong m l f g) (typed : CallsAreTyped) (alike : CallsAreReadAlike)
     (in_place : CallsAreReadInPlace) where
-  pub call_takes : (p q : ℕ → Bool) (m : Moves) (l : ℕ → Bool) (s t : Scope) (old : Trees) (olds : Parts) (c : PlacedCall) (results : List ℕ) → CallFits m l s t old olds c results
-      → TakesThePlace p q m l s t (record { old = old; new = call_trees c; olds = olds; news = written_call t c (map m.local results) })
-  call_takes p q m l s t old olds c results w = record {
-    reads = λ f g r e free.
-        let v = in_place p q m l s t old olds c results w.written f g r e free in
+  pub call_takes : (p q : ℕ → Bool) (m : Moves) (l : ℕ → Bool) (s t : Scope) (front : Frame) (old : Trees) (olds : Parts) (c : PlacedCall) (results : List ℕ) → CallFits m l t front old olds c results
+      → TakesThePlace p q m l s t (record { front = front; old = old; new = call_trees c; olds = olds; news = written_call t c (map m.local results) })
+  call_takes p q m l s t front old olds c results w = record {
+    reads = λ f g r z e free.
+        let v = in_place p q m l s t f g c results (subst (λ (u : Frame). IsWritten m l t u results c.types c.first c.declared c.types results c.targets c.function c.arguments c.parameters c.results) (sym z) w.written) r in
         let ns = map m.local results in
         let a = typed g c.first c.declared c.types ns c.targets c.function c.arguments c.parameters c.results v in
         let b = leaves f old w.in_order in

@@ -3,13 +3,12 @@ use Rattle.std.specs.Prelude.{◌≡◌, ℕ, suc, ◌⊎◌, Bool, true, false,
 use Rattle.std.specs.Fmt.{decimal}
 use Rattle.std.specs.Prelude.{codes}
 use Rattle.go_constants.specs.declared.values.Const.{Const}
-use Rattle.go_grammar.specs.Trees.{Trees, last}
+use Rattle.go_grammar.specs.Trees.{last}
 use Rattle.go_tree.specs.declared.object.Object.TheVariants as object
 use Rattle.go_types.specs.Trees.{TypeTree, boolean, text, integer, array, slice, structure, function, declared, TypeRow, none, more}
 use Rattle.go_typed.specs.Trees as sort
 use Rattle.go_exprs_rules.specs.Scopes.{Needed, Scope}
 use Rattle.go_exprs_rules.specs.Sorts.{Stands, kind_of_const, suits, represents}
-use Rattle.go_exprs_rules.specs.Tables.{Parts}
 use Rattle.go_print.specs.Texts.{kind_text}
 use Rattle.go_print_laws.specs.Calls.{Argument, variable, constant, argument_tree, names_end}
 use Rattle.go_print_laws.specs.Reading.{in_universe, IsWithin, ReadsLiteral, CanBeRead, unmarked}
@@ -17,8 +16,7 @@ use Rattle.go_print_laws.specs.Trees.{type_tree, list_end}
 use Rattle.go_stmts_defs.specs.Frames.{Frame, local_stands, rights_of, scope_of}
 use Rattle.go_exprs_elsewhere.specs.Elsewhere.{Moves}
 use Rattle.go_stmts_elsewhere.specs.Frames.{has_room}
-use Rattle.go_stmts_elsewhere.specs.Gaps.{run, parts_in, found_in}
-use Rattle.go_stmts_elsewhere.specs.Replaced.{AreFree, Related, SaysAs}
+use Rattle.go_stmts_elsewhere.specs.Replaced.{Related}
 use Rattle.go_stmts_calls.specs.Places.{PlacedCall, ReadsCall, is_among}
 
 -- the local is the one of these that is declared last as this type
@@ -27,13 +25,9 @@ IsResult [] us k u = ⊥
 IsResult (a ∷ ks) none k u = ⊥
 IsResult (a ∷ ks) (more t us) k u = ((a ≡ k) × (t ≡ u) × (is_among ks k ≡ false)) ⊎ IsResult ks us k u
 
--- The statements `old`, which are read to be `olds`, stand in the function of the scope s; in the one of t, where locals that count have new
--- numbers, the call declares these of them, as variables of these types.
-module _ (m : Moves) (l : ℕ → Bool) (s t : Scope) (old : Trees) (olds : Parts) (results : List ℕ) (types : TypeRow) where
-  -- It holds wherever the statements are read so, without faults.
-  abbrev pub InFront : (Frame → Type 0) → Type 0
-  InFront P = (f : Frame) → SaysAs s f → parts_in (run f old) ≡ olds → AreFree (found_in (run f old)) → P f
-
+-- In front of the statements whose place a call takes this is known; in the function of the scope t, where locals that count have new numbers,
+-- the call declares these of them, as variables of these types.
+module _ (m : Moves) (l : ℕ → Bool) (t : Scope) (front : Frame) (results : List ℕ) (types : TypeRow) where
   -- ---- names
 
   -- The token means a local that counts and isn't declared with the call, and that stands for this in front of the statements.
@@ -42,7 +36,7 @@ module _ (m : Moves) (l : ℕ → Bool) (s t : Scope) (old : Trees) (olds : Part
     pub counts : l local ≡ true
     pub stays : is_among results local ≡ false
     pub means : (e : ℕ) × (t.objects i ≡ Some (object.Local e (m.local local)))
-    pub stands : InFront (λ f. local_stands f.locals local ≡ x)
+    pub stands : local_stands front.locals local ≡ x
 
   -- It means a result that is declared with the call.
   pub record NamesResult (i : ℕ) (u : TypeTree) : Type 0 where
@@ -50,7 +44,7 @@ module _ (m : Moves) (l : ℕ → Bool) (s t : Scope) (old : Trees) (olds : Part
     pub counts : l local ≡ true
     pub means : (e : ℕ) × (t.objects i ≡ Some (object.Local e (m.local local)))
     pub is : IsResult results types local u
-    pub room : InFront (λ f. has_room f.locals local ≡ true)
+    pub room : has_room front.locals local ≡ true
 
   pub data NamesTarget (i : ℕ) (u : TypeTree) : Type 0 where
     nothing : t.objects i ≡ None → NamesTarget i u
@@ -97,8 +91,8 @@ module _ (m : Moves) (l : ℕ → Bool) (s t : Scope) (old : Trees) (olds : Part
   pub record SpellsConstant (i : ℕ) (v : Const) (u : TypeTree) : Type 0 where
     pub read : CanBeRead v
     pub reads : ReadsLiteral t i v
-    pub kind : InFront (λ f. suits (rights_of f) (kind_of_const (unmarked v)) u ≡ true)
-    pub range : InFront (λ f. represents (rights_of f) u (unmarked v) ≡ true)
+    pub kind : suits (rights_of front) (kind_of_const (unmarked v)) u ≡ true
+    pub range : represents (rights_of front) u (unmarked v) ≡ true
 
   abbrev pub IsGiven : ℕ → Argument → TypeTree → Type 0
   IsGiven i (variable w) u = NamesLocal i (sort.Value u)
@@ -134,15 +128,15 @@ module _ (m : Moves) (l : ℕ → Bool) (s t : Scope) (old : Trees) (olds : Part
     pub counts : l k ≡ true
     pub means : (e : ℕ) × (t.objects (suc i) ≡ Some (object.Local e (m.local k)))
     pub spells : Spells (suc (suc i)) u
-    pub within : InFront (λ f. IsWithin (scope_of f) u)
+    pub within : IsWithin (scope_of front) u
 
   abbrev pub IsWritten : ℕ → List (List ℕ) → TypeRow → List ℕ → List (List ℕ) → ℕ → List Argument → TypeRow → TypeRow → Type 0
   IsWritten i [] none [] xs number gs ps rs = IsCalled i xs number gs ps rs
   IsWritten i (y ∷ ys) (more u us) (k ∷ ks) xs number gs ps rs = Declares i k u × IsWritten (suc (last (type_tree (suc (suc i)) u))) ys us ks xs number gs ps rs
   IsWritten i ys us ks xs number gs ps rs = ⊥
 
--- Where these are the facts the call is read, in all frames that are related.
+-- Where these are the facts the call is read, in all frames that are related to the one in front of the statements.
 abbrev pub CallsAreReadInPlace : Type 0
-CallsAreReadInPlace = (p q : ℕ → Bool) (m : Moves) (l : ℕ → Bool) (s t : Scope) (old : Trees) (olds : Parts) (c : PlacedCall) (results : List ℕ)
-    → IsWritten m l s t old olds results c.types c.first c.declared c.types results c.targets c.function c.arguments c.parameters c.results
-    → (f g : Frame) → Related p q m l s t f g → parts_in (run f old) ≡ olds → AreFree (found_in (run f old)) → ReadsCall g c (map m.local results)
+CallsAreReadInPlace = (p q : ℕ → Bool) (m : Moves) (l : ℕ → Bool) (s t : Scope) (front g : Frame) (c : PlacedCall) (results : List ℕ)
+    → IsWritten m l t front results c.types c.first c.declared c.types results c.targets c.function c.arguments c.parameters c.results
+    → Related p q m l s t front g → ReadsCall g c (map m.local results)

@@ -5,6 +5,7 @@ use Rattle.go_types.specs.Trees.{TypeRow, none, more}
 use Rattle.go_exprs_rules.specs.Scopes.{Scope}
 use Rattle.go_exprs_rules.specs.Tables.{Parts}
 use Rattle.go_exprs_elsewhere.specs.Elsewhere.{Moves}
+use Rattle.go_stmts_defs.specs.Frames.{Frame}
 use Rattle.go_stmts_elsewhere.specs.Declaring.{declares, declares_types, AllWithout, Lastly, DeclaresVariable, AllDeclareInOrder}
 use Rattle.go_stmts_elsewhere.specs.Replaced.{AreStatementParts, TakesThePlace}
 use Rattle.go_stmts_calls.specs.Written.{written_parts}
@@ -22,7 +23,7 @@ abbrev pub written_call : Scope → PlacedCall → List ℕ → Parts
 written_call t c ns = written_parts t c.first c.declared c.types ns c.targets c.function c.arguments c.parameters c.results
 
 -- The call takes the place of statements that are read to be `olds`, where these of their locals are still needed behind them.
-pub record CallFits (m : Moves) (l : ℕ → Bool) (s t : Scope) (old : Trees) (olds : Parts) (c : PlacedCall) (results : List ℕ) : Type 0 where
+pub record CallFits (m : Moves) (l : ℕ → Bool) (t : Scope) (front : Frame) (old : Trees) (olds : Parts) (c : PlacedCall) (results : List ℕ) : Type 0 where
   pub in_order : AllDeclareInOrder old
   pub statements : AreStatementParts olds
   pub no_types : AllWithout declares_types olds
@@ -31,8 +32,8 @@ pub record CallFits (m : Moves) (l : ℕ → Bool) (s t : Scope) (old : Trees) (
   -- and no other local that counts is declared
   pub others_stay : (k : ℕ) → l k ≡ true → is_among results k ≡ false → AllWithout (declares k) olds
   -- the tokens of the call mean what they have to in the function of the scope t, in front of the statements
-  pub written : IsWritten m l s t old olds results c.types c.first c.declared c.types results c.targets c.function c.arguments c.parameters c.results
+  pub written : IsWritten m l t front results c.types c.first c.declared c.types results c.targets c.function c.arguments c.parameters c.results
 
 abbrev pub CallsTakeThePlace : Type 0
-CallsTakeThePlace = (p q : ℕ → Bool) (m : Moves) (l : ℕ → Bool) (s t : Scope) (old : Trees) (olds : Parts) (c : PlacedCall) (results : List ℕ)
-    → CallFits m l s t old olds c results → TakesThePlace p q m l s t (record { old = old; new = call_trees c; olds = olds; news = written_call t c (map m.local results) })
+CallsTakeThePlace = (p q : ℕ → Bool) (m : Moves) (l : ℕ → Bool) (s t : Scope) (front : Frame) (old : Trees) (olds : Parts) (c : PlacedCall) (results : List ℕ)
+    → CallFits m l t front old olds c results → TakesThePlace p q m l s t (record { front = front; old = old; new = call_trees c; olds = olds; news = written_call t c (map m.local results) })

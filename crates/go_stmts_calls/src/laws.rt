@@ -3,7 +3,7 @@
 ghost use Rattle.go_stmts_calls.specs.Calls.{CallsAreTyped};
 ghost use Rattle.go_stmts_calls.specs.Facts.{CallsAreReadInPlace};
 ghost use Rattle.go_stmts_calls.specs.Taking.{CallsTakeThePlace};
-ghost use Rattle.go_stmts_calls.specs.Worked.{WorkedCall};
+ghost use Rattle.go_stmts_calls.specs.Worked.{WorkedCall, WorkedPlace};
 ghost use Rattle.go_stmts_calls.specs.Written.{CallsAreReadAlike};
 
 use go_print_laws::laws::{literals_read_back, types_read_back};
@@ -61,3 +61,8 @@ pub fn worked_call()
 {
     calls_are_typed();
 }
+
+/// A worked place: the call takes the place of a definition.
+pub fn worked_place()
+    ensures { WorkedPlace }
+{}

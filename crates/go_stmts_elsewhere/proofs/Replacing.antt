@@ -227,15 +227,15 @@ module _ (same : StatementsFollow) (p q : ℕ → Bool) (m : Moves) (l : ℕ →
         entering_changed k w b e f g s.2 xs ys s.0,
       )
 
-  gap_further : (n : ℕ) (gap : Gap) → slice_get gaps n ≡ Some gap → (xs ys : Parts) (fs gs : Found) (f g : Frame) → parts_in (run f gap.old) ≡ gap.olds → (AreFree fs → State true xs ys gs f g)
+  gap_further : (n : ℕ) (gap : Gap) → slice_get gaps n ≡ Some gap → (xs ys : Parts) (fs gs : Found) (f g : Frame) → f ≡ gap.front → parts_in (run f gap.old) ≡ gap.olds → (AreFree fs → State true xs ys gs f g)
       → AreFree (fs ++ found_in (run f gap.old))
       → State true (xs ++ parts_in (run f gap.old)) (ys ++ parts_in (run g gap.new)) (gs ++ found_in (run g gap.new)) (behind f gap.old) (behind g gap.new)
-  gap_further n gap e xs ys fs gs f g o st a =
+  gap_further n gap e xs ys fs gs f g known o st a =
       let before = (st (free_front fs (found_in (run f gap.old)) a)).2 in
       let of_old : SaysAs s (behind f gap.old) = behind_kept s f before.1 gap.old in
       let of_new : SaysAs t (behind g gap.new) = behind_kept t g before.2 gap.new in
       let s = st (free_front fs (found_in (run f gap.old)) a) in
-      let r = (each n gap e).reads f g s.2 o (free_rest fs (found_in (run f gap.old)) a) in
+      let r = (each n gap e).reads f g s.2 known o (free_rest fs (found_in (run f gap.old)) a) in
       let ends : (zs : Parts) → zs ++ [] ≡ zs = λ zs. append-nil zs in
       let placed_in : ChangedParts m l gaps true gap.olds gap.news =
       subst (λ zs. ChangedParts m l gaps true zs gap.news) (ends gap.olds) (subst (λ zs. ChangedParts m l gaps true (gap.olds ++ []) zs) (ends gap.news) (in_place n gap e [] [] (no_more true))) in
@@ -537,7 +537,7 @@ module _ (same : StatementsFollow) (p q : ℕ → Bool) (m : Moves) (l : ℕ →
         subst (λ r. Then true r (readings g k h new ys gs (onto gap.new bs))) (sym (run_before k (is_list k w e) f h all xs fs gap.old os))
         (subst (λ s. Then true (readings (behind f gap.old) k h all (xs ++ parts_in (run f gap.old)) (fs ++ found_in (run f gap.old)) os) s) (sym (run_before k (is_list k w e) g h new ys gs gap.new bs))
         (all_changed k w true e (behind f gap.old) (behind g gap.new) h all new (xs ++ parts_in (run f gap.old)) (ys ++ parts_in (run g gap.new)) (fs ++ found_in (run f gap.old)) (gs ++ found_in (run g gap.new))
-        (gap_further n gap t xs ys fs gs f g o.0 st) os bs d (subst (λ zs. AllOldsRead p q m gaps (behind f gap.old) k (xs ++ zs) true os bs d) (sym o.0) o.1)))
+        (gap_further n gap t xs ys fs gs f g o.1 o.0 st) os bs d (subst (λ zs. AllOldsRead p q m gaps (behind f gap.old) k (xs ++ zs) true os bs d) (sym o.0) o.2)))
     all_changed k w b e f g h all new xs ys fs gs st ts us (next z x y os bs c d) o =
         next_read k w z e f g h all new xs ys fs gs st x y os bs (λ r t. AllOldsRead p q m gaps t k (xs ++ Some r ∷ []) z os bs d) o.1
         (λ at. changed_read (entering k xs f) (entering k ys g) at value x y c o.0)

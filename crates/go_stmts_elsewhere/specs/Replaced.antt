@@ -45,8 +45,9 @@ AreStatementParts (x ∷ xs) = IsStatementPart x × AreStatementParts xs
 
 -- ---- what takes the place of what
 
--- Statements of one list, those that take their place, and what both are read to be.
+-- Statements of one list, those that take their place, and what both are read to be; and what is known in front of the old ones.
 pub record Gap : Type 0 where
+  pub front : Frame
   pub old : Trees
   pub new : Trees
   pub olds : Parts
@@ -70,10 +71,10 @@ unsourced f = record f { source = None }
 abbrev pub Related : (ℕ → Bool) → (ℕ → Bool) → Moves → (ℕ → Bool) → Scope → Scope → Frame → Frame → Type 0
 Related p q m l s t f g = AlongAt p q m l (unsourced f) (unsourced g) × SaysAs s f × SaysAs t g
 
--- Where the old statements are read to be what the gap says and no rule fails in them, so are the new ones in each related frame, and
--- behind them the frames are related again.
+-- Where the old statements stand they are read to be what the gap says. Where no rule fails in them, so are the new ones in each related frame,
+-- and behind them the frames are related again.
 pub record TakesThePlace (p q : ℕ → Bool) (m : Moves) (l : ℕ → Bool) (s t : Scope) (gap : Gap) : Type 0 where
-  pub reads : (f g : Frame) → Related p q m l s t f g → parts_in (run f gap.old) ≡ gap.olds → AreFree (found_in (run f gap.old)) →
+  pub reads : (f g : Frame) → Related p q m l s t f g → f ≡ gap.front → parts_in (run f gap.old) ≡ gap.olds → AreFree (found_in (run f gap.old)) →
       (parts_in (run g gap.new) ≡ gap.news) × AreFree (found_in (run g gap.new)) × AlongAt p q m l (unsourced (behind f gap.old)) (unsourced (behind g gap.new))
   pub olds_stand : AreStatementParts gap.olds
   pub news_stand : AreStatementParts gap.news
@@ -142,7 +143,7 @@ abbrev pub Behindhand : Reading → (Part → Frame → Type 0) → Type 0
 Behindhand (read x fs f) P = P x f
 
 abbrev mutual
-  -- In this frame each run that is replaced is read to be what its gap says.
+  -- In this frame each run that is replaced is read to be what its gap says, and this frame is what the gap says is known in front of it.
   pub OldsRead : (p q : ℕ → Bool) (m : Moves) (gaps : List Gap) (f : Frame) (x y : Tree) → Changed p q m gaps x y → Type 0
   OldsRead p q m gaps f x y (whole z k e) = Unit {0}
   OldsRead p q m gaps f x y (inside k w i j ps qs d) = AllOldsRead p q m gaps f k [] (has_list k) ps qs d
@@ -155,7 +156,7 @@ abbrev mutual
   AllOldsRead p q m gaps f k xs b ts us (next z x y os bs c d) =
       OldsRead p q m gaps (entering k xs f) x y c × Behindhand (reading (entering k xs f) value x) (λ r t. AllOldsRead p q m gaps t k (xs ++ Some r ∷ []) z os bs d)
   AllOldsRead p q m gaps f k xs b ts us (left z os bs d) = AllOldsRead p q m gaps (entering k xs f) k (xs ++ None ∷ []) z os bs d
-  AllOldsRead p q m gaps f k xs b ts us (others n gap e os bs d) = (parts_in (run f gap.old) ≡ gap.olds) × AllOldsRead p q m gaps (behind f gap.old) k (xs ++ gap.olds) true os bs d
+  AllOldsRead p q m gaps f k xs b ts us (others n gap e os bs d) = (parts_in (run f gap.old) ≡ gap.olds) × (f ≡ gap.front) × AllOldsRead p q m gaps (behind f gap.old) k (xs ++ gap.olds) true os bs d
 
 -- ---- typed trees
 
