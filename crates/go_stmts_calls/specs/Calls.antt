@@ -5,7 +5,6 @@ use Rattle.go_tree.specs.declared.object.Object.TheVariants as object
 use Rattle.go_constants.specs.declared.values.Const.{Const}
 use Rattle.go_types.specs.Trees.{TypeTree, TypeRow, none, more, function}
 use Rattle.go_typed.specs.declared.form.Form.TheVariants as form
-use Rattle.go_typed.specs.Trees.{typed}
 use Rattle.go_typed.specs.Trees as sort
 use Rattle.go_exprs_rules.specs.Calls.{called, all_as}
 use Rattle.go_exprs_rules.specs.Scopes.{Needed, Scope, value, type_place}
