@@ -6,7 +6,7 @@ use Rattle.go_grammar.specs.declared.kind.Category.{Category}
 use Rattle.go_grammar.specs.declared.kind.Category.TheVariants as category
 use Rattle.go_grammar.specs.Grammar.{Derives}
 use Rattle.go_grammar.specs.Trees.{Tree, node, Trees, none, more, skip, onto}
-use Rattle.go_rewriting.specs.Places.{Patch, Patches, keep, put, inside, done, part, run, items_behind, Change, Range, range, changed, carry, carries, become, become_all, places}
+use Rattle.go_rewriting.specs.Places.{Patch, Patches, keep, put, inside, done, part, run, items_behind, Change, range, changed, become, become_all, places}
 use Rattle.go_rewriting.specs.Places as changes
 use Rattle.go_rewriting.specs.Replacing.{moved}
 use Rattle.go_rewriting.specs.Sites.{AreSites, Site, patch_of, with_sites}

@@ -25,7 +25,7 @@ use Rattle.go_tree.specs.declared.event.Declaration.{Declaration}
 use Rattle.go_tree.specs.declared.event.Event.{Event}
 use Rattle.go_tree.specs.declared.event.Event.TheVariants as event
 use Rattle.go_tree.specs.declared.event.Use.{Use}
-use Rattle.go_tree.specs.Contexts.{is_there, is_package, opens, block_in, end_in, is_called, role_in, called_in, if_name, if_first, field_role, key_role, parameter_role, entry_role, element_site, value_site, values_site}
+use Rattle.go_tree.specs.Contexts.{is_there, is_package, opens, block_in, end_in, is_called, role_in, called_in, if_name, if_first, field_role, key_role, parameter_role, entry_role, element_site, value_site}
 use Rattle.go_tree.specs.Contexts.{typed_site, site_in, specification_in, source_in, source_of, source_at, own_source, group_in, parameters_in, initial_in, enter}
 use Rattle.go_tree.specs.Contexts as contexts
 use Rattle.go_tree.specs.Events.{statement_events, own_events, name_events, misplaced, is_default, default_events, second_defaults, is_more, pass, begin, events, events_of}

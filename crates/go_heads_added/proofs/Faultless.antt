@@ -32,7 +32,7 @@ use Rattle.go_heads_added.specs.Within.{EventWithin, IsOfFunction, SiteWithin, S
 use Rattle.go_heads_added.proofs.Asks.{AsksFollow, asks_follow, undeclared_none, names_none, selected_none, calls_none, initials_none, still_used, still_imported}
 use Rattle.go_heads_added.proofs.Circles.{Maybe, IsOld, SourceHas, asked_has, from_has, numbered_has, imports_have, sourceless, itself_same, ComesFrom, function_never}
 use Rattle.go_heads_added.proofs.Files as files
-use Rattle.go_heads_added.proofs.Files.{test_false, rest_none, none_there, none_front, none_behind, none_both, failing_none, none_failing, least_none, Rule, Follows, files_none, changed_none, all_follow}
+use Rattle.go_heads_added.proofs.Files.{test_false, rest_none, none_there, none_front, none_behind, none_both, failing_none, none_failing, least_none, Rule, Follows, changed_none, all_follow}
 use Rattle.go_heads_added.proofs.Found.{found_before, found_after}
 use Rattle.go_heads_added.proofs.Names.{g, front, rest, all, kept, others, added, first_meanings, new_meanings, other_meanings, declarations_were, declarations_are, meanings_were, meanings_are, new_aside, parameters_new}
 use Rattle.go_heads_added.proofs.Numbers.{moved}

@@ -1,6 +1,6 @@
 //! Laws of a package with one function more, for the crates above. The functions do nothing: their contracts are the laws.
 
-ghost use Rattle.std.specs.Prelude.{◌≡◌, ℕ, suc, ◌≤◌, false, List, [], ◌∷◌, ◌++◌, length, map, None};
+ghost use Rattle.std.specs.Prelude.{◌≡◌, ℕ, suc, ◌≤◌, false, List, ◌∷◌, ◌++◌, length, map, None};
 ghost use Rattle.std.specs.List.{AllByRecursion};
 ghost use Rattle.go_tokens.specs.Tokens.{TokenList};
 ghost use Rattle.go_tokens.specs.declared.token.TokenKind.{TokenKind};

@@ -2,7 +2,7 @@
 use Rattle.std.proofs.Common.{◌≡◌, ◌∙◌, inl, inr, ℕ, zero, suc, refl, ap}
 use Rattle.go_types.specs.Trees.{TypeTree}
 use Rattle.go_typed.specs.declared.form.Form.TheVariants as form
-use Rattle.go_typed.specs.Trees.{Sort, Nothing, Typed, typed, Typeds, form_of, sort_mapped, mapped, all_mapped}
+use Rattle.go_typed.specs.Trees.{Sort, Typed, typed, Typeds, form_of, sort_mapped, mapped, all_mapped}
 use Rattle.go_typed.specs.Trees as trees
 use Rattle.go_stmts_scopes.specs.Runs.{IsExpression, AreExpressions, is_given}
 use Rattle.go_stmts_scopes.specs.Shapes.{IsName, AreNames, IsPost, IsFirst, is_tail, IsStatement, AreStatements, IsBranch, IsChoice, IsElse, IsSwitch, HasTag, AreClauses, IsClause, IsCase, IsLoop, HasCondition, HasPost}

@@ -11,7 +11,7 @@ use Rattle.go_grammar.specs.Trees as trees
 use Rattle.go_types.specs.Trees.{TypeTree, TypeRow, none, more, function}
 use Rattle.go_types_relations.specs.Identity.{is_identical}
 use Rattle.go_typed.specs.declared.form.Form.TheVariants as form
-use Rattle.go_typed.specs.Trees.{typed, Typeds, row, list_of, sort_of}
+use Rattle.go_typed.specs.Trees.{typed, row, list_of, sort_of}
 use Rattle.go_typed.specs.Trees as sort
 use Rattle.go_exprs_rules.specs.declared.fault.TypeFault.{TypeFault}
 use Rattle.go_exprs_rules.specs.Calls.{called}

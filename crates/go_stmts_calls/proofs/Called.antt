@@ -4,7 +4,7 @@ use Rattle.std.specs.Prelude.{◌&&◌, not, if◌then◌else◌, ◌==◌}
 use Rattle.std.proofs.lemmas.Bool.{eq-eqb}
 use Rattle.go_base.specs.declared.fault.FaultCode.TheVariants as code
 use Rattle.go_grammar.specs.declared.kind.Kind.TheVariants as kind
-use Rattle.go_grammar.specs.Trees.{Tree, Trees, node, last}
+use Rattle.go_grammar.specs.Trees.{Trees, last}
 use Rattle.go_grammar.specs.Trees as trees
 use Rattle.go_types.specs.Trees.{TypeTree, TypeRow, function}
 use Rattle.go_types_relations.specs.Identity.{is_identical}

@@ -12,14 +12,14 @@ use Rattle.go_types.specs.Trees.{TypeTree, boolean, text, integer, array, slice,
 use Rattle.go_types_relations.specs.Identity.{is_identical}
 use Rattle.go_typed.specs.declared.form.Form.{Form}
 use Rattle.go_typed.specs.declared.form.Form.TheVariants as form
-use Rattle.go_typed.specs.Trees.{Label, typed, Typeds, row, list_of, parts_of, form_of, sort_of}
+use Rattle.go_typed.specs.Trees.{Label, typed, Typeds, form_of, sort_of}
 use Rattle.go_typed.specs.Trees as sort
 use Rattle.go_exprs_rules.specs.declared.fault.TypeFault.{TypeFault}
 use Rattle.go_exprs_rules.specs.Names.{name_sort, object_form, declared_form, form_or_type}
 use Rattle.go_exprs_rules.specs.Scopes.{Hint, Scope, value, type_place, several}
 use Rattle.go_exprs_rules.specs.Settling.{Part}
 use Rattle.go_exprs_rules.specs.Sorts.{Stands, named_type}
-use Rattle.go_exprs_rules.specs.Tables.{Parts, is_held, held, is_type, leaf, first_cut, is_judged, made}
+use Rattle.go_exprs_rules.specs.Tables.{Parts, is_held, is_type, leaf, first_cut, is_judged, made}
 use Rattle.go_exprs_rules.specs.Tables as tables
 use Rattle.go_exprs_rules.specs.Typing.{typing, typings, faults}
 use Rattle.go_print_laws.specs.Calls.{Argument, declaration_at, statement_tree, statement_trees}

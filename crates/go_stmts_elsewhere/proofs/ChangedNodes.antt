@@ -6,7 +6,7 @@ use Rattle.go_grammar.specs.declared.kind.Kind.TheVariants as kind
 use Rattle.go_types.specs.Trees.{TypeTree}
 use Rattle.go_typed.specs.declared.form.Form.{Form}
 use Rattle.go_typed.specs.declared.form.Form.TheVariants as form
-use Rattle.go_typed.specs.Trees.{Label, typed, Typeds, row, list_of}
+use Rattle.go_typed.specs.Trees.{typed, Typeds, row}
 use Rattle.go_typed.specs.Trees as sort
 use Rattle.go_exprs_rules.specs.Settling.{Part, Take, stay, default, as_type, given}
 use Rattle.go_exprs_rules.specs.Tables.{Parts, held}

@@ -7,7 +7,7 @@ use Rattle.go_grammar.specs.Trees.{Tree, node, Trees, none, more, skip, onto}
 use Rattle.go_rewriting.specs.Places.{carry}
 use Rattle.go_typed.specs.declared.form.Form.TheVariants as form
 use Rattle.go_typed.specs.Contents.{FuncContent}
-use Rattle.go_typed.specs.Trees.{typed, Typeds, row, form_of, sort_of}
+use Rattle.go_typed.specs.Trees.{typed, row, form_of, sort_of}
 use Rattle.go_typed.specs.Trees as sort
 use Rattle.go_exprs_rules.specs.declared.fault.TypeFault.{TypeFault}
 use Rattle.go_tree.specs.declared.object.Object.{Object}

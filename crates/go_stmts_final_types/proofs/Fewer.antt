@@ -20,23 +20,21 @@ use Rattle.go_types.specs.Trees.{TypeTree}
 use Rattle.go_types.specs.Relations.{Rights}
 use Rattle.go_typed.specs.declared.form.Form.{Form}
 use Rattle.go_typed.specs.declared.form.Form.TheVariants as form
-use Rattle.go_typed.specs.Trees.{typed, sort_of, form_of, parts_of, list_of, row}
+use Rattle.go_typed.specs.Trees.{typed, sort_of, form_of, parts_of, list_of}
 use Rattle.go_typed.specs.Trees as sort
-use Rattle.go_exprs_rules.specs.declared.fault.TypeFault.{TypeFault}
 use Rattle.go_exprs_rules.specs.Faults.{or_else}
 use Rattle.go_exprs_rules.specs.Names.{object_sort, need_of, name_sort, object_form, form_or_type, name_form, place_failing}
 use Rattle.go_exprs_rules.specs.Scopes.{Needed, Scope, Hint, declares, free}
 use Rattle.go_exprs_rules.specs.Settling.{Part}
 use Rattle.go_exprs_rules.specs.Sorts.{Stands, is_unknown, named_type}
-use Rattle.go_exprs_rules.specs.Tables.{Parts, hint, part_scope, is_held, held, all_held, leaf, cut, first_cut, is_make_call, call_parts, has_no_low, bounds_of, bracketed_parts, is_package, selector_parts, layout, behind_first, on_one, form_by, selector_form, bracketed_form, callee_form, failing, sort_by, all_given, is_lost, is_judged, is_placed, own_faults, no_faults, is_sound, made, built_by, built_on, built}
+use Rattle.go_exprs_rules.specs.Tables.{Parts, hint, part_scope, is_held, held, all_held, leaf, cut, first_cut, is_make_call, call_parts, has_no_low, bounds_of, is_package, selector_parts, layout, form_by, selector_form, bracketed_form, callee_form, is_lost, is_judged, is_placed, own_faults, no_faults, is_sound, made, built_by, built_on, built}
 use Rattle.go_exprs_rules.specs.Tables as tables
 use Rattle.go_exprs_rules.specs.TypeNodes.{part_type, type_sort, is_parameter, second, entry_type, entry_of, first_entry, entry_types, with_front, all_types, is_result_list, result_types, parts_in, function_of, signature_type}
-use Rattle.go_exprs_rules.specs.Typing.{typing, typings}
+use Rattle.go_exprs_rules.specs.Typing.{typing}
 use Rattle.go_stmts_final_types.specs.Fewer.{KnowsLess, knowing}
 use Rattle.go_stmts_final_types.specs.Shapes.{IsShaped, AreShaped}
 use Rattle.go_stmts_final_types.proofs.Holders.{list_row}
 use Rattle.go_stmts_final_types.proofs.Operands.{name_fails, lone}
-use Rattle.go_stmts_final_types.proofs.RowRules.{front, behind_front, shaped_front, shaped_behind, shaped_skip}
 use Rattle.go_stmts_final_types.proofs.Rows.{ranked}
 use Rattle.go_stmts_final_types.proofs.Typing.{behind, typings_are}
 

@@ -20,8 +20,7 @@ use Rattle.go_exprs_rules.specs.Sorts.{constant_of, is_constant, is_whole, is_ne
 use Rattle.go_exprs_rules.specs.Tables.{no_faults}
 use Rattle.go_exprs_rules.specs.TypeNodes.{part_type, most_scalars, kept_length, length_in, exceeds, limit_failing, sequence_failing, array_of, sequence_type}
 use Rattle.go_stmts_limits.specs.Limits.{StandsIsWithin, RightsAreWithin}
-use Rattle.go_stmts_limits.proofs.Within.{MaybeWithin, MaybePart}
-use Rattle.go_stmts_limits.proofs.Values.{part_type_within}
+use Rattle.go_stmts_limits.proofs.Within.{MaybeWithin}
 
 -- The limit is judged in the scope, by right sides that begin with those of the scope named first, and all is within it that is known.
 pub record JudgesWithin (limit s : Scope) : Type 0 where

@@ -5,7 +5,6 @@ use Rattle.go_base.specs.declared.fault.FaultCode.TheVariants as code
 use Rattle.go_grammar.specs.declared.kind.Kind.{Kind}
 use Rattle.go_grammar.specs.declared.kind.Kind.TheVariants as kind
 use Rattle.go_grammar.specs.Trees.{Tree, node, Trees, none, more, skip, kind_of}
-use Rattle.go_types.specs.Trees.{TypeTree}
 use Rattle.go_types.specs.Relations.{Rights}
 use Rattle.go_typed.specs.Trees.{sort_of}
 use Rattle.go_exprs_rules.specs.declared.fault.TypeFault.{TypeFault}
@@ -13,8 +12,8 @@ use Rattle.go_exprs_rules.specs.Faults.{joined, or_else}
 use Rattle.go_exprs_rules.specs.Scopes.{Scope, Hint}
 use Rattle.go_exprs_rules.specs.Settling.{Part, at_part, unrepresented}
 use Rattle.go_exprs_rules.specs.Sorts.{constant_of, is_constant, is_whole, is_negative, int}
-use Rattle.go_exprs_rules.specs.Tables.{Parts, hint, part_scope, layout, on_optional, failing, sort_by, is_judged, placing, own_faults, is_sound, built_by, built, found}
-use Rattle.go_exprs_rules.specs.TypeNodes.{length_in, limit_failing, length_failing, sequence_failing, part_type}
+use Rattle.go_exprs_rules.specs.Tables.{Parts, hint, part_scope, on_optional, failing, sort_by, is_judged, placing, own_faults, is_sound, built_by, built, found}
+use Rattle.go_exprs_rules.specs.TypeNodes.{length_in, limit_failing, sequence_failing, part_type}
 use Rattle.go_exprs_rules.specs.Typing.{typing, typings, faults, faults_of_parts}
 use Rattle.go_stmts_limits.specs.Written.{unjudged}
 

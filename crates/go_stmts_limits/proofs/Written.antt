@@ -1,6 +1,5 @@
 -- A type that is written where the limit is judged is within it, whatever the right sides are that its names don't stand for.
 use Rattle.std.proofs.Common.{◌≡◌, ℕ, Bool, true, false, cond, List, [], ◌∷◌, ◌++◌, Option, Some, None, refl, sym, ap, subst, ◌∙◌, append_assoc, append-nil, IsTrue}
-use Rattle.std.specs.Prelude.{◌&&◌}
 use Rattle.go_tokens.specs.declared.token.TokenKind.{TokenKind}
 use Rattle.go_tokens.specs.declared.token.TokenKind.TheVariants as token
 use Rattle.go_grammar.specs.declared.kind.Category.{Category}
@@ -10,7 +9,7 @@ use Rattle.go_grammar.specs.declared.kind.Kind.TheVariants as kind
 use Rattle.go_grammar.specs.declared.kind.Place.{Place}
 use Rattle.go_grammar.specs.Categories.{is_type, is_result, within, place_of}
 use Rattle.go_grammar.specs.Grammar.{rule}
-use Rattle.go_grammar.specs.Rules.{Rule, End, Then, Maybe, Unless, Many, Items, Lines, Again, item}
+use Rattle.go_grammar.specs.Rules.{Rule, End, Then, Maybe, Unless, Many, Lines, Again, item}
 use Rattle.go_grammar.specs.Trees.{Tree, node, Trees, none, more, skip, kind_of}
 use Rattle.go_tree.specs.declared.object.Object.{Object}
 use Rattle.go_tree.specs.declared.object.Object.TheVariants as object
@@ -22,20 +21,18 @@ use Rattle.go_typed.specs.declared.form.Form.{Form}
 use Rattle.go_typed.specs.declared.form.Form.TheVariants as form
 use Rattle.go_typed.specs.Trees.{sort_of, form_of, parts_of, list_of, first_of, row}
 use Rattle.go_typed.specs.Trees as sort
-use Rattle.go_exprs_rules.specs.declared.fault.TypeFault.{TypeFault}
 use Rattle.go_exprs_rules.specs.Names.{predeclared_sort, object_sort, need_of, name_sort, object_form, declared_form, form_or_type, name_form}
 use Rattle.go_exprs_rules.specs.Scopes.{Needed, Scope, Hint, declares, free}
 use Rattle.go_exprs_rules.specs.Settling.{Part}
 use Rattle.go_exprs_rules.specs.Sorts.{Stands, named_type}
 use Rattle.go_exprs_rules.specs.Tables.{Parts, hint, part_scope, is_held, held, all_held, layout, on_one, on_optional, form_by, failing, sort_by, is_judged, placing, own_faults, is_sound, built_by, built_on, built}
-use Rattle.go_exprs_rules.specs.TypeNodes.{part_type, type_sort, sequence_failing, sequence_type, is_parameter, second, entry_type, entry_of, first_entry, entry_types, is_result_list, result_types, parts_in, signature_type, function_of, all_types, is_field_name, fields_of, fields_from, structure_of, types_of}
+use Rattle.go_exprs_rules.specs.TypeNodes.{part_type, type_sort, sequence_failing, sequence_type, is_parameter, second, entry_type, entry_of, first_entry, entry_types, is_result_list, result_types, parts_in, signature_type, all_types, is_field_name, fields_of, fields_from}
 use Rattle.go_exprs_rules.specs.Typing.{typing, typings}
-use Rattle.go_print_laws.specs.Reading.{IsWithin}
 use Rattle.go_stmts_final_types.specs.Shapes.{IsShaped, AreShaped}
 use Rattle.go_stmts_limits.specs.Written.{TypeIsWithin}
 use Rattle.go_stmts_limits.proofs.Within.{MaybeWithin}
 use Rattle.go_stmts_limits.proofs.Arrays.{sequence_within, none_failing}
-use Rattle.go_stmts_limits.proofs.Values.{branch, type_sort_within, EntriesWithin, first_within, RowOf, all_within, function_within, FieldsWithin, line_within, types_within}
+use Rattle.go_stmts_limits.proofs.Values.{branch, EntriesWithin, first_within, all_within, function_within, FieldsWithin, line_within, types_within}
 
 -- ---- lists of parts
 

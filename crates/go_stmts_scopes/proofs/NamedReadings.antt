@@ -10,7 +10,7 @@ use Rattle.go_tree.specs.declared.object.Object.{Object}
 use Rattle.go_types.specs.Trees.{TypeTree}
 use Rattle.go_typed.specs.declared.form.Form.{Form}
 use Rattle.go_typed.specs.declared.form.Form.TheVariants as form
-use Rattle.go_typed.specs.Trees.{typed, Typeds, row, list_of, form_of, sort_of, parts_of}
+use Rattle.go_typed.specs.Trees.{typed, list_of, form_of, sort_of, parts_of}
 use Rattle.go_typed.specs.Trees as trees
 use Rattle.go_exprs_rules.specs.declared.fault.TypeFault.{TypeFault}
 use Rattle.go_exprs_rules.specs.Scopes.{Hint, value}

@@ -11,7 +11,7 @@ use Rattle.go_types.specs.Trees.{TypeTree}
 use Rattle.go_types.specs.Relations.{Rights}
 use Rattle.go_typed.specs.declared.form.Form.{Form}
 use Rattle.go_typed.specs.declared.form.Form.TheVariants as form
-use Rattle.go_typed.specs.Trees.{typed, Typeds, row, list_of, form_of, sort_of, parts_of}
+use Rattle.go_typed.specs.Trees.{typed, Typeds, row, list_of, sort_of}
 use Rattle.go_typed.specs.Trees as trees
 use Rattle.go_exprs_rules.specs.declared.family.OpenKind.{OpenKind}
 use Rattle.go_exprs_rules.specs.Names.{name_sort, object_form, declared_form, form_or_type, name_form}

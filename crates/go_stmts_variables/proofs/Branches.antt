@@ -6,7 +6,7 @@ use Rattle.go_grammar.specs.Trees.{Tree, node, Trees, none, more, skip, kind_of}
 use Rattle.go_types.specs.Trees.{boolean}
 use Rattle.go_types.specs.Relations.{Rights}
 use Rattle.go_typed.specs.declared.form.Form.TheVariants as form
-use Rattle.go_typed.specs.Trees.{typed, sort_of, form_of, row, list_of}
+use Rattle.go_typed.specs.Trees.{sort_of, row}
 use Rattle.go_typed.specs.Trees as sort
 use Rattle.go_exprs_rules.specs.declared.family.Family.TheVariants as family
 use Rattle.go_exprs_rules.specs.declared.family.OpenKind.{OpenKind}

@@ -21,7 +21,7 @@ use Rattle.go_types.specs.Relations.{Rights}
 use Rattle.go_types_relations.specs.Tests.{underlying_of}
 use Rattle.go_typed.specs.declared.form.Form.{Form}
 use Rattle.go_typed.specs.declared.form.Form.TheVariants as form
-use Rattle.go_typed.specs.Trees.{Label, Typed, typed, Typeds, sort_of, form_of, row, list_of}
+use Rattle.go_typed.specs.Trees.{Label, typed, Typeds, sort_of, form_of, row}
 use Rattle.go_typed.specs.Trees as sort
 use Rattle.go_exprs_rules.specs.Calls.{results_of, called, function_call_sort, call_sort, call_takes}
 use Rattle.go_exprs_rules.specs.Names.{name_sort, name_form, object_form, declared_form, form_or_type}
@@ -38,7 +38,7 @@ use Rattle.clone_window.specs.Masses.{is_hole, is_inside, is_expression}
 use Rattle.clone_window.specs.Masses as masses
 use Rattle.go_exprs_variables.specs.Over.{sort_over, varies_over}
 use Rattle.go_exprs_variables.specs.Shapes.{IsShaped, AreShaped}
-use Rattle.go_exprs_variables.specs.Variables.{Standin, Standins, at_hole, put_over, put, all_put, with_variables, all_with_variables, Proper, begun, Fits, AllFit, no_rule_fails, ExpressionsTyped}
+use Rattle.go_exprs_variables.specs.Variables.{Standin, Standins, at_hole, put_over, put, all_put, with_variables, all_with_variables, Proper, begun, Fits, no_rule_fails, ExpressionsTyped}
 use Rattle.go_exprs_variables.specs.Variables as variables
 use Rattle.go_exprs_variables.proofs.Public.{behind, expression_operand, form_unkeyed, is_key, is_keyed_kind, is_operand, news, passed, passes, plain_sort, typings_are}
 use Rattle.go_stmts_variables.specs.Frames.{FramesStand}

@@ -6,7 +6,7 @@ use Rattle.go_grammar.specs.declared.kind.Comparison.TheVariants as comparison
 use Rattle.go_types.specs.Trees.{TypeTree}
 use Rattle.go_types.specs.Relations.{Rights}
 use Rattle.go_types_relations.specs.Tests.{underlying_of, is_assignable, is_comparable}
-use Rattle.go_typed.specs.Trees.{Typed, typed, sort_of, first_of, last_of}
+use Rattle.go_typed.specs.Trees.{sort_of, first_of, last_of}
 use Rattle.go_typed.specs.Trees as sort
 use Rattle.go_exprs_rules.specs.declared.family.OpenKind.{OpenKind}
 use Rattle.go_exprs_rules.specs.Faults.{fault_at}

@@ -9,7 +9,7 @@ use Rattle.go_grammar.specs.Trees.{Tree, Trees, node, none, more, skip, kind_of}
 use Rattle.go_types.specs.Trees.{TypeTree, boolean}
 use Rattle.go_types.specs.Relations.{Rights}
 use Rattle.go_typed.specs.declared.form.Form.TheVariants as form
-use Rattle.go_typed.specs.Trees.{sort_of, form_of, parts_of, list_of, row}
+use Rattle.go_typed.specs.Trees.{form_of, parts_of, list_of, row}
 use Rattle.go_typed.specs.Trees as sort
 use Rattle.go_exprs_rules.specs.declared.family.OpenKind.TheVariants as untyped_kind
 use Rattle.go_exprs_rules.specs.Scopes.{Scope, Hint, value}
@@ -19,7 +19,7 @@ use Rattle.go_exprs_rules.specs.Tables.{Parts, is_held, all_held, made}
 use Rattle.go_stmts_defs.specs.Assigning.{Taking, takes, type_or_default}
 use Rattle.go_stmts_defs.specs.Frames.{Frame, rights_of, scope_of}
 use Rattle.go_stmts_defs.specs.Reading.{Found, list_node, holdings, all_held_faults, reading}
-use Rattle.go_stmts_defs.specs.Rules.{case_failing, all_given, taking}
+use Rattle.go_stmts_defs.specs.Rules.{case_failing, all_given}
 use Rattle.go_stmts_defs.specs.Rules as rules
 use Rattle.go_exprs_variables.specs.Stood.{Stood}
 use Rattle.go_exprs_variables.specs.Variables.{Standins, with_variables, all_with_variables, AllProper, begun, Fits, AllFit, no_rule_fails, ExpressionsTyped}

@@ -8,7 +8,7 @@ use Rattle.go_grammar.specs.Categories as categories
 use Rattle.go_grammar.specs.Grammar.{any}
 use Rattle.go_grammar.specs.Trees.{Tree, Trees, node, none, more, skip, kind_of}
 use Rattle.go_typed.specs.declared.form.Form.TheVariants as form
-use Rattle.go_typed.specs.Trees.{form_of, list_of, row}
+use Rattle.go_typed.specs.Trees.{list_of, row}
 use Rattle.go_typed.specs.Trees as sort
 use Rattle.go_exprs_rules.specs.Scopes.{Hint, value, type_place}
 use Rattle.go_exprs_rules.specs.Settling.{Part}

@@ -11,7 +11,7 @@ use Rattle.go_tree.specs.declared.object.Object.TheVariants as object
 use Rattle.go_types.specs.Trees.{TypeTree}
 use Rattle.go_typed.specs.declared.form.Form.{Form}
 use Rattle.go_typed.specs.declared.form.Form.TheVariants as form
-use Rattle.go_typed.specs.Trees.{Label, Typed, typed, sort_of, form_of, label_of, row}
+use Rattle.go_typed.specs.Trees.{Label, typed, sort_of, form_of, label_of, row}
 use Rattle.go_typed.specs.Trees as sort
 use Rattle.go_exprs_rules.specs.Names.{name_sort, object_form, declared_form, form_or_type}
 use Rattle.go_exprs_rules.specs.Scopes.{Scope, Hint, type_place}

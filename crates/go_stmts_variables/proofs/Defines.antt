@@ -24,7 +24,7 @@ use Rattle.go_stmts_defs.specs.Assigning.{Wanted, Taking, takes, stands, at_nil,
 use Rattle.go_stmts_defs.specs.Frames.{Frame, Locals, known, declared_type, rights_of, scope_of}
 use Rattle.go_stmts_defs.specs.Laying.{new_or_known, new_form, new_name, local_named}
 use Rattle.go_stmts_defs.specs.Reading.{Found, is_new, list_node, holdings, all_held_faults, reading, readings, back}
-use Rattle.go_stmts_defs.specs.Rules.{form_type, known_type, define_failing, define_takes, split_at, all_given, given_part, taking}
+use Rattle.go_stmts_defs.specs.Rules.{form_type, known_type, define_failing, define_takes, split_at, all_given, taking}
 use Rattle.go_stmts_defs.specs.Rules as rules
 use Rattle.go_exprs_variables.specs.Operands.{Operand}
 use Rattle.go_exprs_variables.specs.Stood.{Stood, as_before, in_place, early}

@@ -6,7 +6,7 @@ use Rattle.go_types.specs.Trees.{TypeTree}
 use Rattle.go_typed.specs.declared.form.Form.{Form}
 use Rattle.go_typed.specs.declared.form.Form.TheVariants as form
 use Rattle.go_typed.specs.Forms.{is_default}
-use Rattle.go_typed.specs.Trees.{Label, Typed, typed, Typeds, form_of, list_of}
+use Rattle.go_typed.specs.Trees.{Label, typed, Typeds, form_of, list_of}
 use Rattle.go_typed.specs.Trees as sort
 use Rattle.go_exprs_rules.specs.Settling.{Part}
 use Rattle.go_exprs_rules.specs.Tables.{Parts, on_one}

@@ -24,7 +24,7 @@ use Rattle.go_exprs_rules.specs.Sorts.{Stands, is_open, is_nil, is_unknown}
 use Rattle.go_exprs_rules.specs.Tables.{Parts, layout, on_first, callee_form, selector_form, bracketed_form, form_by, is_type, is_placed, is_judged, is_sound, no_faults, own_faults, failing, placing, sort_by, built_by}
 use Rattle.go_exprs_rules.specs.Typing.{typing, typings, faults}
 use Rattle.go_stmts_defs.specs.Frames.{Frame, scope_of}
-use Rattle.go_stmts_defs.specs.Reading.{Reading, read, reading, readings, is_statement, is_list, is_declared_name, is_new, holding, held_faults}
+use Rattle.go_stmts_defs.specs.Reading.{read, reading, readings, is_statement, is_list, is_declared_name, is_new, holding, held_faults}
 use Rattle.go_stmts_defs.specs.Reading as reads
 use Rattle.go_stmts_defs.specs.Laying as laying
 use Rattle.go_exprs_variables.specs.Shapes.{IsShaped}

@@ -8,7 +8,7 @@ use Rattle.go_grammar.specs.Trees.{Tree, Trees, node, none, more, skip}
 use Rattle.go_types.specs.Trees.{TypeTree}
 use Rattle.go_typed.specs.declared.form.Form.{Form}
 use Rattle.go_typed.specs.declared.form.Form.TheVariants as form
-use Rattle.go_typed.specs.Trees.{typed, sort_of, form_of, label_of, parts_of, list_of, row}
+use Rattle.go_typed.specs.Trees.{typed, sort_of, form_of, label_of, parts_of, list_of}
 use Rattle.go_typed.specs.Trees as sort
 use Rattle.go_exprs_rules.specs.declared.fault.TypeFault.{TypeFault}
 use Rattle.go_exprs_rules.specs.Names.{declared_form}

@@ -10,7 +10,7 @@ use Rattle.go_typed.specs.declared.form.Form.{Form}
 use Rattle.go_typed.specs.declared.form.Form.TheVariants as form
 use Rattle.go_typed.specs.declared.form.Referent.{Referent}
 use Rattle.go_typed.specs.declared.form.Referent.TheVariants as referent
-use Rattle.go_typed.specs.Trees.{Label, Typed, typed, Typeds, sort_of, form_of, label_of, list_of}
+use Rattle.go_typed.specs.Trees.{Label, typed, Typeds, sort_of, form_of, label_of, list_of}
 use Rattle.go_typed.specs.Trees as sort
 use Rattle.go_exprs_rules.specs.Names.{declared_form}
 use Rattle.go_exprs_rules.specs.Scopes.{Scope, declares}

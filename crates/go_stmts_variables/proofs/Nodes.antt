@@ -6,7 +6,7 @@ use Rattle.go_grammar.specs.declared.kind.Kind.{Kind}
 use Rattle.go_grammar.specs.Trees.{Tree, Trees, node, kind_of}
 use Rattle.go_types.specs.Trees.{TypeTree}
 use Rattle.go_typed.specs.declared.form.Form.{Form}
-use Rattle.go_typed.specs.Trees.{Label, Typed, typed, sort_of, row}
+use Rattle.go_typed.specs.Trees.{Label, typed, sort_of, row}
 use Rattle.go_typed.specs.Trees as sort
 use Rattle.go_exprs_rules.specs.declared.family.OpenKind.{OpenKind}
 use Rattle.go_exprs_rules.specs.Scopes.{Hint}

@@ -10,7 +10,7 @@ use Rattle.go_grammar.specs.Grammar.{any}
 use Rattle.go_grammar.specs.Trees.{Tree, Trees, node, none, more}
 use Rattle.go_types.specs.Relations.{Rights}
 use Rattle.go_typed.specs.declared.form.Form.TheVariants as form
-use Rattle.go_typed.specs.Trees.{sort_of, row}
+use Rattle.go_typed.specs.Trees.{sort_of}
 use Rattle.go_typed.specs.Trees as sort
 use Rattle.go_exprs_rules.specs.Operators.{operation_failing, operation_takes}
 use Rattle.go_exprs_rules.specs.Scopes.{Hint, value}

@@ -4,7 +4,7 @@ use Rattle.std.specs.Prelude.{◌&&◌, ◌||◌, not, is_some}
 use Rattle.go_types.specs.Trees.{TypeTree}
 use Rattle.go_typed.specs.declared.form.Form.{Form}
 use Rattle.go_typed.specs.declared.form.Form.TheVariants as form
-use Rattle.go_typed.specs.Trees.{Label, Typed, typed, Typeds, sort_of, form_of, label_of, row}
+use Rattle.go_typed.specs.Trees.{Label, typed, Typeds, sort_of, form_of, label_of, row}
 use Rattle.go_typed.specs.Trees as sort
 use Rattle.go_exprs_rules.specs.declared.family.OpenKind.{OpenKind}
 use Rattle.go_exprs_rules.specs.Settling.{Part, settled, Take, stay, default, as_type, given, defaulted}

@@ -9,7 +9,7 @@ use Rattle.go_grammar.specs.Grammar.{any}
 use Rattle.go_grammar.specs.Trees.{Tree, Trees, node, none, more}
 use Rattle.go_types.specs.Relations.{Rights}
 use Rattle.go_typed.specs.declared.form.Form.TheVariants as form
-use Rattle.go_typed.specs.Trees.{sort_of, form_of, label_of, parts_of, list_of, row}
+use Rattle.go_typed.specs.Trees.{form_of, label_of, parts_of, list_of, row}
 use Rattle.go_typed.specs.Trees as sort
 use Rattle.go_exprs_rules.specs.declared.fault.TypeFault.{TypeFault}
 use Rattle.go_exprs_rules.specs.Scopes.{value, target}

@@ -7,7 +7,7 @@ use Rattle.go_grammar.specs.Trees.{Tree, Trees, node, none, more}
 use Rattle.go_types.specs.Trees.{TypeTree}
 use Rattle.go_types.specs.Relations.{Rights}
 use Rattle.go_typed.specs.declared.form.Form.TheVariants as form
-use Rattle.go_typed.specs.Trees.{typed, Typeds, sort_of, form_of, label_of, list_of, row}
+use Rattle.go_typed.specs.Trees.{typed, Typeds, sort_of, list_of, row}
 use Rattle.go_typed.specs.Trees as sort
 use Rattle.go_exprs_rules.specs.declared.family.OpenKind.{OpenKind}
 use Rattle.go_exprs_rules.specs.Scopes.{Hint, value}
@@ -21,7 +21,7 @@ use Rattle.go_stmts_defs.specs.Reading.{reading}
 use Rattle.go_stmts_defs.specs.Rules.{is_open_number, number_target, range_types, range_assigned, range_failing, target_type, targets_failing, rest, operand_takes, is_first_number, target_there, all_given, taking, split_at}
 use Rattle.go_exprs_variables.specs.Operands.{Operand}
 use Rattle.go_exprs_variables.specs.Stood.{Stood, as_before, in_place, early}
-use Rattle.go_exprs_variables.specs.Variables.{Standins, with_variables, all_with_variables, all_begun, begun, Fits, AllFit, no_rule_fails, ExpressionsTyped}
+use Rattle.go_exprs_variables.specs.Variables.{Standins, all_with_variables, all_begun, begun, Fits, AllFit, no_rule_fails}
 use Rattle.go_exprs_variables.specs.Variables as variables
 use Rattle.go_exprs_variables.proofs.Public.{All, all_new, all_of, both_none, default_suits, each, keeps_type, length_new, new_part, news, news_each}
 use Rattle.go_stmts_variables.specs.Frames.{FramesStand}

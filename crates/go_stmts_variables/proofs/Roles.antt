@@ -10,7 +10,7 @@ use Rattle.go_grammar.specs.Trees.{Tree, node, Trees, none, more, skip, kind_of}
 use Rattle.go_types.specs.Trees.{TypeTree, boolean}
 use Rattle.go_types.specs.Relations.{Rights}
 use Rattle.go_typed.specs.declared.form.Form.TheVariants as form
-use Rattle.go_typed.specs.Trees.{Label, Typed, typed, Typeds, sort_of, form_of, label_of, parts_of, list_of, row}
+use Rattle.go_typed.specs.Trees.{typed, Typeds, sort_of, label_of, row}
 use Rattle.go_typed.specs.Trees as sort
 use Rattle.go_exprs_rules.specs.declared.family.OpenKind.TheVariants as untyped_kind
 use Rattle.go_exprs_rules.specs.Scopes.{Hint, value}

@@ -11,7 +11,7 @@ use Rattle.go_grammar.specs.Trees.{Tree, Trees, node, none, more, kind_of}
 use Rattle.go_types.specs.Trees.{TypeTree}
 use Rattle.go_types.specs.Relations.{Rights}
 use Rattle.go_typed.specs.declared.form.Form.TheVariants as form
-use Rattle.go_typed.specs.Trees.{typed, sort_of, form_of, parts_of, list_of, row}
+use Rattle.go_typed.specs.Trees.{typed, form_of, parts_of, list_of, row}
 use Rattle.go_typed.specs.Trees as sort
 use Rattle.go_exprs_rules.specs.Scopes.{Hint, several, type_place, declares}
 use Rattle.go_exprs_rules.specs.Settling.{Part}

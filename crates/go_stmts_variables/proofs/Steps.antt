@@ -20,7 +20,7 @@ use Rattle.go_stmts_defs.specs.Reading.{reading}
 use Rattle.go_stmts_defs.specs.Rules.{not_a_variable, step_failing}
 use Rattle.go_stmts_defs.specs.Targets.{is_variable}
 use Rattle.go_exprs_variables.specs.Shapes.{IsShaped}
-use Rattle.go_exprs_variables.specs.Variables.{Standins, all_with_variables, with_variables, Proper, begun, Fits, AllFit, no_rule_fails, ExpressionsTyped}
+use Rattle.go_exprs_variables.specs.Variables.{Standins, all_with_variables, Proper, begun, Fits, no_rule_fails, ExpressionsTyped}
 use Rattle.go_exprs_variables.specs.Variables as variables
 use Rattle.go_exprs_variables.proofs.Public.{all_of, both_none, expression_operand, held, holds, news, none_of_both, passed, passes, typed_operand, whole_kept}
 use Rattle.go_stmts_variables.specs.Frames.{FramesStand}

@@ -16,7 +16,7 @@ use Rattle.go_types.specs.Relations.{Rights}
 use Rattle.go_typed.specs.declared.form.Form.{Form}
 use Rattle.go_typed.specs.declared.form.Form.TheVariants as form
 use Rattle.go_typed.specs.declared.form.Referent.TheVariants as referent
-use Rattle.go_typed.specs.Trees.{Label, Typed, typed, Typeds, sort_of, form_of, row}
+use Rattle.go_typed.specs.Trees.{Label, typed, Typeds, sort_of, row}
 use Rattle.go_typed.specs.Trees as sort
 use Rattle.go_exprs_rules.specs.Indexes.{value_or_unknown, named_field, selector_sort, index_sort}
 use Rattle.go_exprs_rules.specs.Names.{name_sort, name_form, object_sort, object_form, form_or_type, need_of}

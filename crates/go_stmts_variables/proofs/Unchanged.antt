@@ -7,7 +7,7 @@ use Rattle.go_grammar.specs.Trees.{Tree, node, Trees, none, more, skip, kind_of}
 use Rattle.go_types.specs.Trees.{TypeTree}
 use Rattle.go_typed.specs.declared.form.Form.{Form}
 use Rattle.go_typed.specs.declared.form.Form.TheVariants as form
-use Rattle.go_typed.specs.Trees.{Label, Typed, typed, Typeds, sort_of, form_of, label_of, parts_of, list_of, row}
+use Rattle.go_typed.specs.Trees.{Label, typed, Typeds, sort_of, label_of, parts_of, list_of, row}
 use Rattle.go_typed.specs.Trees as sort
 use Rattle.go_exprs_rules.specs.declared.family.OpenKind.{OpenKind}
 use Rattle.go_exprs_rules.specs.declared.fault.TypeFault.{TypeFault}
