@@ -1,5 +1,5 @@
 -- Worked examples: a function that nothing names, appended to a package of one file, and to the first of two.
-use Rattle.std.specs.Prelude.{◌≡◌, List, [], ◌∷◌, codes, Ok}
+use Rattle.std.specs.Prelude.{◌≡◌, List, [], ◌∷◌, ◌++◌, codes, Ok}
 use Rattle.go_ints.specs.declared.kinds.Kind.TheVariants as integer_kind
 use Rattle.go_tokens.specs.declared.token.TokenKind.TheVariants as token
 use Rattle.go_types.specs.Trees.{TypeTree, integer, function, row}
@@ -17,16 +17,25 @@ of_one = sort.Value (function (row (int ∷ [])) (row (int ∷ [])))
 abbrev pub of_two : Stands
 of_two = sort.Value (function (row (int ∷ int ∷ [])) (row (int ∷ [])))
 
--- package p ; func f ( a int ) int { b := a + 1 ; b = b * 2 ; return b ; } ; func g ( x int ) int { y := x + 5 ; y = y * 2 ; return y ; } ;
-abbrev pub one_file : List Word
-one_file = (
-    (token.Package, codes "package") ∷ (token.Identifier, codes "p") ∷ (token.Semicolon, codes ";") ∷ (token.Func, codes "func") ∷
-    (token.Identifier, codes "f") ∷ (token.LeftParenthesis, codes "(") ∷ (token.Identifier, codes "a") ∷ (token.Identifier, codes "int") ∷
-    (token.RightParenthesis, codes ")") ∷ (token.Identifier, codes "int") ∷ (token.LeftBrace, codes "{") ∷ (token.Identifier, codes "b") ∷
-    (token.Define, codes ":=") ∷ (token.Identifier, codes "a") ∷ (token.Plus, codes "+") ∷ (token.Integer, codes "1") ∷
-    (token.Semicolon, codes ";") ∷ (token.Identifier, codes "b") ∷ (token.Assign, codes "=") ∷ (token.Identifier, codes "b") ∷
-    (token.Star, codes "*") ∷ (token.Integer, codes "2") ∷ (token.Semicolon, codes ";") ∷ (token.Return, codes "return") ∷
-    (token.Identifier, codes "b") ∷ (token.Semicolon, codes ";") ∷ (token.RightBrace, codes "}") ∷ (token.Semicolon, codes ";") ∷
+-- package p ;
+abbrev pub clause : List Word
+clause = (
+    (token.Package, codes "package") ∷ (token.Identifier, codes "p") ∷ (token.Semicolon, codes ";") ∷ [])
+
+-- func f ( a int ) int { b := a + 1 ; b = b * 2 ; return b ; } ;
+abbrev pub first : List Word
+first = (
+    (token.Func, codes "func") ∷ (token.Identifier, codes "f") ∷ (token.LeftParenthesis, codes "(") ∷ (token.Identifier, codes "a") ∷
+    (token.Identifier, codes "int") ∷ (token.RightParenthesis, codes ")") ∷ (token.Identifier, codes "int") ∷ (token.LeftBrace, codes "{") ∷
+    (token.Identifier, codes "b") ∷ (token.Define, codes ":=") ∷ (token.Identifier, codes "a") ∷ (token.Plus, codes "+") ∷
+    (token.Integer, codes "1") ∷ (token.Semicolon, codes ";") ∷ (token.Identifier, codes "b") ∷ (token.Assign, codes "=") ∷
+    (token.Identifier, codes "b") ∷ (token.Star, codes "*") ∷ (token.Integer, codes "2") ∷ (token.Semicolon, codes ";") ∷
+    (token.Return, codes "return") ∷ (token.Identifier, codes "b") ∷ (token.Semicolon, codes ";") ∷ (token.RightBrace, codes "}") ∷
+    (token.Semicolon, codes ";") ∷ [])
+
+-- func g ( x int ) int { y := x + 5 ; y = y * 2 ; return y ; } ;
+abbrev pub second : List Word
+second = (
     (token.Func, codes "func") ∷ (token.Identifier, codes "g") ∷ (token.LeftParenthesis, codes "(") ∷ (token.Identifier, codes "x") ∷
     (token.Identifier, codes "int") ∷ (token.RightParenthesis, codes ")") ∷ (token.Identifier, codes "int") ∷ (token.LeftBrace, codes "{") ∷
     (token.Identifier, codes "y") ∷ (token.Define, codes ":=") ∷ (token.Identifier, codes "x") ∷ (token.Plus, codes "+") ∷
@@ -35,68 +44,18 @@ one_file = (
     (token.Return, codes "return") ∷ (token.Identifier, codes "y") ∷ (token.Semicolon, codes ";") ∷ (token.RightBrace, codes "}") ∷
     (token.Semicolon, codes ";") ∷ [])
 
--- package p ; func f ( a int ) int { b := a + 1 ; b = b * 2 ; return b ; } ; func g ( x int ) int { y := x + 5 ; y = y * 2 ; return y ; } ; func addmul ( x int , p0 int ) int { } ;
-abbrev pub one_longer : List Word
-one_longer = (
-    (token.Package, codes "package") ∷ (token.Identifier, codes "p") ∷ (token.Semicolon, codes ";") ∷ (token.Func, codes "func") ∷
-    (token.Identifier, codes "f") ∷ (token.LeftParenthesis, codes "(") ∷ (token.Identifier, codes "a") ∷ (token.Identifier, codes "int") ∷
-    (token.RightParenthesis, codes ")") ∷ (token.Identifier, codes "int") ∷ (token.LeftBrace, codes "{") ∷ (token.Identifier, codes "b") ∷
-    (token.Define, codes ":=") ∷ (token.Identifier, codes "a") ∷ (token.Plus, codes "+") ∷ (token.Integer, codes "1") ∷
-    (token.Semicolon, codes ";") ∷ (token.Identifier, codes "b") ∷ (token.Assign, codes "=") ∷ (token.Identifier, codes "b") ∷
-    (token.Star, codes "*") ∷ (token.Integer, codes "2") ∷ (token.Semicolon, codes ";") ∷ (token.Return, codes "return") ∷
-    (token.Identifier, codes "b") ∷ (token.Semicolon, codes ";") ∷ (token.RightBrace, codes "}") ∷ (token.Semicolon, codes ";") ∷
-    (token.Func, codes "func") ∷ (token.Identifier, codes "g") ∷ (token.LeftParenthesis, codes "(") ∷ (token.Identifier, codes "x") ∷
-    (token.Identifier, codes "int") ∷ (token.RightParenthesis, codes ")") ∷ (token.Identifier, codes "int") ∷ (token.LeftBrace, codes "{") ∷
-    (token.Identifier, codes "y") ∷ (token.Define, codes ":=") ∷ (token.Identifier, codes "x") ∷ (token.Plus, codes "+") ∷
-    (token.Integer, codes "5") ∷ (token.Semicolon, codes ";") ∷ (token.Identifier, codes "y") ∷ (token.Assign, codes "=") ∷
-    (token.Identifier, codes "y") ∷ (token.Star, codes "*") ∷ (token.Integer, codes "2") ∷ (token.Semicolon, codes ";") ∷
-    (token.Return, codes "return") ∷ (token.Identifier, codes "y") ∷ (token.Semicolon, codes ";") ∷ (token.RightBrace, codes "}") ∷
-    (token.Semicolon, codes ";") ∷ (token.Func, codes "func") ∷ (token.Identifier, codes "addmul") ∷ (token.LeftParenthesis, codes "(") ∷
-    (token.Identifier, codes "x") ∷ (token.Identifier, codes "int") ∷ (token.Comma, codes ",") ∷ (token.Identifier, codes "p0") ∷
-    (token.Identifier, codes "int") ∷ (token.RightParenthesis, codes ")") ∷ (token.Identifier, codes "int") ∷ (token.LeftBrace, codes "{") ∷
-    (token.RightBrace, codes "}") ∷ (token.Semicolon, codes ";") ∷ [])
-
--- package p ; func f ( a int ) int { b := a + 1 ; b = b * 2 ; return b ; } ;
-abbrev pub first_file : List Word
-first_file = (
-    (token.Package, codes "package") ∷ (token.Identifier, codes "p") ∷ (token.Semicolon, codes ";") ∷ (token.Func, codes "func") ∷
-    (token.Identifier, codes "f") ∷ (token.LeftParenthesis, codes "(") ∷ (token.Identifier, codes "a") ∷ (token.Identifier, codes "int") ∷
-    (token.RightParenthesis, codes ")") ∷ (token.Identifier, codes "int") ∷ (token.LeftBrace, codes "{") ∷ (token.Identifier, codes "b") ∷
-    (token.Define, codes ":=") ∷ (token.Identifier, codes "a") ∷ (token.Plus, codes "+") ∷ (token.Integer, codes "1") ∷
-    (token.Semicolon, codes ";") ∷ (token.Identifier, codes "b") ∷ (token.Assign, codes "=") ∷ (token.Identifier, codes "b") ∷
-    (token.Star, codes "*") ∷ (token.Integer, codes "2") ∷ (token.Semicolon, codes ";") ∷ (token.Return, codes "return") ∷
-    (token.Identifier, codes "b") ∷ (token.Semicolon, codes ";") ∷ (token.RightBrace, codes "}") ∷ (token.Semicolon, codes ";") ∷ [])
-
--- package p ; func f ( a int ) int { b := a + 1 ; b = b * 2 ; return b ; } ; func addmul ( x int , p0 int ) int { } ;
-abbrev pub first_longer : List Word
-first_longer = (
-    (token.Package, codes "package") ∷ (token.Identifier, codes "p") ∷ (token.Semicolon, codes ";") ∷ (token.Func, codes "func") ∷
-    (token.Identifier, codes "f") ∷ (token.LeftParenthesis, codes "(") ∷ (token.Identifier, codes "a") ∷ (token.Identifier, codes "int") ∷
-    (token.RightParenthesis, codes ")") ∷ (token.Identifier, codes "int") ∷ (token.LeftBrace, codes "{") ∷ (token.Identifier, codes "b") ∷
-    (token.Define, codes ":=") ∷ (token.Identifier, codes "a") ∷ (token.Plus, codes "+") ∷ (token.Integer, codes "1") ∷
-    (token.Semicolon, codes ";") ∷ (token.Identifier, codes "b") ∷ (token.Assign, codes "=") ∷ (token.Identifier, codes "b") ∷
-    (token.Star, codes "*") ∷ (token.Integer, codes "2") ∷ (token.Semicolon, codes ";") ∷ (token.Return, codes "return") ∷
-    (token.Identifier, codes "b") ∷ (token.Semicolon, codes ";") ∷ (token.RightBrace, codes "}") ∷ (token.Semicolon, codes ";") ∷
+-- func addmul ( x int , p0 int ) int { } ;
+abbrev pub added : List Word
+added = (
     (token.Func, codes "func") ∷ (token.Identifier, codes "addmul") ∷ (token.LeftParenthesis, codes "(") ∷ (token.Identifier, codes "x") ∷
     (token.Identifier, codes "int") ∷ (token.Comma, codes ",") ∷ (token.Identifier, codes "p0") ∷ (token.Identifier, codes "int") ∷
     (token.RightParenthesis, codes ")") ∷ (token.Identifier, codes "int") ∷ (token.LeftBrace, codes "{") ∷ (token.RightBrace, codes "}") ∷
     (token.Semicolon, codes ";") ∷ [])
 
--- package p ; func g ( x int ) int { y := x + 5 ; y = y * 2 ; return y ; } ;
-abbrev pub second_file : List Word
-second_file = (
-    (token.Package, codes "package") ∷ (token.Identifier, codes "p") ∷ (token.Semicolon, codes ";") ∷ (token.Func, codes "func") ∷
-    (token.Identifier, codes "g") ∷ (token.LeftParenthesis, codes "(") ∷ (token.Identifier, codes "x") ∷ (token.Identifier, codes "int") ∷
-    (token.RightParenthesis, codes ")") ∷ (token.Identifier, codes "int") ∷ (token.LeftBrace, codes "{") ∷ (token.Identifier, codes "y") ∷
-    (token.Define, codes ":=") ∷ (token.Identifier, codes "x") ∷ (token.Plus, codes "+") ∷ (token.Integer, codes "5") ∷
-    (token.Semicolon, codes ";") ∷ (token.Identifier, codes "y") ∷ (token.Assign, codes "=") ∷ (token.Identifier, codes "y") ∷
-    (token.Star, codes "*") ∷ (token.Integer, codes "2") ∷ (token.Semicolon, codes ";") ∷ (token.Return, codes "return") ∷
-    (token.Identifier, codes "y") ∷ (token.Semicolon, codes ";") ∷ (token.RightBrace, codes "}") ∷ (token.Semicolon, codes ";") ∷ [])
-
 pub record Examples : Type 0 where
   -- Two functions of one file, and behind them the new one.
-  pub one : stated (one_file ∷ []) ≡ Ok (of_one ∷ of_one ∷ [])
-  pub one_more : stated (one_longer ∷ []) ≡ Ok (of_one ∷ of_one ∷ of_two ∷ [])
+  pub one : stated ((clause ++ first ++ second) ∷ []) ≡ Ok (of_one ∷ of_one ∷ [])
+  pub one_more : stated ((clause ++ first ++ second ++ added) ∷ []) ≡ Ok (of_one ∷ of_one ∷ of_two ∷ [])
   -- A function in each of two files, and the new one between: the second has the next number.
-  pub two : stated (first_file ∷ second_file ∷ []) ≡ Ok (of_one ∷ of_one ∷ [])
-  pub two_more : stated (first_longer ∷ second_file ∷ []) ≡ Ok (of_one ∷ of_two ∷ of_one ∷ [])
+  pub two : stated ((clause ++ first) ∷ (clause ++ second) ∷ []) ≡ Ok (of_one ∷ of_one ∷ [])
+  pub two_more : stated ((clause ++ first ++ added) ∷ (clause ++ second) ∷ []) ≡ Ok (of_one ∷ of_two ∷ of_one ∷ [])
