@@ -4,7 +4,7 @@ use Rattle.go_tree.specs.Meanings.{meanings}
 use Rattle.go_typed.specs.Packages.{PackageView}
 use Rattle.go_print.specs.Literals.{boolean_text}
 use Rattle.go_scopes.specs.Resolve.{units_of}
-use Rattle.go_scopes_lookup.specs.Named.{IsNamed, all_meanings}
+use Rattle.go_scopes_named.specs.Named.{IsNamed, all_meanings}
 use Rattle.escape_check.specs.declared.site.HiddenAtSite.{HiddenAtSite}
 use Rattle.escape_check.specs.declared.site.Truths.{Truths}
 use Rattle.escape_check.specs.Collecting.{KnowsTypes}

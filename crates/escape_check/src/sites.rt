@@ -4,7 +4,7 @@ ghost use Rattle.std.specs.Prelude.{◌≡◌, ◌<◌, ◌≤◌, ◌++◌, ℕ
 ghost use Rattle.std.specs.List.{AllByRecursion};
 ghost use Rattle.std.specs.Option.{option_map};
 ghost use Rattle.go_scopes.specs.Resolve as trees;
-ghost use Rattle.go_scopes_lookup.specs.Named.{IsNamed, all_meanings};
+ghost use Rattle.go_scopes_named.specs.Named.{IsNamed, all_meanings};
 ghost use Rattle.go_scopes_lookup.specs.Views.{asked_view, units_view};
 ghost use Rattle.go_tree.specs.Meanings.{meanings};
 ghost use Rattle.go_types.specs.Tables.{type_of};
@@ -33,7 +33,7 @@ use go_base::Memory;
 use go_scopes::names::entries_of;
 use go_scopes::resolve::units_of;
 use go_scopes_lookup::asked::Asked;
-use go_scopes_lookup::by_name::{Named, by_name};
+use go_scopes_named::by_name::{Named, by_name};
 use go_scopes_lookup::look_up::looked_up;
 use go_scopes_lookup::unit::Unit;
 use go_typed::checked::Checked;

@@ -7,7 +7,7 @@ use go_scopes::names::entries_of;
 use go_scopes::repeated::{NamePlace, redeclared_names, repeated_parameters};
 use go_scopes::resolve::{resolve, units_of};
 use go_scopes_cycles::order::order_of;
-use go_scopes_lookup::by_name::by_name;
+use go_scopes_named::by_name::by_name;
 use go_scopes_lookup::found::{all_found, new_among};
 use go_scopes_lookup::look_up::sited_names;
 use go_scopes_lookup::meaning::entries;

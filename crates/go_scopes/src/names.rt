@@ -11,7 +11,7 @@ use go_scopes_lookup::meaning::{Entry, entries};
 use go_scopes_lookup::unit::Unit;
 use std::alloc::Global;
 
-/// What the imports and the declarations of a package mean. `go_scopes_lookup::by_name` makes a table of them that answers what a name means
+/// What the imports and the declarations of a package mean. `go_scopes_named::by_name` makes a table of them that answers what a name means
 /// at a token, whether or not the name stands there. The files are numbered from 0 by their places.
 ///
 /// # Errors

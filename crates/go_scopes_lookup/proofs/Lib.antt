@@ -1,6 +1,5 @@
 pub mod Ascii
 pub mod Behind
-pub mod ByName
 pub mod Housed
 pub mod Named
 pub mod Owned

@@ -1,5 +1,4 @@
 pub mod Keys
-pub mod Named
 pub mod Sited
 pub mod Sorted
 pub mod Stacks

@@ -5,7 +5,6 @@
 #![tactic(auto)]
 
 pub mod asked;
-pub mod by_name;
 pub mod declared;
 pub mod found;
 pub mod keys;

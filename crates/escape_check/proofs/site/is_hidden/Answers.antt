@@ -1,5 +1,5 @@
 use Rattle.std.proofs.Common.{◌∙◌, sym, ap}
-use Rattle.go_scopes_lookup.specs.Named.{all_meanings}
+use Rattle.go_scopes_named.specs.Named.{all_meanings}
 use Rattle.escape_check.specs.Places.{sources_in}
 use Rattle.escape_check.specs.Shown.{member_view}
 use Rattle.escape_check.specs.Types.{means_type}

@@ -7,7 +7,7 @@ use Rattle.go_tree.specs.declared.object.Extent.{Extent}
 use Rattle.go_tree.specs.Extents.{covers}
 use Rattle.go_tree.specs.Meanings.{Meaning}
 use Rattle.go_scopes_events.specs.Scopes.{is_local, inner, inmost, locals_of}
-use Rattle.go_scopes_lookup.specs.Named.{named_locals, over_covering, inmost_among}
+use Rattle.go_scopes_named.specs.Named.{named_locals, over_covering, inmost_among}
 
 append_none : (xs : List Meaning) → xs ++ [] ≡ xs
 append_none [] = refl

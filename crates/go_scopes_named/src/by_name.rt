@@ -7,14 +7,14 @@ ghost use Rattle.go_tree.specs.Meanings.{meaning_at};
 ghost use Rattle.go_tree.specs.Objects.{object_at};
 ghost use Rattle.go_tree.specs.Meanings as meanings;
 ghost use Rattle.go_scopes_events.specs.Scopes.{inner, locals_of, AreNested};
-ghost use Rattle.go_scopes_lookup.specs.Named.{KnowsNamed, IsNamed, all_meanings, named_locals, over_covering, inmost_among, local_meaning, reached_meaning};
+ghost use Rattle.go_scopes_named.specs.Named.{KnowsNamed, IsNamed, all_meanings, named_locals, over_covering, inmost_among, local_meaning, reached_meaning};
 ghost use Rattle.go_scopes_lookup.specs.Sorted.{items_of};
 ghost use Rattle.go_scopes_lookup.specs.Views.{entry_view, meaning_view};
 
-use crate::meaning::{Entry, Meaning, lies_inside, meanings, object_by};
-use crate::sorted::{Sorted, by_block, or_none};
-use crate::unit::is_blank;
 use go_base::Memory;
+use go_scopes_lookup::meaning::{Entry, Meaning, lies_inside, meanings, object_by};
+use go_scopes_lookup::sorted::{Sorted, by_block, or_none};
+use go_scopes_lookup::unit::is_blank;
 use go_tree::object::{Extent, Object};
 use std::alloc::{AllocError, Global};
 use std::collections::HashMap;

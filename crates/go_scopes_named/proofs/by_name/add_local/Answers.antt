@@ -5,12 +5,12 @@ use Rattle.go_tokens.specs.Spellings.{same_text}
 use Rattle.go_tree.specs.Meanings.{Meaning}
 use Rattle.go_scopes_events.specs.Scopes.{is_local}
 use Rattle.go_scopes_lookup.specs.Views.{meaning_view}
-use Rattle.go_scopes_lookup.specs.Named.{same_named}
+use Rattle.go_scopes_named.specs.Named.{same_named}
 use Rattle.go_scopes_lookup.specs.Sorted.{items_of}
-use Rattle.go_scopes_lookup.proofs.Sorting.{not_local}
-use Rattle.go_scopes_lookup.proofs.Stacks.{one_text}
-use Rattle.go_scopes_lookup.proofs.ByName.{named_step, not_named, named_equal}
-use Rattle.go_scopes_lookup.proofs.by_name.add_local.Goals as goal
+use Rattle.go_scopes_lookup.proofs.Public.{not_local}
+use Rattle.go_scopes_lookup.proofs.Public.{one_text}
+use Rattle.go_scopes_named.proofs.ByName.{named_step, not_named, named_equal}
+use Rattle.go_scopes_named.proofs.by_name.add_local.Goals as goal
 
 pub returns-in_ok-insert : goal.returns-in_ok-insert
 returns-in_ok-insert c ms known n w =

@@ -1,9 +1,9 @@
 use Rattle.std.proofs.Common.{◌≡◌, ◌∙◌, sym, subst, map}
 use Rattle.go_scopes_events.specs.Scopes.{locals_of, AreNested}
-use Rattle.go_scopes_lookup.specs.Named.{KnowsNamed}
+use Rattle.go_scopes_named.specs.Named.{KnowsNamed}
 use Rattle.go_scopes_lookup.specs.Sorted.{all_of}
 use Rattle.go_scopes_lookup.specs.Views.{entry_view, meaning_view}
-use Rattle.go_scopes_lookup.proofs.by_name.by_name.Goals as goal
+use Rattle.go_scopes_named.proofs.by_name.by_name.Goals as goal
 
 pub returns-clause-named : goal.returns-clause-named
 returns-clause-named c =

@@ -9,7 +9,7 @@ use Rattle.go_tree.specs.Extents.{covers}
 use Rattle.go_tree.specs.Meanings as names
 use Rattle.go_scopes_events.specs.Scopes.{is_local, is_import, is_package, first_by, inner, inmost, reached, locals_of, AreNested}
 use Rattle.go_scopes_lookup.specs.declared.meaning.Meaning.{Meaning}
-use Rattle.go_scopes_lookup.specs.declared.by_name.Named.{Named}
+use Rattle.go_scopes_named.specs.declared.by_name.Named.{Named}
 use Rattle.go_scopes_lookup.specs.Sorted.{items_of, all_of, IsSorted}
 
 -- whether two names, each with the number of its file, are the same

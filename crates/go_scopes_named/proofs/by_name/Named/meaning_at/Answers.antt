@@ -1,7 +1,7 @@
 use Rattle.std.proofs.Common.{◌∙◌, sym}
 use Rattle.go_scopes_events.proofs.Public.{meaning_reached}
-use Rattle.go_scopes_lookup.specs.Named.{all_meanings}
-use Rattle.go_scopes_lookup.proofs.by_name.Named.meaning_at.Goals as goal
+use Rattle.go_scopes_named.specs.Named.{all_meanings}
+use Rattle.go_scopes_named.proofs.by_name.Named.meaning_at.Goals as goal
 
 pub returns : goal.returns
 returns c =
