@@ -1,6 +1,7 @@
 pub mod Lists
 pub mod Numbers
 pub mod Shapes
+mod Short
 pub mod Unique
 pub mod Seams
 pub mod Replace

@@ -110,11 +110,14 @@ fn spelled(mut table: &[(&[u8], TokenKind)], word: &[char]) -> Option<TokenKind>
     None
 }
 
-/// What a word is: a keyword or an identifier.
+/// What a word is: a keyword or an identifier. No keyword has one letter.
 pub fn word_kind(word: &[char]) -> TokenKind
     ensures { result ≡ word_kind word.now }
 {
-    spelled(&KEYWORDS, word).unwrap_or(TokenKind::Identifier)
+    match word {
+        [_] => TokenKind::Identifier,
+        _ => spelled(&KEYWORDS, word).unwrap_or(TokenKind::Identifier),
+    }
 }
 
 /// What an operator of the profile is.
