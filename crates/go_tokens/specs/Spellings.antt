@@ -63,8 +63,19 @@ is_outside Map = true
 is_outside Select = true
 is_outside k = false
 
+-- those that stand most often come first
 unfoldable pub punctuation : List (List ℕ × TokenKind)
 punctuation =
+    (codes "(", LeftParenthesis) ∷
+    (codes ")", RightParenthesis) ∷
+    (codes ",", Comma) ∷
+    (codes ".", Period) ∷
+    (codes "=", Assign) ∷
+    (codes ":=", Define) ∷
+    (codes "{", LeftBrace) ∷
+    (codes "}", RightBrace) ∷
+    (codes "[", LeftBracket) ∷
+    (codes "]", RightBracket) ∷
     (codes "+", Plus) ∷
     (codes "-", Minus) ∷
     (codes "*", Star) ∷
@@ -97,18 +108,8 @@ punctuation =
     (codes "<=", LessEqual) ∷
     (codes ">", Greater) ∷
     (codes ">=", GreaterEqual) ∷
-    (codes "=", Assign) ∷
     (codes "!", Not) ∷
-    (codes ":=", Define) ∷
-    (codes "(", LeftParenthesis) ∷
-    (codes ")", RightParenthesis) ∷
-    (codes "[", LeftBracket) ∷
-    (codes "]", RightBracket) ∷
-    (codes "{", LeftBrace) ∷
-    (codes "}", RightBrace) ∷
-    (codes ",", Comma) ∷
     (codes ";", Semicolon) ∷
-    (codes ".", Period) ∷
     (codes ":", Colon) ∷
     []
 

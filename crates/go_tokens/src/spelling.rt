@@ -33,7 +33,18 @@ pub const KEYWORDS: [(&[u8], TokenKind); 25] = [
     (b"var", TokenKind::Var),
 ];
 
+/// Those that stand most often come first.
 pub const PUNCTUATION: [(&[u8], TokenKind); 45] = [
+    (b"(", TokenKind::LeftParenthesis),
+    (b")", TokenKind::RightParenthesis),
+    (b",", TokenKind::Comma),
+    (b".", TokenKind::Period),
+    (b"=", TokenKind::Assign),
+    (b":=", TokenKind::Define),
+    (b"{", TokenKind::LeftBrace),
+    (b"}", TokenKind::RightBrace),
+    (b"[", TokenKind::LeftBracket),
+    (b"]", TokenKind::RightBracket),
     (b"+", TokenKind::Plus),
     (b"-", TokenKind::Minus),
     (b"*", TokenKind::Star),
@@ -66,18 +77,8 @@ pub const PUNCTUATION: [(&[u8], TokenKind); 45] = [
     (b"<=", TokenKind::LessEqual),
     (b">", TokenKind::Greater),
     (b">=", TokenKind::GreaterEqual),
-    (b"=", TokenKind::Assign),
     (b"!", TokenKind::Not),
-    (b":=", TokenKind::Define),
-    (b"(", TokenKind::LeftParenthesis),
-    (b")", TokenKind::RightParenthesis),
-    (b"[", TokenKind::LeftBracket),
-    (b"]", TokenKind::RightBracket),
-    (b"{", TokenKind::LeftBrace),
-    (b"}", TokenKind::RightBrace),
-    (b",", TokenKind::Comma),
     (b";", TokenKind::Semicolon),
-    (b".", TokenKind::Period),
     (b":", TokenKind::Colon),
 ];
 
