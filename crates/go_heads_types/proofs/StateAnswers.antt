@@ -8,11 +8,11 @@ use Rattle.go_tree.specs.Failures.{Failure, is_earlier, least_from, least}
 use Rattle.go_exprs_rules.specs.declared.fault.TypeFault.{TypeFault}
 use Rattle.go_exprs_rules.specs.Scopes.{at_once, Scope}
 use Rattle.go_exprs_rules.specs.Tables.{no_faults}
-use Rattle.go_package_defs.specs.Answer.{Environment, failures_at, is_procedure, is_main, fault_if, main_faults, mains_from, all_failures, unless, answer_on}
+use Rattle.go_package_defs.specs.Answer.{Environment, failures_at, is_procedure, is_main, fault_if, main_faults, mains_from, all_failures, hidden_failures, or_else, package_failures, unless, answer_on}
 use Rattle.go_package_defs.specs.Declarations.{Specification}
 use Rattle.go_package_defs.specs.Knowledge.{Outline, outlines, State, state_of, passes, is_sound, free_scope, rights_of}
 use Rattle.go_package_defs.specs.Sources.{Package, rounds}
-use Rattle.go_package_defs.specs.Verdicts.{known, expression_faults, specification_rule, needed_by_all, numbers_of, is_in, needs_one, blocks, is_blocked, rule_unless, specification_faults_on, specification_faults}
+use Rattle.go_package_defs.specs.Verdicts.{known, expression_faults, specification_rule, needed_by_all, numbers_of, is_in, needs_one, blocks, is_blocked, rule_unless, specification_faults_on, specification_faults, unblocked_faults_on, unblocked_faults}
 use Rattle.go_package_alike.specs.Scopes.{SaySame}
 use Rattle.go_elsewhere.specs.Elsewhere.{along}
 use Rattle.go_heads_types.specs.Same.{SameSpecification, SameSpecifications, SameOutlines, SameDeclarations}
@@ -41,6 +41,12 @@ both_none : (p q : Package) (m n : ℕ) (us xs : List TypeFault) (fs gs : List F
 both_none p q m n us xs fs gs e h =
     append_none (failures_at q n us) fs ∙ ap (λ b. b && none_of fs) (placed_none q n us ∙ e ∙ sym (placed_none p m xs)) ∙ ap (λ b. none_of (failures_at p m xs) && b) h
     ∙ sym (append_none (failures_at p m xs) gs)
+
+else_none : (us vs fs gs : List Failure) → none_of us ≡ none_of fs → none_of vs ≡ none_of gs → none_of (or_else us vs) ≡ none_of (or_else fs gs)
+else_none [] vs [] gs e h = h
+else_none [] vs (f ∷ fs) gs e h = cc
+else_none (u ∷ us) vs [] gs e h = cc
+else_none (u ∷ us) vs (f ∷ fs) gs e h = refl
 
 never_answered : (f : Failure) (fs : List Failure) (x z : Environment) → unless (least_from (Some f) fs) x ≡ Ok z → ⊥
 never_answered f [] x z e = cc
@@ -152,6 +158,15 @@ module _ (moves : MovesTyped) (keeps : KeepsNames) (follows : FollowsTokens) (eq
       specification_alike : Alike (specification_faults q ys ts e) (specification_faults p xs ss d)
       specification_alike = on_alike (expression_faults new e) (expression_faults old d) expressions_alike
 
+      unblocked_on_alike : (us vs : List TypeFault) → Alike us vs → Alike (unblocked_faults_on new e us) (unblocked_faults_on old d vs)
+      unblocked_on_alike [] [] k = rule_alike
+      unblocked_on_alike [] (v ∷ vs) k = cc
+      unblocked_on_alike (u ∷ us) [] k = cc
+      unblocked_on_alike (u ∷ us) (v ∷ vs) k = refl
+
+      unblocked_alike : Alike (unblocked_faults q ys ts e) (unblocked_faults p xs ss d)
+      unblocked_alike = unblocked_on_alike (expression_faults new e) (expression_faults old d) expressions_alike
+
     -- ---- the function `main`
 
     if_alike : (c : Bool) (t u : ℕ) → Alike (fault_if c t) (fault_if c u)
@@ -181,6 +196,16 @@ module _ (moves : MovesTyped) (keeps : KeepsNames) (follows : FollowsTokens) (eq
     all_same (u ∷ us) [] s = absurd s
     all_same (u ∷ us) (v ∷ vs) s =
         both_none p q u.file v.file (specification_faults q ys ts v) (specification_faults p xs ss u) (all_failures q ys ts vs) (all_failures p xs ss us) (specification_alike u v s.0) (all_same us vs s.1)
+
+    hidden_same : (us vs : List Specification) → SameSpecifications p q us vs → none_of (hidden_failures q ys ts vs) ≡ none_of (hidden_failures p xs ss us)
+    hidden_same [] [] s = refl
+    hidden_same [] (v ∷ vs) s = absurd s
+    hidden_same (u ∷ us) [] s = absurd s
+    hidden_same (u ∷ us) (v ∷ vs) s =
+        both_none p q u.file v.file (unblocked_faults q ys ts v) (unblocked_faults p xs ss u) (hidden_failures q ys ts vs) (hidden_failures p xs ss us) (unblocked_alike u v s.0) (hidden_same us vs s.1)
+
+    package_same : (us vs : List Specification) → SameSpecifications p q us vs → none_of (package_failures q ys ts vs) ≡ none_of (package_failures p xs ss us)
+    package_same us vs s = else_none (all_failures q ys ts vs) (hidden_failures q ys ts vs) (all_failures p xs ss us) (hidden_failures p xs ss us) (all_same us vs s) (hidden_same us vs s)
 
     stands_mapped : (us vs : List State) → SameStates us vs → map (λ (s : State). s.stands) vs ≡ map (λ (s : State). s.stands) us
     stands_mapped [] [] k = refl
@@ -213,11 +238,11 @@ module _ (moves : MovesTyped) (keeps : KeepsNames) (follows : FollowsTokens) (eq
         let ss = known p xs (rounds p) in
         let ts = known q ys (rounds p) in
         ap (λ n. answer_on q es ys (known q ys n)) rounds_kept
-        ∙ answered (all_failures p xs ss ds) (all_failures q ys ts es) (environment_in p ss) (environment_in q ts) (all_same ss ts (kept (rounds p)) ds es h.specifications) (environment_same ss ts (kept (rounds p))) x e;
+        ∙ answered (package_failures p xs ss ds) (package_failures q ys ts es) (environment_in p ss) (environment_in q ts) (package_same ss ts (kept (rounds p)) ds es h.specifications) (environment_same ss ts (kept (rounds p))) x e;
     after =
         λ x e.
         let ss = known p xs (rounds p) in
         let ts = known q ys (rounds p) in
-        answered (all_failures q ys ts es) (all_failures p xs ss ds) (environment_in q ts) (environment_in p ss) (sym (all_same ss ts (kept (rounds p)) ds es h.specifications)) (sym (environment_same ss ts (kept (rounds p)))) x
+        answered (package_failures q ys ts es) (package_failures p xs ss ds) (environment_in q ts) (environment_in p ss) (sym (package_same ss ts (kept (rounds p)) ds es h.specifications)) (sym (environment_same ss ts (kept (rounds p)))) x
         (sym (ap (λ n. answer_on q es ys (known q ys n)) rounds_kept) ∙ e);
   }

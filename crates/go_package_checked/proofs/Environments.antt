@@ -29,7 +29,7 @@ environment_within settles less same written derives limit ss e s a f r =
     let ds = specifications 0 ss in
     let found = known p (outlines p ds) (rounds p) in
     let fine = answered p (outlines p ds) found ds e a in
-    let sides : rights_of p found ≡ e.rights = ap (λ (x : Environment). x.rights) fine.1 in
+    let sides : rights_of p found ≡ e.rights = ap (λ (x : Environment). x.rights) fine.environment in
     let own : RightsAreWithin limit (rights_of p found) =
-    rights_within p ds found s.ranks (are_found p (outlines p ds) found s.ranks s.staged) fine.0 limit less same written (r ∙ sym sides) (files_have derives 0 ss f) in
+    rights_within p ds found s.ranks (are_found p (outlines p ds) found s.ranks s.staged) fine.fine limit less same written (r ∙ sym sides) (files_have derives 0 ss f) in
     settles limit ss u e s a r (subst (RightsAreWithin limit) sides own)

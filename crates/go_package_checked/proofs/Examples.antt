@@ -12,4 +12,4 @@ use Rattle.go_package_checked.specs.Examples.{Examples}
 
 pub worked : Examples
 unfolding sooner answers is_assignable is_digit_of letter_base encode_utf8 chars span known_names unknown_names
-worked = record { two = refl; three = refl; accepted = refl; hole = refl }
+worked = record { two = refl; three = refl; refused = refl }

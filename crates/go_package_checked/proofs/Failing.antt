@@ -1,15 +1,15 @@
--- In a package whose declarations have no fault no rule fails in a type or an expression of a specification.
+-- In a package whose declarations have no fault no rule fails at a specification.
 use Rattle.std.proofs.Common.{◌≡◌, ℕ, zero, suc, Bool, true, false, List, [], ◌∷◌, ◌++◌, map, Option, Some, None, Ok, refl, subst}
 use Rattle.std.specs.Prelude.{if◌then◌else◌, slice_get}
 use Rattle.std.specs.List.{AllByRecursion}
 use Rattle.go_tree.specs.Failures.{Failure, is_earlier, earlier, least_from, least}
 use Rattle.go_exprs_rules.specs.declared.fault.TypeFault.{TypeFault}
 use Rattle.go_exprs_rules.specs.Scopes.{Scope}
-use Rattle.go_package_defs.specs.Answer.{Environment, failures_at, all_failures, unless, environment_of, answer_on}
+use Rattle.go_package_defs.specs.Answer.{Environment, failures_at, all_failures, hidden_failures, or_else, package_failures, unless, environment_of, answer_on}
 use Rattle.go_package_defs.specs.Declarations.{Specification}
 use Rattle.go_package_defs.specs.Knowledge.{Outline, outlines, outline_by, State, no_specification, column_of, found_or, declaring, free_scope}
 use Rattle.go_package_defs.specs.Sources.{Package}
-use Rattle.go_package_defs.specs.Verdicts.{expression_faults, specification_faults_on, specification_faults}
+use Rattle.go_package_defs.specs.Verdicts.{expression_faults, specification_rule, unblocked_faults_on, unblocked_faults}
 
 -- ---- the least of no failures
 
@@ -40,6 +40,10 @@ behind_none : {A : Type 0} (xs ys : List A) → xs ++ ys ≡ [] → ys ≡ []
 behind_none [] ys e = e
 behind_none (x ∷ xs) ys e = cc
 
+else_none : {fs gs : List Failure} → or_else fs gs ≡ [] → gs ≡ []
+else_none {fs = []} e = e
+else_none {fs = f ∷ fs} e = absurd cc
+
 -- ---- specifications
 
 module _ (p : Package) (os : List Outline) (found : List State) where
@@ -47,25 +51,47 @@ module _ (p : Package) (os : List Outline) (found : List State) where
   abbrev pub IsFine : Specification → Type 0
   IsFine d = expression_faults (free_scope p os found d) d ≡ []
 
+  -- nor does its own
+  abbrev pub IsRuled : Specification → Type 0
+  IsRuled d = specification_rule (free_scope p os found d) d ≡ []
+
   placed_none : (n : ℕ) (fs : List TypeFault) → failures_at p n fs ≡ [] → fs ≡ []
   placed_none n [] e = refl
   placed_none n (f ∷ fs) e = cc
 
-  on_none : (s : Scope) (d : Specification) (fs : List TypeFault) → specification_faults_on p os found s d fs ≡ [] → fs ≡ []
-  on_none s d [] e = refl
-  on_none s d (f ∷ fs) e = e
+  on_fine : (s : Scope) (d : Specification) (fs : List TypeFault) → unblocked_faults_on s d fs ≡ [] → fs ≡ []
+  on_fine s d [] e = refl
+  on_fine s d (f ∷ fs) e = e
 
-  pub all_fine : (ds : List Specification) → all_failures p os found ds ≡ [] → AllByRecursion IsFine ds
+  on_ruled : (s : Scope) (d : Specification) (fs : List TypeFault) → unblocked_faults_on s d fs ≡ [] → specification_rule s d ≡ []
+  on_ruled s d [] e = e
+  on_ruled s d (f ∷ fs) e = absurd cc
+
+  none_at : (d : Specification) (ds : List Specification) → hidden_failures p os found (d ∷ ds) ≡ [] → unblocked_faults p os found d ≡ []
+  none_at d ds e = placed_none d.file (unblocked_faults p os found d) (front_none (failures_at p d.file (unblocked_faults p os found d)) (hidden_failures p os found ds) e)
+
+  none_behind : (d : Specification) (ds : List Specification) → hidden_failures p os found (d ∷ ds) ≡ [] → hidden_failures p os found ds ≡ []
+  none_behind d ds e = behind_none (failures_at p d.file (unblocked_faults p os found d)) (hidden_failures p os found ds) e
+
+  all_fine : (ds : List Specification) → hidden_failures p os found ds ≡ [] → AllByRecursion IsFine ds
   all_fine [] e = tt
-  all_fine (d ∷ ds) e =
-      let own = failures_at p d.file (specification_faults p os found d) in
-      (on_none (free_scope p os found d) d (expression_faults (free_scope p os found d) d) (placed_none d.file (specification_faults p os found d) (front_none own (all_failures p os found ds) e)), all_fine ds (behind_none own (all_failures p os found ds) e))
+  all_fine (d ∷ ds) e = (on_fine (free_scope p os found d) d (expression_faults (free_scope p os found d) d) (none_at d ds e), all_fine ds (none_behind d ds e))
+
+  all_ruled : (ds : List Specification) → hidden_failures p os found ds ≡ [] → AllByRecursion IsRuled ds
+  all_ruled [] e = tt
+  all_ruled (d ∷ ds) e = (on_ruled (free_scope p os found d) d (expression_faults (free_scope p os found d) d) (none_at d ds e), all_ruled ds (none_behind d ds e))
 
   -- what is answered
-  pub answered : (ds : List Specification) (e : Environment) → answer_on p ds os found ≡ Ok e → AllByRecursion IsFine ds × (environment_of p found ≡ e)
+  pub record Answered (ds : List Specification) (e : Environment) : Type 0 where
+    pub fine : AllByRecursion IsFine ds
+    pub ruled : AllByRecursion IsRuled ds
+    pub environment : environment_of p found ≡ e
+
+  pub answered : (ds : List Specification) (e : Environment) → answer_on p ds os found ≡ Ok e → Answered ds e
   answered ds e a =
-      let u = unless_none (least (all_failures p os found ds)) (environment_of p found) e a in
-      (all_fine ds (least_none (all_failures p os found ds) u.0), u.1)
+      let u = unless_none (least (package_failures p os found ds)) (environment_of p found) e a in
+      let none : hidden_failures p os found ds ≡ [] = else_none {fs = all_failures p os found ds} (least_none (package_failures p os found ds) u.0) in
+      record { fine = all_fine ds none; ruled = all_ruled ds none; environment = u.1 }
 
 -- ---- the specifications of objects
 

@@ -18,7 +18,7 @@ use Rattle.go_exprs_rules.specs.Sorts.{Stands}
 use Rattle.go_package_defs.specs.Declarations.{Specification, in_file}
 use Rattle.go_package_defs.specs.Sources.{Source, Package, package_of, rounds, text_at, tokens_in}
 use Rattle.go_package_defs.specs.Knowledge.{Outline, outlines, State, state_of, is_sound, passes, rights_of}
-use Rattle.go_package_defs.specs.Verdicts.{known, specification_faults}
+use Rattle.go_package_defs.specs.Verdicts.{known, specification_faults, unblocked_faults}
 
 -- what the objects of a package stand for, by their numbers, and the right sides of its declared types
 pub record Environment : Type 0 where
@@ -69,6 +69,20 @@ abbrev pub all_failures : Package → List Outline → List State → List Speci
 all_failures p os ss [] = mains_from p os ss 0 p.uses.package_level
 all_failures p os ss (d ∷ ds) = failures_at p d.file (specification_faults p os ss d) ++ all_failures p os ss ds
 
+-- the rules that fail at specifications, whether or not they are blocked
+abbrev pub hidden_failures : Package → List Outline → List State → List Specification → List Failure
+hidden_failures p os ss [] = []
+hidden_failures p os ss (d ∷ ds) = failures_at p d.file (unblocked_faults p os ss d) ++ hidden_failures p os ss ds
+
+abbrev pub or_else : List Failure → List Failure → List Failure
+or_else [] gs = gs
+or_else (f ∷ fs) gs = f ∷ fs
+
+-- Specifications that need one another in a ring are blocked by one another's faults, so that none of these would be told. Where
+-- nothing else fails the faults of blocked specifications are told too.
+abbrev pub package_failures : Package → List Outline → List State → List Specification → List Failure
+package_failures p os ss ds = or_else (all_failures p os ss ds) (hidden_failures p os ss ds)
+
 abbrev pub unless : {A : Type 0} → Option Failure → A → Result A Failure
 unless None x = Ok x
 unless (Some f) x = Err f
@@ -77,7 +91,7 @@ abbrev pub environment_of : Package → List State → Environment
 environment_of p ss = record { rights = rights_of p ss; objects = map (λ s. s.stands) ss }
 
 abbrev pub answer_on : Package → List Specification → List Outline → List State → Result Environment Failure
-answer_on p ds os ss = unless (least (all_failures p os ss ds)) (environment_of p ss)
+answer_on p ds os ss = unless (least (package_failures p os ss ds)) (environment_of p ss)
 
 abbrev pub answer_with : Package → List Specification → List Outline → Result Environment Failure
 answer_with p ds os = answer_on p ds os (known p os (rounds p))

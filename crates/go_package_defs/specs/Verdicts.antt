@@ -241,3 +241,11 @@ specification_faults_on p os ss s d (f ∷ fs) = f ∷ fs
 
 abbrev pub specification_faults : Package → List Outline → List State → Specification → List TypeFault
 specification_faults p os ss d = specification_faults_on p os ss (free_scope p os ss d) d (expression_faults (free_scope p os ss d) d)
+
+-- The rules that fail at a specification, whether or not it needs another declaration with a fault.
+abbrev pub unblocked_faults_on : Scope → Specification → List TypeFault → List TypeFault
+unblocked_faults_on s d [] = specification_rule s d
+unblocked_faults_on s d (f ∷ fs) = f ∷ fs
+
+abbrev pub unblocked_faults : Package → List Outline → List State → Specification → List TypeFault
+unblocked_faults p os ss d = unblocked_faults_on (free_scope p os ss d) d (expression_faults (free_scope p os ss d) d)

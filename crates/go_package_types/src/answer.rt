@@ -1,6 +1,6 @@
 //! What is answered of a package whose objects are known.
-ghost use Rattle.std.specs.Prelude.{◌≡◌, true, List, IfOk, IsTrue, is_some, length, map};
-ghost use Rattle.std.specs.List.{list_all};
+ghost use Rattle.std.specs.Prelude.{◌≡◌, true, ◌||◌, List, IfOk, IsTrue, is_some, length, map};
+ghost use Rattle.std.specs.List.{list_all, list_any};
 ghost use Rattle.std.specs.Option.{option_map};
 ghost use Rattle.go_base.specs.Gives.{Gives};
 ghost use Rattle.go_tree.specs.Failures.{least};
@@ -8,17 +8,17 @@ ghost use Rattle.go_types_relations.specs.Extends.{Grows};
 ghost use Rattle.go_scopes.specs.Views.{failure_of};
 ghost use Rattle.go_typed.specs.Packages.{referents, is_there};
 ghost use Rattle.go_exprs.specs.Expressions.{failure_named};
-ghost use Rattle.go_package_defs.specs.Answer.{answer_on, all_failures, environment_of};
+ghost use Rattle.go_package_defs.specs.Answer.{answer_on, all_failures, package_failures, environment_of};
 ghost use Rattle.go_package_defs.specs.Knowledge.{State, is_type};
 ghost use Rattle.go_needs.specs.Passing.{is_faulty, is_misassigned};
 ghost use Rattle.go_needs.specs.Tells.{TellsNeeds};
 ghost use Rattle.go_package_rounds.specs.Held.{AllHeld};
-ghost use Rattle.go_package_rounds.specs.World.{package_in, outlines_in, specifications_in, Fits, Shows};
-ghost use Rattle.go_package_types.specs.Known.{AreBlocked};
+ghost use Rattle.go_package_rounds.specs.World.{package_in, outlines_in, specifications_in, Fits, KnownStandings, Shows};
+ghost use Rattle.go_package_types.specs.Known.{AreBlocked, Tells};
 ghost use Rattle.go_package_types.specs.Answers.{environment_seen, KnownObjects, HasRight, HaveRights};
 
 use crate::declare::referents;
-use crate::faults::{Known, specifications_fault};
+use crate::faults::{Known, hidden_fault, specifications_fault};
 use crate::main_function::note_mains;
 use go_base::{Fault, Memory};
 use go_exprs::TypeError;
@@ -64,6 +64,13 @@ fn all_misassigned(alloc: Global, all: &[Held]) -> Result<Vec<bool>, Memory>
     Ok(flags)
 }
 
+/// Whether a rule fails in the type or the expression of an object, or at its own assignment.
+fn is_failing(faulty: &[bool], assigning: &[bool]) -> bool
+    ensures { (ss : List State) → faulty.now ≡ map is_faulty ss → assigning.now ≡ map is_misassigned ss → result ≡ (list_any is_faulty ss || list_any is_misassigned ss) }
+{
+    faulty.contains(&true) || assigning.contains(&true)
+}
+
 /// Which specifications are seen at once to need a declaration with a fault. Where no rule fails none is looked at.
 fn seen_blocked(
     alloc: Global,
@@ -74,11 +81,54 @@ fn seen_blocked(
     ensures { let p = package_in world.now in let ds = specifications_in world.now in IfOk result (λ v. (ss : List State) → TellsNeeds world.now.needs.now p ds → length ss ≡ length p.uses.package_level
         → faulty.now ≡ map is_faulty ss → assigning.now ≡ map is_misassigned ss → AreBlocked p ds (outlines_in world.now) ss v.items) }
 {
-    if faulty.contains(&true) || assigning.contains(&true) {
+    if is_failing(faulty, assigning) {
         world.needs.blocked_in_order(alloc, faulty, assigning)
     } else {
         Ok(Vec::new(alloc))
     }
+}
+
+/// The least fault of the declarations of a package, without those of the own rules of blocked specifications.
+fn told_fault(
+    alloc: Global,
+    types: &mut Types,
+    world: &World<'_>,
+    all: &[Held],
+    known: &Known<'_>,
+) -> Result<Option<Fault>, Memory>
+    requires fits { Fits types.old world.now }
+    requires held { AllHeld (length types.old.shapes) all.now }
+    requires known { KnownStandings (length types.old.shapes) known.now.sound.now }
+    ensures grows { Grows types.old types.new }
+    ensures fault { (ss : List State) → Shows types.old world.now all.now ss → Tells types.old world.now known.now ss
+        → IfOk result (λ o. option_map failure_of o ≡ least (all_failures (package_in world.now) (outlines_in world.now) ss (specifications_in world.now))) }
+{
+    types.count();
+    let found = specifications_fault(alloc, types, world, known)?;
+    let sound = all_sound(alloc, all)?;
+    let passing = world.needs.passing(alloc, &sound)?;
+    note_mains(types, world, found, all, &passing)
+}
+
+/// The fault that is told; or, where there is none, the least fault of blocked specifications. Where no rule fails none is blocked.
+fn unless_told(
+    alloc: Global,
+    types: &mut Types,
+    world: &World<'_>,
+    known: &Known<'_>,
+    told: Option<Fault>,
+) -> Result<Option<Fault>, Memory>
+    requires fits { Fits types.old world.now }
+    requires known { KnownStandings (length types.old.shapes) known.now.sound.now }
+    ensures grows { Grows types.old types.new }
+    ensures fault { let p = package_in world.now in let os = outlines_in world.now in let ds = specifications_in world.now in (ss : List State) → Tells types.old world.now known.now ss
+        → option_map failure_of told ≡ least (all_failures p os ss ds) → IfOk result (λ o. option_map failure_of o ≡ least (package_failures p os ss ds)) }
+{
+    types.count();
+    if told.is_some() || !is_failing(known.faulty, known.assigning) {
+        return Ok(told);
+    }
+    hidden_fault(alloc, types, world, known)
 }
 
 /// The least fault of the declarations of a package.
@@ -91,7 +141,7 @@ fn least_fault(
     requires fits { Fits types.old world.now }
     requires held { AllHeld (length types.old.shapes) all.now }
     ensures grows { Grows types.old types.new }
-    ensures fault { (ss : List State) → Shows types.old world.now all.now ss → IfOk result (λ o. option_map failure_of o ≡ least (all_failures (package_in world.now) (outlines_in world.now) ss (specifications_in world.now))) }
+    ensures fault { (ss : List State) → Shows types.old world.now all.now ss → IfOk result (λ o. option_map failure_of o ≡ least (package_failures (package_in world.now) (outlines_in world.now) ss (specifications_in world.now))) }
 {
     types.count();
     let standings = standings_from(alloc, types, world, all)?;
@@ -104,10 +154,8 @@ fn least_fault(
         assigning: &assigning,
         blocked: &blocked,
     };
-    let found = specifications_fault(alloc, types, world, &known)?;
-    let sound = all_sound(alloc, all)?;
-    let passing = world.needs.passing(alloc, &sound)?;
-    note_mains(types, world, found, all, &passing)
+    let told = told_fault(alloc, types, world, all, &known)?;
+    unless_told(alloc, types, world, &known, told)
 }
 
 /// Whether an object has a right side, if it is a type.

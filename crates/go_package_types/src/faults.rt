@@ -8,12 +8,12 @@ ghost use Rattle.go_types_relations.specs.Extends.{Grows};
 ghost use Rattle.go_exprs_rules.specs.Faults as faults;
 ghost use Rattle.go_exprs_rules.specs.declared.fault.TypeFault.{TypeFault as Failing};
 ghost use Rattle.go_scopes.specs.Views.{failure_of};
-ghost use Rattle.go_package_defs.specs.Answer.{all_failures, mains_from, failures_at};
+ghost use Rattle.go_package_defs.specs.Answer.{all_failures, hidden_failures, mains_from, failures_at};
 ghost use Rattle.go_package_defs.specs.Declarations as declarations;
 ghost use Rattle.go_package_defs.specs.Knowledge as knowledge;
 ghost use Rattle.go_package_defs.specs.Knowledge.{State, free_scope};
 ghost use Rattle.go_package_defs.specs.Sources.{text_at};
-ghost use Rattle.go_package_defs.specs.Verdicts.{is_blocked, specification_faults};
+ghost use Rattle.go_package_defs.specs.Verdicts.{is_blocked, specification_faults, unblocked_faults};
 ghost use Rattle.go_declarations.specs.Reads.{SpecificationRead};
 ghost use Rattle.go_declarations.specs.Views.{specification_view};
 ghost use Rattle.go_package_types.specs.Whole.{failing_as_whole};
@@ -236,6 +236,57 @@ pub fn specifications_fault(
     let mut found = None;
     for number in 0..world.specifications.len() {
         found = note_fault(alloc, types, world, known, number, found)?;
+    }
+    Ok(found)
+}
+
+/// The least of a fault that may be there and those of the specification of this number, whether it is blocked or isn't.
+fn note_hidden(
+    alloc: Global,
+    types: &mut Types,
+    world: &World<'_>,
+    known: &Known<'_>,
+    number: usize,
+    found: Option<Fault>,
+) -> Result<Option<Fault>, Memory>
+    requires fits { Fits types.old world.now }
+    requires known { KnownStandings (length types.old.shapes) known.now.sound.now }
+    ensures grows { Grows types.old types.new }
+    ensures fault { let p = package_in world.now in let os = outlines_in world.now in (ss : List State) (d : declarations.Specification) → Tells types.old world.now known.now ss → slice_get (specifications_in world.now) number ≡ Some d
+        → IfOk result (λ o. option_map failure_of o ≡ least_from (option_map failure_of found) (failures_at p d.file (unblocked_faults p os ss d))) }
+{
+    types.count();
+    let Some(specification) = world.specifications.get(number) else {
+        return Err(Memory);
+    };
+    let fault = fault_as(alloc, types, world, known, specification, false)?;
+    let Some(tokens) = tokens_of(world, specification.file) else {
+        return Err(Memory);
+    };
+    if specification_stands(tokens, specification) {
+        Ok(merged(found, tokens, fault))
+    } else {
+        Err(Memory)
+    }
+}
+
+/// The least fault of the specifications of a package, whether they are blocked or aren't.
+pub fn hidden_fault(
+    alloc: Global,
+    types: &mut Types,
+    world: &World<'_>,
+    known: &Known<'_>,
+) -> Result<Option<Fault>, Memory>
+    requires fits { Fits types.old world.now }
+    requires known { KnownStandings (length types.old.shapes) known.now.sound.now }
+    ensures grows { Grows types.old types.new }
+    ensures fault { let p = package_in world.now in let os = outlines_in world.now in (ss : List State) → Tells types.old world.now known.now ss
+        → IfOk result (λ o. option_map failure_of o ≡ least (hidden_failures p os ss (specifications_in world.now))) }
+{
+    types.count();
+    let mut found = None;
+    for number in 0..world.specifications.len() {
+        found = note_hidden(alloc, types, world, known, number, found)?;
     }
     Ok(found)
 }

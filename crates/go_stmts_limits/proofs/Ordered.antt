@@ -15,7 +15,7 @@ use Rattle.go_types_relations.specs.Questions.{entry}
 use Rattle.go_typed.specs.Trees as sort
 use Rattle.go_exprs_rules.specs.Scopes.{Needed, in_full, Scope, Hint, value, several}
 use Rattle.go_exprs_rules.specs.Sorts.{Stands}
-use Rattle.go_package_defs.specs.Answer.{Environment, all_failures, unless, environment_of, answer_on}
+use Rattle.go_package_defs.specs.Answer.{Environment, package_failures, unless, environment_of, answer_on}
 use Rattle.go_package_defs.specs.Declarations.{Specification, is_alone}
 use Rattle.go_package_defs.specs.Knowledge.{Outline, outlines, State, state_there, state_of, is_type, is_sound, passes, stands_if, stands_where, rights_of, need_in, free_scope}
 use Rattle.go_package_defs.specs.Sources.{Package}
@@ -186,6 +186,6 @@ answer_is (Some f) x y e = absurd cc
 pub answer_within : (limit : Scope) → AreTold → ExpressionsAgree → (p : Package) (ds : List Specification) (found : List State) (ranks : Ranks) (e : Environment) → AreFound p (outlines p ds) found ranks → answer_on p ds (outlines p ds) found ≡ Ok e
     → limit.rights ≡ e.rights → RightsAreWithin limit e.rights → EnvironmentIsWithin limit e
 answer_within limit tells agree p ds found ranks e a h judged rights =
-    let same = answer_is (least (all_failures p (outlines p ds) found ds)) (environment_of p found) e h in
+    let same = answer_is (least (package_failures p (outlines p ds) found ds)) (environment_of p found) e h in
     let sides : e.rights ≡ rights_of p found = sym (ap (λ (x : Environment). x.rights) same) in
     subst (EnvironmentIsWithin limit) same (environment_within limit tells agree p (outlines p ds) found ranks a (judged ∙ sides) (subst (RightsAreWithin limit) sides rights))

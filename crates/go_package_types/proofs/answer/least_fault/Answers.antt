@@ -1,47 +1,19 @@
-use Rattle.std.proofs.Common.{◌≡◌, length, map, sym, subst, ◌∙◌}
-use Rattle.std.specs.Option.{option_map}
-use Rattle.std.proofs.lemmas.Result.{IfOk-weaker}
-use Rattle.go_tree.specs.Failures.{least, least_from}
-use Rattle.go_scopes.specs.Views.{failure_of}
-use Rattle.go_needs.specs.Passing.{ArePassing}
-use Rattle.go_package_defs.specs.Answer.{all_failures, mains_from}
+use Rattle.std.proofs.Common.{length, sym, subst, ◌∙◌}
 use Rattle.go_package_defs.specs.Knowledge as knowledge
-use Rattle.go_package_rounds.specs.Held.{all_seen, summary}
 use Rattle.go_package_rounds.specs.World.{package_in, specifications_in, outlines_in, StandsFor, KnownStandings}
-use Rattle.go_package_rounds.proofs.Public.{sound_tests, all_more, all_stay}
-use Rattle.go_package_types.specs.Known.{AreBlocked}
+use Rattle.go_package_types.specs.Known.{AreBlocked, Tells}
 use Rattle.go_package_types.proofs.Environments.{faulty_are, misassigned_are}
+use Rattle.go_package_types.proofs.Faulty.{tells_more, fits_grown, known_grown}
 use Rattle.go_package_types.proofs.answer.least_fault.Goals as goal
 
-pub specifications_fault-requires-clause-known : goal.specifications_fault-requires-clause-known
-specifications_fault-requires-clause-known c = subst (KnownStandings (length c.args.types.now.shapes)) (sym c.deref-3.ensures.value) c.in_ok-standings.ensures.known_sound
+pub told_fault-requires-clause-known : goal.told_fault-requires-clause-known
+told_fault-requires-clause-known c = subst (KnownStandings (length c.args.types.now.shapes)) (sym c.deref-3.ensures.value) c.in_ok-standings.ensures.known_sound
 
-pub note_mains-requires : goal.note_mains-requires
-note_mains-requires c = all_more c.args.types.now c.specifications_fault.new.types c.count.ensures.table c.specifications_fault.ensures.grows.extends c.args.all.now c.requires.held
+pub unless_told-requires-clause-fits : goal.unless_told-requires-clause-fits
+unless_told-requires-clause-fits c = fits_grown c.args.types.now c.told_fault.new.types c.count.ensures.table c.told_fault.ensures.grows c.args.world.now c.requires.fits
+
+pub unless_told-requires-clause-known : goal.unless_told-requires-clause-known
+unless_told-requires-clause-known c = ?
 
 pub returns-clause-fault : goal.returns-clause-fault
-returns-clause-fault c = λ ss h.
-    let a = c.args.types.now in
-    let z = c.specifications_fault.new.types in
-    let w = c.args.world.now in
-    let p = package_in w in
-    let os = outlines_in w in
-    let ds = specifications_in w in
-    let hs = c.args.all.now in
-    let faulty = c.in_ok-faulty.ensures ∙ faulty_are a hs ss h.states in
-    let assigning = c.in_ok-assigning.ensures ∙ misassigned_are a hs ss h.states in
-    let found =
-    c.in_ok-found.ensures.fault ss (record {
-      stands = subst (λ xs. StandsFor a w knowledge.is_sound xs ss) (sym c.deref-3.ensures.value) (c.in_ok-standings.ensures.sound ss h);
-      rights = h.rights;
-      faulty = c.deref-4.ensures.value ∙ faulty;
-      assigning = c.deref-5.ensures.value ∙ assigning;
-      blocked = subst (AreBlocked p ds os ss) (sym c.deref-6.ensures.value) (c.in_ok-blocked.ensures ss c.requires.fits.needs h.as_many (c.deref.ensures.value ∙ faulty) (c.deref-2.ensures.value ∙ assigning));
-      as_many = h.as_many;
-    }) in
-    let pass : ArePassing knowledge.is_sound os ss c.in_ok-passing.passing.items =
-    c.in_ok-passing.ensures p ds ss knowledge.is_sound c.requires.fits.needs h.as_many (c.deref-7.ensures.value ∙ c.in_ok-sound.ensures ∙ sound_tests a hs ss h.states) in
-    let states : all_seen z hs ≡ map summary ss = all_stay a z c.count.ensures.table c.specifications_fault.ensures.grows.extends hs c.requires.held ∙ h.states in
-    let o = option_map failure_of c.in_ok-found.found in
-    IfOk-weaker c.note_mains.result (λ f. option_map failure_of f ≡ least_from o (mains_from p os ss 0 p.uses.package_level)) (λ f. option_map failure_of f ≡ least (all_failures p os ss ds)) (λ f e. e ∙ found)
-    (c.note_mains.ensures ss states (subst (ArePassing knowledge.is_sound os ss) (sym c.deref-8.ensures.value) pass))
+returns-clause-fault c = λ ss h. ?
