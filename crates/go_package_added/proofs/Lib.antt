@@ -1,1 +1,7 @@
-mod Examples
+pub mod Examples
+mod Inserted
+mod Assigned
+mod Judged
+mod Scopes
+mod Rounds
+mod Answered
