@@ -1,4 +1,5 @@
 use Rattle.std.proofs.Common.{length, sym, subst, ◌∙◌}
+use Rattle.go_types_relations.proofs.Public.{grows_both}
 use Rattle.go_package_defs.specs.Knowledge as knowledge
 use Rattle.go_package_rounds.specs.World.{package_in, specifications_in, outlines_in, StandsFor, KnownStandings}
 use Rattle.go_package_rounds.proofs.Public.{standings_more}
@@ -17,6 +18,9 @@ pub unless_told-requires-clause-known : goal.unless_told-requires-clause-known
 unless_told-requires-clause-known c =
     standings_more c.args.types.now c.told_fault.new.types c.count.ensures.table c.told_fault.ensures.grows.extends _
     (subst (KnownStandings (length c.args.types.now.shapes)) (sym c.deref-3.ensures.value) c.in_ok-standings.ensures.known_sound)
+
+pub returns-clause-grows : goal.returns-clause-grows
+returns-clause-grows c = grows_both c.args.types.now c.told_fault.new.types c.unless_told.new.types c.told_fault.ensures.grows c.unless_told.ensures.grows
 
 pub returns-clause-fault : goal.returns-clause-fault
 returns-clause-fault c = λ ss h.
