@@ -18,6 +18,8 @@ mod Own
 mod Texts
 mod Redeclared
 mod Asks
+mod Following
+mod Needing
 mod Faultless
 mod Rounds
 mod Circles
