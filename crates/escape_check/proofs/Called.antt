@@ -16,7 +16,7 @@ use Rattle.go_exprs_rules.specs.Names.{is_row_empty}
 use Rattle.go_exprs_rules.specs.Tables.{on_one}
 use Rattle.go_stmts_defs.specs.Targets.{is_panic, is_panic_call}
 use Rattle.go_stmts_defs.specs.Ending.{any_breaks, breaks, clauses_end, branches_end, is_default_clause, is_fallthrough, is_fallthrough_part, last_flag, last_falls, loop_ends, part_breaks, terminates, which_terminate}
-use Rattle.go_stmts_parts.specs.Rows.{all_clauses_end, both_branches, first_there, last_ends, part_ends}
+use Rattle.go_stmts_defs.specs.Rows.{all_clauses_end, both_branches, first_there, last_ends, part_ends}
 use Rattle.extract_trees.specs.Filled.{all_filled, row_with}
 use Rattle.extract_trees.specs.Numberings.{form_numbered, sort_numbered}
 use Rattle.escape_check.specs.declared.ends.Gap.{Gap as Found}

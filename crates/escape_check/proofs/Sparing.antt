@@ -19,7 +19,7 @@ use Rattle.go_typed.specs.Views.{seen, view}
 use Rattle.go_exprs_rules.specs.Tables.{on_one}
 use Rattle.go_stmts_defs.specs.Targets.{is_panic, is_panic_call}
 use Rattle.go_stmts_defs.specs.Ending.{breaks, is_default_clause, is_fallthrough, is_fallthrough_part, last_falls, lets_break, part_breaks, terminates}
-use Rattle.go_stmts_parts.specs.Rows.{all_clauses_end, both_branches, last_ends, part_ends}
+use Rattle.go_stmts_defs.specs.Rows.{all_clauses_end, both_branches, last_ends, part_ends}
 use Rattle.go_exprs_rules.proofs.Public.{drop_step}
 use Rattle.escape_check.specs.declared.ends.Gap.{Gap as Found}
 use Rattle.escape_check.specs.Called.{all_called, called, ends_over, last_or, staying}

@@ -9,7 +9,7 @@ use Rattle.go_typed.specs.Trees.{Sort, Typed, more, none, first_of, form_of, lis
 use Rattle.go_exprs_rules.specs.Tables.{on_one}
 use Rattle.go_stmts_defs.specs.Ending.{last_falls, loop_ends, part_breaks, terminates}
 use Rattle.go_stmts_defs.specs.Targets.{is_panic, is_panic_call}
-use Rattle.go_stmts_parts.specs.Rows.{all_clauses_end, both_branches, first_there, last_ends}
+use Rattle.go_stmts_defs.specs.Rows.{all_clauses_end, both_branches, first_there, last_ends}
 use Rattle.extract_trees.specs.Filled.{Gap, filled}
 use Rattle.escape_check.specs.declared.ends.Gap.{Gap as Found}
 use Rattle.escape_check.specs.Endings.{call_statement, unchanged}

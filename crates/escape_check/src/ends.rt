@@ -6,7 +6,7 @@ ghost use Rattle.std.specs.Option.{option_map};
 ghost use Rattle.go_exprs_rules.specs.Tables.{on_one};
 ghost use Rattle.go_stmts_defs.specs.Ending.{breaks, is_default_clause, is_fallthrough, last_falls, loop_ends, part_breaks, terminates};
 ghost use Rattle.go_stmts_defs.specs.Targets.{is_panic, is_panic_call};
-ghost use Rattle.go_stmts_parts.specs.Rows.{all_clauses_end, both_branches, first_there, last_ends, part_ends};
+ghost use Rattle.go_stmts_defs.specs.Rows.{all_clauses_end, both_branches, first_there, last_ends, part_ends};
 ghost use Rattle.go_typed.specs.Funcs.{size, sizes};
 ghost use Rattle.go_typed.specs.Trees.{form_of, list_of, parts_of, sort_of};
 ghost use Rattle.go_typed.specs.Views.{seen, sort_seen, view, views};

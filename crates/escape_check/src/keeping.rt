@@ -6,7 +6,7 @@ ghost use Rattle.std.specs.Option.{option_map};
 ghost use Rattle.go_exprs_rules.specs.Tables.{on_one};
 ghost use Rattle.go_stmts_defs.specs.Ending.{breaks, is_default_clause, last_falls, loop_ends, part_breaks, terminates};
 ghost use Rattle.go_stmts_defs.specs.Targets.{is_panic_call};
-ghost use Rattle.go_stmts_parts.specs.Rows.{all_clauses_end, both_branches, last_ends, part_ends};
+ghost use Rattle.go_stmts_defs.specs.Rows.{all_clauses_end, both_branches, last_ends, part_ends};
 ghost use Rattle.go_types.specs.Tables.{Table};
 ghost use Rattle.go_typed.specs.Funcs.{FuncView, size, sizes};
 ghost use Rattle.go_typed.specs.Trees.{first_of};

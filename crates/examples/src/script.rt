@@ -5,12 +5,16 @@ use std::process::Abort;
 use std::test::Fail;
 
 /// Commands of every kind.
-const COMMANDS: [&[u8]; 7] = [
+const COMMANDS: [&[u8]; 11] = [
     b"classes\n",
+    b"maximal\n",
+    b"extract 1 sum all\n",
     b"edit a.go 68 68 2\n\n}\n",
     b"add b.go 13\npackage main\n\n",
     b"drop b.go\n",
     b"stat\n",
+    b"run 9 2\n12\n",
+    b"save\n",
     b"show b.go\n",
     b"quit\n",
 ];

@@ -6,7 +6,7 @@ use Rattle.go_typed.specs.Trees.{typed}
 use Rattle.go_exprs_rules.specs.Settling.{Part}
 use Rattle.go_exprs_rules.specs.Tables.{Parts}
 use Rattle.go_stmts_defs.specs.Reading.{last_of_list, tag_behind, first_name, name_in}
-use Rattle.go_stmts_parts.specs.Rows.{first_there}
+use Rattle.go_stmts_defs.specs.Rows.{first_there}
 use Rattle.go_stmts.specs.Tags.{part_tag}
 
 pub last_listed : {A : Type 0} (f : A → Option Part) (ns : List A) (n : A) → last_of_list (map f (ns ++ n ∷ [])) ≡ f n

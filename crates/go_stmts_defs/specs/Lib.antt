@@ -1,6 +1,7 @@
 pub mod Frames
 pub mod Targets
 pub mod Ending
+pub mod Rows
 pub mod Assigning
 pub mod Laying
 pub mod Rules

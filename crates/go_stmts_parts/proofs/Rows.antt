@@ -12,7 +12,7 @@ use Rattle.go_exprs_rules.specs.Sorts.{Stands}
 use Rattle.go_exprs_rules.specs.Tables.{Parts, is_call, is_variable_name, on_first}
 use Rattle.go_stmts_defs.specs.Targets.{is_variable, bare, is_panic, acts, callee_passes, is_statement_call, is_panic_call}
 use Rattle.go_stmts_defs.specs.Ending.{is_break, lets_break, breaks, any_breaks, part_breaks, last_flag, last_falls, is_default_clause, branches_end, clauses_end, ends, which_terminate, terminates, is_fallthrough_part}
-use Rattle.go_stmts_parts.specs.Rows.{first_there, varies_by_first, inner_or, is_parenthesized, callee_of, passes, part_ends, last_ends, both_branches, all_clauses_end, ends_over}
+use Rattle.go_stmts_defs.specs.Rows.{first_there, varies_by_first, inner_or, is_parenthesized, callee_of, passes, part_ends, last_ends, both_branches, all_clauses_end, ends_over}
 
 pub variable_by : (rights : Rights) (x : Part) → is_variable rights x ≡ (is_variable_name (form_of x) (sort_of x) || varies_by_first rights (form_of x) (first_there (list_of (parts_of x))))
 variable_by rights (typed f i j l none) = refl

@@ -1,4 +1,3 @@
-pub mod Rows
 pub mod Passings
 pub mod Layouts
 pub mod Late

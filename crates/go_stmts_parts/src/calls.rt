@@ -5,7 +5,7 @@ ghost use Rattle.go_typed.specs.Views.{seen, sort_seen, Known, KnownSort};
 ghost use Rattle.std.specs.Prelude.{IfSome};
 ghost use Rattle.std.specs.Option.{option_map};
 ghost use Rattle.go_stmts_defs.specs.Targets.{bare, is_panic, acts, is_statement_call, is_panic_call};
-ghost use Rattle.go_stmts_parts.specs.Rows.{callee_of};
+ghost use Rattle.go_stmts_defs.specs.Rows.{callee_of};
 
 use crate::nodes::{first_there, form_of, parts_of};
 use go_exprs_rules::nodes::sort_of;

@@ -6,7 +6,7 @@ ghost use Rattle.go_typed.specs.Views.{seen, Known, AllKnown};
 ghost use Rattle.go_exprs_rules.specs.Tables.{on_one};
 ghost use Rattle.go_stmts_defs.specs.Targets.{is_panic_call};
 ghost use Rattle.go_stmts_defs.specs.Ending.{lets_break, breaks, part_breaks, loop_ends, last_falls, is_default_clause, terminates};
-ghost use Rattle.go_stmts_parts.specs.Rows.{part_ends, last_ends, both_branches, all_clauses_end};
+ghost use Rattle.go_stmts_defs.specs.Rows.{part_ends, last_ends, both_branches, all_clauses_end};
 
 use crate::calls::is_panic_call;
 use crate::nodes::{form_of, parts_of};

@@ -4,7 +4,7 @@ ghost use Rattle.std.specs.Option.{option_map};
 ghost use Rattle.go_typed.specs.Funcs.{size, sizes};
 ghost use Rattle.go_typed.specs.Trees.{form_of, list_of, parts_of};
 ghost use Rattle.go_typed.specs.Views.{seen, view, views, Known, AllKnown};
-ghost use Rattle.go_stmts_parts.specs.Rows.{first_there};
+ghost use Rattle.go_stmts_defs.specs.Rows.{first_there};
 
 use go_typed::{Form, TypedNode};
 use go_types::Types;

@@ -5,7 +5,7 @@ use Rattle.go_types.specs.Trees.{TypeTree}
 use Rattle.go_typed.specs.declared.node.TypedNode.{TypedNode}
 use Rattle.go_typed.specs.Trees.{Typed}
 use Rattle.go_typed.specs.Views.{seen}
-use Rattle.go_stmts_parts.specs.Rows.{part_ends}
+use Rattle.go_stmts_defs.specs.Rows.{part_ends}
 use Rattle.escape_check.specs.Called.{called, staying}
 use Rattle.escape_check.proofs.Called.{ends_last}
 use Rattle.escape_check.proofs.Parts.{one_within}

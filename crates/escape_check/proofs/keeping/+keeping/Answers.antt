@@ -5,7 +5,7 @@ use Rattle.std.specs.Option.{option_map}
 use Rattle.go_typed.specs.declared.form.Form.TheVariants as form
 use Rattle.go_typed.specs.Views.{seen}
 use Rattle.go_stmts_defs.specs.Ending.{last_falls, terminates}
-use Rattle.go_stmts_parts.specs.Rows.{all_clauses_end, both_branches, last_ends, part_ends}
+use Rattle.go_stmts_defs.specs.Rows.{all_clauses_end, both_branches, last_ends, part_ends}
 use Rattle.escape_check.specs.Called.{all_called, called, staying}
 use Rattle.escape_check.specs.Keeping.{Extends}
 use Rattle.escape_check.proofs.Parts.{one_within}

@@ -3,7 +3,7 @@ use Rattle.std.specs.List.{list_all}
 use Rattle.std.specs.Option.{option_map}
 use Rattle.go_typed.specs.Funcs.{size, sizes}
 use Rattle.go_typed.specs.Views.{seen, view, views}
-use Rattle.go_stmts_parts.specs.Rows.{part_ends}
+use Rattle.go_stmts_defs.specs.Rows.{part_ends}
 use Rattle.escape_check.specs.declared.ends.Gap.{Gap as Found}
 use Rattle.escape_check.specs.Called.{all_called}
 use Rattle.escape_check.specs.Keeping.{Extends, Spares}

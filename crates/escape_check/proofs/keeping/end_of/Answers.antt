@@ -5,7 +5,7 @@ use Rattle.go_typed.specs.declared.node.TypedNode.{TypedNode}
 use Rattle.go_typed.specs.Forms.{is_function}
 use Rattle.go_typed.specs.Trees.{form_of, list_of, parts_of}
 use Rattle.go_typed.specs.Views.{seen, view}
-use Rattle.go_stmts_parts.specs.Rows.{first_there}
+use Rattle.go_stmts_defs.specs.Rows.{first_there}
 use Rattle.escape_check.specs.Called.{body_over, called}
 use Rattle.escape_check.specs.Endings.{tree_terminates}
 use Rattle.escape_check.proofs.Called.{body_by}

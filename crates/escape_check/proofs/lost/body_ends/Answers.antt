@@ -3,7 +3,7 @@ use Rattle.std.specs.Borrow.{Bor}
 use Rattle.std.specs.Option.{option_map}
 use Rattle.go_typed.specs.declared.node.TypedNode.{TypedNode}
 use Rattle.go_typed.specs.Views.{seen}
-use Rattle.go_stmts_parts.specs.Rows.{first_there}
+use Rattle.go_stmts_defs.specs.Rows.{first_there}
 use Rattle.escape_check.specs.Called.{body_over}
 use Rattle.escape_check.proofs.Called.{body_by}
 use Rattle.escape_check.proofs.lost.body_ends.Goals as goal

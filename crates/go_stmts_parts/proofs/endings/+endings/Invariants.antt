@@ -3,7 +3,7 @@ use Rattle.std.specs.List.{list_all}
 use Rattle.std.specs.Option.{option_map}
 use Rattle.go_typed.specs.Funcs.{size, sizes}
 use Rattle.go_typed.specs.Views.{seen, view, views, AllKnown}
-use Rattle.go_stmts_parts.specs.Rows.{part_ends}
+use Rattle.go_stmts_defs.specs.Rows.{part_ends}
 use Rattle.go_stmts_parts.proofs.endings.+endings.Given as goal
 
 -- the measure of a node is four times its size, and that of parts a little more than four times theirs

@@ -1,8 +1,9 @@
 -- Where nothing else fails: the rules of specifications that may be blocked.
 use Rattle.std.proofs.Common.{◌≡◌, ℕ, zero, suc, ◌+◌, ◌≤◌, Bool, true, false, List, [], ◌∷◌, ◌++◌, length, map, drop, Option, Some, None, refl, ap, sym, subst, ◌∙◌, arith}
-use Rattle.std.specs.Prelude.{◌&&◌, ◌||◌, not, slice_get}
+use Rattle.std.specs.Prelude.{◌&&◌, ◌||◌, not, is_some, slice_get}
 use Rattle.std.specs.Bool.{beq}
 use Rattle.std.specs.List.{list_any}
+use Rattle.std.specs.Option.{option_map}
 use Rattle.std.proofs.lemmas.List.{drop_all}
 use Rattle.go_tree.specs.Failures.{Failure, is_earlier, earlier, least_from, least}
 use Rattle.go_exprs_rules.specs.declared.fault.TypeFault.{TypeFault}
@@ -138,10 +139,26 @@ module _ (p : Package) (os : List Outline) (ss : List State) (faulty : list_any 
 
 -- ---- the fault that is reported
 
-pub tests_are : (faulty assigning : List Bool) (ss : List State) → faulty ≡ map is_faulty ss → assigning ≡ map is_misassigned ss
-    → (list_any (λ b. beq b true) faulty || list_any (λ b. beq b true) assigning) ≡ (list_any is_faulty ss || list_any is_misassigned ss)
-tests_are faulty assigning ss f a =
-    ap (λ b. b || list_any (λ b. beq b true) assigning) (any_true is_faulty ss faulty f) ∙ ap (λ b. list_any is_faulty ss || b) (any_true is_misassigned ss assigning a)
+pub mapped_there : {A B : Type 0} (f : A → B) (o : Option A) → is_some (option_map f o) ≡ is_some o
+mapped_there f None = refl
+mapped_there f (Some x) = refl
+
+or_first : (a b : Bool) → a ≡ true → a ≡ (a || b)
+or_first true b e = refl
+or_first false b e = absurd cc
+
+or_second : (a b : Bool) → a ≡ false → b ≡ (a || b)
+or_second false b e = refl
+or_second true b e = absurd cc
+
+-- whether a rule fails, by two tests
+pub failing_first : (r : Bool) (faulty : List Bool) (ss : List State) → faulty ≡ map is_faulty ss → r ≡ list_any (λ b. beq b true) faulty → r ≡ true → r ≡ (list_any is_faulty ss || list_any is_misassigned ss)
+failing_first r faulty ss f e t =
+    let same : r ≡ list_any is_faulty ss = e ∙ any_true is_faulty ss faulty f in same ∙ or_first (list_any is_faulty ss) (list_any is_misassigned ss) (sym same ∙ t)
+
+pub failing_second : (r q : Bool) (faulty assigning : List Bool) (ss : List State) → faulty ≡ map is_faulty ss → assigning ≡ map is_misassigned ss → r ≡ list_any (λ b. beq b true) faulty → r ≡ false → q ≡ list_any (λ b. beq b true) assigning
+    → q ≡ (list_any is_faulty ss || list_any is_misassigned ss)
+failing_second r q faulty assigning ss f a e t m = m ∙ any_true is_misassigned ss assigning a ∙ or_second (list_any is_faulty ss) (list_any is_misassigned ss) (sym (e ∙ any_true is_faulty ss faulty f) ∙ t)
 
 module _ (p : Package) (os : List Outline) (ss : List State) (ds : List Specification) where
   -- it is told
@@ -158,3 +175,15 @@ module _ (p : Package) (os : List Outline) (ss : List State) (ds : List Specific
       let faulty = first_not (list_any is_faulty ss) (list_any is_misassigned ss) n in
       let assigning = second_not (list_any is_faulty ss) (list_any is_misassigned ss) n in
       sym (hidden_first e ∙ ap least (none_hidden p os ss faulty assigning ds (none_least (all_failures p os ss ds) e)))
+
+  pub told_there : (o : Option Failure) → is_some o ≡ true → o ≡ least (all_failures p os ss ds) → o ≡ least (package_failures p os ss ds)
+  told_there None n e = absurd cc
+  told_there (Some f) n e = told_first (Some f) f refl e
+
+  pub hidden_there : (o : Option Failure) → is_some o ≡ false → o ≡ least (all_failures p os ss ds) → least (package_failures p os ss ds) ≡ least (hidden_failures p os ss ds)
+  hidden_there None n e = hidden_first e
+  hidden_there (Some f) n e = absurd cc
+
+  pub nothing_there : (o : Option Failure) → is_some o ≡ false → o ≡ least (all_failures p os ss ds) → (list_any is_faulty ss || list_any is_misassigned ss) ≡ false → o ≡ least (package_failures p os ss ds)
+  nothing_there None n e h = nothing_first h e
+  nothing_there (Some f) n e h = absurd cc
