@@ -39,7 +39,7 @@ use Rattle.go_heads_added.proofs.Tells.{function_of}
 use Rattle.go_heads_added.proofs.Within.{file_within}
 
 -- a file has a package clause
-clause_behind : (ts : List TokenKind) (j : ℕ) (ps : Trees) → IsFile ts (node kind.File 0 j ps) → 1 < j
+pub clause_behind : (ts : List TokenKind) (j : ℕ) (ps : Trees) → IsFile ts (node kind.File 0 j ps) → 1 < j
 clause_behind ts j none f = absurd f.derives.1
 clause_behind ts j (more p qs) f =
     let l = derives_laid ts (node kind.File 0 j (more p qs)) category.File f.derives in

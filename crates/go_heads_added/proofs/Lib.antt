@@ -26,3 +26,4 @@ mod Circles
 mod Bare
 mod Tells
 mod Derived
+pub mod Public
