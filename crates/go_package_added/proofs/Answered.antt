@@ -285,7 +285,7 @@ module _ (moves : MovesTyped) (keeps : KeepsWords) (follows : FollowsTokens) (p 
   two_more : rounds q ≡ suc (suc (rounds p))
   two_more = let e = count_with in omega (arith, e)
 
-  module _ (settles : Settles p xs) (s : Stands) (sig : IsSignature q os g.shared h.function (known p xs (rounds p)) s) where
+  module _ (settles : Settles p xs) (s : Stands) (sig : IsSignature q os g.shared h.function.specification h.function.column (known p xs (rounds p)) s) where
     further_one : known p xs (suc (rounds p)) ≡ known p xs (rounds p)
     further_one = ap (known p xs) (let z : suc (rounds p) ≡ 1 + rounds p = omega arith in z) ∙ settles.further 1
 

@@ -5,3 +5,10 @@ mod Judged
 mod Scopes
 mod Rounds
 mod Answered
+mod Specified
+mod Outlined
+mod Needing
+mod Named
+mod Numbered
+mod Appending
+mod Keeping

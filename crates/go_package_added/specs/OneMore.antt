@@ -72,9 +72,8 @@ function_state s = record { right = None; stands = s; faults = []; assigning = [
 
 -- Where these states are found of the other objects, the function stands for s, and no rule fails in its signature, whatever is known of the
 -- function itself.
-pub record IsSignature (q : Package) (os : List Outline) (a : ℕ) (function : Outline) (found : List State) (s : Stands) : Type 0 where
-  pub state : (y : State) → let scope = free_scope q os (inserted a y found) function.specification in
-      value_state scope function.specification function.column (own_faults scope function.specification function.column) ≡ function_state s
+pub record IsSignature (q : Package) (os : List Outline) (a : ℕ) (d : Specification) (column : ℕ) (found : List State) (s : Stands) : Type 0 where
+  pub state : (y : State) → let scope = free_scope q os (inserted a y found) d in value_state scope d column (own_faults scope d column) ≡ function_state s
 
 -- A round behind the last one, and one behind that, find the same.
 pub record Settles (p : Package) (os : List Outline) : Type 0 where
