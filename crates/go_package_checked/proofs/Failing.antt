@@ -40,9 +40,9 @@ behind_none : {A : Type 0} (xs ys : List A) → xs ++ ys ≡ [] → ys ≡ []
 behind_none [] ys e = e
 behind_none (x ∷ xs) ys e = cc
 
-else_none : {fs gs : List Failure} → or_else fs gs ≡ [] → gs ≡ []
-else_none {fs = []} e = e
-else_none {fs = f ∷ fs} e = absurd cc
+else_none : (fs gs : List Failure) → or_else fs gs ≡ [] → gs ≡ []
+else_none [] gs e = e
+else_none (f ∷ fs) gs e = absurd cc
 
 -- ---- specifications
 
@@ -90,7 +90,7 @@ module _ (p : Package) (os : List Outline) (found : List State) where
   pub answered : (ds : List Specification) (e : Environment) → answer_on p ds os found ≡ Ok e → Answered ds e
   answered ds e a =
       let u = unless_none (least (package_failures p os found ds)) (environment_of p found) e a in
-      let none : hidden_failures p os found ds ≡ [] = else_none {fs = all_failures p os found ds} (least_none (package_failures p os found ds) u.0) in
+      let none : hidden_failures p os found ds ≡ [] = else_none (all_failures p os found ds) (hidden_failures p os found ds) (least_none (package_failures p os found ds) u.0) in
       record { fine = all_fine ds none; ruled = all_ruled ds none; environment = u.1 }
 
 -- ---- the specifications of objects
