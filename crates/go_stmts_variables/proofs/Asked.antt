@@ -69,10 +69,13 @@ the_variable = record { upto = 12; function = 0; local = 1; type = named_type }
 hole_fits : (l : Label TypeTree) → is_hole false form.Literal l ≡ true → final_type l.sort ≡ Some named_type → (v : Standin) → Some the_variable ≡ Some v → IsFit v false form.Literal 12 l
 hole_fits l h t v e = let same : the_variable ≡ v = cc in subst (λ v. IsFit v false form.Literal 12 l) same (record { hole = h; upto = refl; type = t })
 
+nothing_stands : {X : Type 0} (v : Standin) → None ≡ Some v → X
+nothing_stands v e = cc
+
 fits : Fits standing false (tree_in (reading before value body))
 unfolding sooner answers is_assignable is_digit_of letter_base encode_utf8
 fits =
-    ((λ v e h. cc), refl, (((λ v e h. cc), refl, (((λ v e h. cc), refl, tt), (((λ v e h. cc), refl, (((λ v e h. hole_fits _ refl refl v e), refl, tt), (((λ v e h. cc), refl, (((λ v e h. cc), refl, tt), tt)), tt))), tt))), tt))
+    ((λ v e h. nothing_stands v e), refl, (((λ v e h. nothing_stands v e), refl, (((λ v e h. nothing_stands v e), refl, tt), (((λ v e h. nothing_stands v e), refl, (((λ v e h. hole_fits _ refl refl v e), refl, tt), (((λ v e h. nothing_stands v e), refl, (((λ v e h. nothing_stands v e), refl, tt), tt)), tt))), tt))), tt))
 
 -- ---- frames
 

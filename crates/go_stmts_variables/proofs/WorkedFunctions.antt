@@ -53,7 +53,7 @@ declaring_after : IsFunction worked.declaring_after
 unfolding width span begun_by is_white is_letter is_digit is_in_word is_in_run is_exponent is_power is_sign is_x is_b is_o is_digit_of letter_base goes operators punctuation outside_operators keywords general_category value_in general_category_rows encode_utf8
 declaring_after = record { lexes = lexes_by_test 0 worked.declaring_after.pieces refl; kinds = refl; words = refl; tree = refl }
 
-declaring : VariedBy typed_with_type (variable_at 15 16 1 int) worked.declaring_before worked.declaring_after
+declaring : VariedBy typed_with_type (variable_at 14 15 1 int) worked.declaring_before worked.declaring_after
 unfolding sooner answers is_assignable is_digit_of letter_base encode_utf8
 declaring = record { before = declaring_before; after = declaring_after; tree = refl; good = refl; typed = refl }
 

@@ -114,74 +114,54 @@ case_after = record {
       (block 9 18 (more (node kind.Switch 10 17 (two (name 11) (node kind.Case 13 16 (one (node kind.ExpressionList 14 15 (one (name 14))))))) none)));
 }
 
--- func f(n int, p int) int { switch n { case 1: type T int; return int(T(n)) }; return n }
-abbrev pub converted : Tree
-converted = node kind.Call 22 29 (two (name 22) (node kind.Call 24 28 (two (name 24) (name 26))))
-
+-- func f(n int, p int) { switch n { case 1: type T int } }
 abbrev pub typed_clause : Tree → Tree
 typed_clause x =
-    node kind.FunctionDeclaration 0 34 (two
-    (node kind.Signature 2 10 (more
+    node kind.FunctionDeclaration 0 21 (two
+    (node kind.Signature 2 9 (more
     (node kind.Parameters 2 9 (more (node kind.Parameter 3 5 (two (name 3) (name 4))) (more (node kind.Parameter 6 8 (two (name 6) (name 7))) none)))
-    (more (name 9) none)))
-    (block 10 34 (two
-    (node kind.Switch 11 30 (two (name 12) (node kind.Case 14 29 (more (node kind.ExpressionList 15 16 (one x)) (two
-    (node (kind.Declaration declaring.Type) 17 20 (one (node (kind.Specification declaring.Type) 18 20 (one (name 19)))))
-    (node kind.Return 21 29 (one (node kind.ExpressionList 22 29 (one converted)))))))))
-    (node kind.Return 31 33 (one (node kind.ExpressionList 32 33 (one (name 32))))))))
+    (skip none)))
+    (block 9 21 (more
+    (node kind.Switch 10 20 (two (name 11) (node kind.Case 13 19 (two (node kind.ExpressionList 14 15 (one x))
+    (node (kind.Declaration declaring.Type) 16 19 (one (node (kind.Specification declaring.Type) 17 19 (one (name 18)))))))))
+    none)))
 
 abbrev pub declaring_before : Expression
 declaring_before = record {
   pieces =
       codes "func" ∷ blank ∷ codes "f" ∷ codes "(" ∷ codes "n" ∷ blank ∷ codes "int" ∷ codes "," ∷ blank ∷ codes "p" ∷ blank ∷ codes "int" ∷
-      codes ")" ∷ blank ∷ codes "int" ∷ blank ∷ codes "{" ∷ blank ∷ codes "switch" ∷ blank ∷ codes "n" ∷ blank ∷ codes "{" ∷ blank ∷ codes "case" ∷ blank ∷
-      codes "1" ∷ codes ":" ∷ blank ∷ codes "type" ∷ blank ∷ codes "T" ∷ blank ∷ codes "int" ∷ codes ";" ∷ blank ∷ codes "return" ∷ blank ∷ codes "int" ∷
-      codes "(" ∷ codes "T" ∷ codes "(" ∷ codes "n" ∷ codes ")" ∷ codes ")" ∷ blank ∷ codes "}" ∷ codes ";" ∷ blank ∷ codes "return" ∷ blank ∷ codes "n" ∷
-      blank ∷ codes "}" ∷ [];
+      codes ")" ∷ blank ∷ codes "{" ∷ blank ∷ codes "switch" ∷ blank ∷ codes "n" ∷ blank ∷ codes "{" ∷ blank ∷ codes "case" ∷ blank ∷ codes "1" ∷
+      codes ":" ∷ blank ∷ codes "type" ∷ blank ∷ codes "T" ∷ blank ∷ codes "int" ∷ blank ∷ codes "}" ∷ blank ∷ codes "}" ∷ [];
   kinds =
       token.Func ∷ token.Identifier ∷ token.LeftParenthesis ∷ token.Identifier ∷ token.Identifier ∷ token.Comma ∷ token.Identifier ∷
-      token.Identifier ∷ token.RightParenthesis ∷ token.Identifier ∷ token.LeftBrace ∷ token.Switch ∷ token.Identifier ∷ token.LeftBrace ∷ token.Case ∷
-      token.Integer ∷ token.Colon ∷ token.Type ∷ token.Identifier ∷ token.Identifier ∷ token.Semicolon ∷ token.Return ∷ token.Identifier ∷
-      token.LeftParenthesis ∷ token.Identifier ∷ token.LeftParenthesis ∷ token.Identifier ∷ token.RightParenthesis ∷ token.RightParenthesis ∷
-      token.RightBrace ∷ token.Semicolon ∷ token.Return ∷ token.Identifier ∷ token.RightBrace ∷ token.Semicolon ∷ [];
+      token.Identifier ∷ token.RightParenthesis ∷ token.LeftBrace ∷ token.Switch ∷ token.Identifier ∷ token.LeftBrace ∷ token.Case ∷ token.Integer ∷
+      token.Colon ∷ token.Type ∷ token.Identifier ∷ token.Identifier ∷ token.RightBrace ∷ token.RightBrace ∷ token.Semicolon ∷ [];
   words =
       word (codes "func") ∷ word (codes "f") ∷ word (codes "(") ∷ named (codes "n") (local 0) ∷
       named (codes "int") (Some (object.Predeclared predeclared.Int)) ∷ word (codes ",") ∷ named (codes "p") (local 1) ∷
-      named (codes "int") (Some (object.Predeclared predeclared.Int)) ∷ word (codes ")") ∷
-      named (codes "int") (Some (object.Predeclared predeclared.Int)) ∷ word (codes "{") ∷ word (codes "switch") ∷ named (codes "n") (local 0) ∷
-      word (codes "{") ∷ word (codes "case") ∷ word (codes "1") ∷ word (codes ":") ∷ word (codes "type") ∷ named (codes "T") (local 2) ∷
-      named (codes "int") (Some (object.Predeclared predeclared.Int)) ∷ word (codes ";") ∷ word (codes "return") ∷
-      named (codes "int") (Some (object.Predeclared predeclared.Int)) ∷ word (codes "(") ∷ named (codes "T") (local 2) ∷ word (codes "(") ∷
-      named (codes "n") (local 0) ∷ word (codes ")") ∷ word (codes ")") ∷ word (codes "}") ∷ word (codes ";") ∷ word (codes "return") ∷
-      named (codes "n") (local 0) ∷ word (codes "}") ∷ [];
-  tree = typed_clause (number 15);
+      named (codes "int") (Some (object.Predeclared predeclared.Int)) ∷ word (codes ")") ∷ word (codes "{") ∷ word (codes "switch") ∷
+      named (codes "n") (local 0) ∷ word (codes "{") ∷ word (codes "case") ∷ word (codes "1") ∷ word (codes ":") ∷ word (codes "type") ∷
+      named (codes "T") (local 2) ∷ named (codes "int") (Some (object.Predeclared predeclared.Int)) ∷ word (codes "}") ∷ word (codes "}") ∷ [];
+  tree = typed_clause (number 14);
 }
 
 abbrev pub declaring_after : Expression
 declaring_after = record {
   pieces =
       codes "func" ∷ blank ∷ codes "f" ∷ codes "(" ∷ codes "n" ∷ blank ∷ codes "int" ∷ codes "," ∷ blank ∷ codes "p" ∷ blank ∷ codes "int" ∷
-      codes ")" ∷ blank ∷ codes "int" ∷ blank ∷ codes "{" ∷ blank ∷ codes "switch" ∷ blank ∷ codes "n" ∷ blank ∷ codes "{" ∷ blank ∷ codes "case" ∷ blank ∷
-      codes "p" ∷ codes ":" ∷ blank ∷ codes "type" ∷ blank ∷ codes "T" ∷ blank ∷ codes "int" ∷ codes ";" ∷ blank ∷ codes "return" ∷ blank ∷ codes "int" ∷
-      codes "(" ∷ codes "T" ∷ codes "(" ∷ codes "n" ∷ codes ")" ∷ codes ")" ∷ blank ∷ codes "}" ∷ codes ";" ∷ blank ∷ codes "return" ∷ blank ∷ codes "n" ∷
-      blank ∷ codes "}" ∷ [];
+      codes ")" ∷ blank ∷ codes "{" ∷ blank ∷ codes "switch" ∷ blank ∷ codes "n" ∷ blank ∷ codes "{" ∷ blank ∷ codes "case" ∷ blank ∷ codes "p" ∷
+      codes ":" ∷ blank ∷ codes "type" ∷ blank ∷ codes "T" ∷ blank ∷ codes "int" ∷ blank ∷ codes "}" ∷ blank ∷ codes "}" ∷ [];
   kinds =
       token.Func ∷ token.Identifier ∷ token.LeftParenthesis ∷ token.Identifier ∷ token.Identifier ∷ token.Comma ∷ token.Identifier ∷
-      token.Identifier ∷ token.RightParenthesis ∷ token.Identifier ∷ token.LeftBrace ∷ token.Switch ∷ token.Identifier ∷ token.LeftBrace ∷ token.Case ∷
-      token.Identifier ∷ token.Colon ∷ token.Type ∷ token.Identifier ∷ token.Identifier ∷ token.Semicolon ∷ token.Return ∷ token.Identifier ∷
-      token.LeftParenthesis ∷ token.Identifier ∷ token.LeftParenthesis ∷ token.Identifier ∷ token.RightParenthesis ∷ token.RightParenthesis ∷
-      token.RightBrace ∷ token.Semicolon ∷ token.Return ∷ token.Identifier ∷ token.RightBrace ∷ token.Semicolon ∷ [];
+      token.Identifier ∷ token.RightParenthesis ∷ token.LeftBrace ∷ token.Switch ∷ token.Identifier ∷ token.LeftBrace ∷ token.Case ∷ token.Identifier ∷
+      token.Colon ∷ token.Type ∷ token.Identifier ∷ token.Identifier ∷ token.RightBrace ∷ token.RightBrace ∷ token.Semicolon ∷ [];
   words =
       word (codes "func") ∷ word (codes "f") ∷ word (codes "(") ∷ named (codes "n") (local 0) ∷
       named (codes "int") (Some (object.Predeclared predeclared.Int)) ∷ word (codes ",") ∷ named (codes "p") (local 1) ∷
-      named (codes "int") (Some (object.Predeclared predeclared.Int)) ∷ word (codes ")") ∷
-      named (codes "int") (Some (object.Predeclared predeclared.Int)) ∷ word (codes "{") ∷ word (codes "switch") ∷ named (codes "n") (local 0) ∷
-      word (codes "{") ∷ word (codes "case") ∷ named (codes "p") (local 1) ∷ word (codes ":") ∷ word (codes "type") ∷ named (codes "T") (local 2) ∷
-      named (codes "int") (Some (object.Predeclared predeclared.Int)) ∷ word (codes ";") ∷ word (codes "return") ∷
-      named (codes "int") (Some (object.Predeclared predeclared.Int)) ∷ word (codes "(") ∷ named (codes "T") (local 2) ∷ word (codes "(") ∷
-      named (codes "n") (local 0) ∷ word (codes ")") ∷ word (codes ")") ∷ word (codes "}") ∷ word (codes ";") ∷ word (codes "return") ∷
-      named (codes "n") (local 0) ∷ word (codes "}") ∷ [];
-  tree = typed_clause (name 15);
+      named (codes "int") (Some (object.Predeclared predeclared.Int)) ∷ word (codes ")") ∷ word (codes "{") ∷ word (codes "switch") ∷
+      named (codes "n") (local 0) ∷ word (codes "{") ∷ word (codes "case") ∷ named (codes "p") (local 1) ∷ word (codes ":") ∷ word (codes "type") ∷
+      named (codes "T") (local 2) ∷ named (codes "int") (Some (object.Predeclared predeclared.Int)) ∷ word (codes "}") ∷ word (codes "}") ∷ [];
+  tree = typed_clause (name 14);
 }
 
 -- func f(p int) int { x := 1; return x }
@@ -535,7 +515,7 @@ pub record WorkedFunctions : Type 0 where
   -- a value of a case becomes a variable of the tag's type
   pub case : VariedFunction (variable_at 14 15 1 int) case_before case_after
   -- so it does in a clause that declares a type
-  pub declaring : VariedBy typed_with_type (variable_at 15 16 1 int) declaring_before declaring_after
+  pub declaring : VariedBy typed_with_type (variable_at 14 15 1 int) declaring_before declaring_after
   -- `x := 1` takes the default type
   pub definition : VariedFunction (variable_at 10 11 0 int) definition_before definition_after
   -- the left operand of a shift takes the type of the result
