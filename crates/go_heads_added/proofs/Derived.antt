@@ -6,10 +6,12 @@ use Rattle.go_tokens.specs.declared.token.TokenKind.{TokenKind}
 use Rattle.go_grammar.specs.declared.kind.Kind.TheVariants as kind
 use Rattle.go_grammar.specs.declared.kind.Category.TheVariants as category
 use Rattle.go_grammar.specs.Trees.{Tree, node, Trees, none, more, skip, last}
+use Rattle.go_grammar.specs.Trees as trees
 use Rattle.go_grammar.specs.Grammar.{IsFile, Derives}
 use Rattle.go_rewriting.specs.Places.{with_declaration}
 use Rattle.go_tree.specs.Contexts.{file_context}
-use Rattle.go_tree.specs.Events.{events}
+use Rattle.go_tree.specs.Events.{events, function_declared}
+use Rattle.go_tokens.specs.Spellings.{same_text}
 use Rattle.go_tree.specs.declared.event.Event.{Event}
 use Rattle.go_tree.specs.Duplicates.{second_members}
 use Rattle.go_tree.specs.Faults.{lookup_faults, reported}
@@ -21,19 +23,21 @@ use Rattle.go_tree.specs.declared.context.Block.TheVariants as block
 use Rattle.go_tree.specs.declared.context.Entity.TheVariants as entity
 use Rattle.go_tree.specs.declared.context.Manner.TheVariants as manner
 use Rattle.go_tree.specs.Declarations.{Found, found_in}
-use Rattle.go_scopes_events.proofs.Public.{derives_laid, laid_grows, lie_order}
+use Rattle.go_scopes_events.proofs.Public.{derives_laid, events_order, laid_grows, lie_order}
 use Rattle.go_heads_added.specs.Added.{NoneSays, gap_in}
 use Rattle.go_heads_added.specs.Appended.{AreAdded, HasNames, IsFront, IsParsed, context_behind, empty_function, unit_of}
 use Rattle.go_heads_added.specs.Faults.{FunctionIsFine, FileIsWithin, MayBeAdded, MeansOuter}
 use Rattle.go_heads_added.specs.Within.{EventWithin, IsOfFunction}
 use Rattle.go_heads_added.proofs.Faultless.{faultless}
 use Rattle.go_heads_added.specs.Kept.{KeepsPackage}
+use Rattle.go_heads_added.proofs.Locals.{locals_kept}
 use Rattle.go_heads_added.proofs.Lying.{LocalsFollowAll, added_here}
 use Rattle.go_heads_added.proofs.Names.{declared_added, declared_parts, names_added}
 use Rattle.go_tree.specs.Uses.{count_functions}
 use Rattle.go_tree.specs.declared.object.Declared.{Declared}
+use Rattle.go_heads_added.proofs.Outer.{names_outer, scopes_behind}
 use Rattle.go_heads_added.proofs.Needing.{functions_in_front, needs_kept}
-use Rattle.go_heads_added.proofs.Parameters.{signature_context, function_tells}
+use Rattle.go_heads_added.proofs.Parameters.{signature_context, function_tells, parameters_own}
 use Rattle.go_heads_added.proofs.Rounds.{Bound}
 use Rattle.go_heads_added.proofs.Tells.{function_of}
 use Rattle.go_heads_added.proofs.Within.{file_within}
@@ -90,6 +94,9 @@ module _ (follow : LocalsFollowAll) (k j end x y u v : ℕ) (a b : TokenList) (t
   first_found : (f g : Found) (fs gs : List Found) → f ∷ fs ≡ g ∷ gs → g ≡ f
   first_found f g fs gs e = cc
 
+  others_found : (f g : Found) (fs gs : List Found) → f ∷ fs ≡ g ∷ gs → fs ≡ gs
+  others_found f g fs gs e = cc
+
   -- the function's name is the token behind its first one
   pub called_here : (m : AreAdded k j name old new) → Derives us category.Declaration d → m.added.longer.added ≡ events (context_behind end ps d) d → m.added.longer.function.it.name ≡ suc x
   called_here m h e =
@@ -111,12 +118,29 @@ module _ (follow : LocalsFollowAll) (k j end x y u v : ℕ) (a b : TokenList) (t
         gap = gap_in k j name old new m.added;
         objects = names_added k j name old new m.added m.lies q;
         declared = declared_added k j name old new m.added m.lies;
+        locals = locals_kept k j name old new m.added m.lies;
         needs = needs_kept k j name old new m.added m.lies q (file_here m file r.1) (told_here m h l r.3);
         functions = ap count_functions parts.0 ∙ functions_in_front k j name old new m.added m.lies;
         file = ap (λ (z : Declared). z.file) parts.1 ∙ m.added.longer.is_function.file;
         name = ap (λ (z : Declared). z.name) parts.1 ∙ called_here m h r.3;
         entity = ap (λ (z : Declared). z.entity) parts.1 ∙ m.added.longer.is_function.entity;
       }
+
+  -- the names of its signature mean what is declared elsewhere, where none of its tokens says its name
+  pub outer_here : length before ≡ k → AllByRecursion IsParsed before → AllByRecursion IsParsed behind → IsFile ts t → HasNames (unit_of a t) → IsFront j a b → Derives us category.Declaration d → j ≤ x → is_blank name ≡ false
+      → imports_fmt b (events (file_context end) (with_declaration t d end)) ≡ imports_fmt a (events (file_context j) t) → NoneSays name old
+      → ((i : ℕ) → trees.first s ≤ i → i < last s → same_text name (word b i) ≡ false) → AllByRecursion (λ o. MeansOuter k j o.meaning) (asked_in (meanings new) k b (events (context_behind end ps d) d))
+  outer_here place first later file names front h l blank imports q other =
+      let r = added_here follow k j end x y u v a b ts us ps s before behind place first later file names front h l blank imports in
+      let m : AreAdded k j name old new = r.0 in
+      let told = function_tells end x y s u v ps (laid_grows d (derives_laid us d category.Declaration h)) in
+      let own = events (signature_context end x y s u v ps) s in
+      let laid = (derives_laid us d category.Declaration h).1.1 in
+      let made = scopes_behind k (last s) m.added.b.tokens own (parameters_own us end x y s u v ps h) in
+      let declared : found_in k m.added.b.tokens (function_declared x y ∷ own) ≡ m.added.longer.function ∷ m.added.longer.parameters = ap (found_in k m.added.b.tokens) (sym (r.3 ∙ told)) ∙ m.added.longer.declares in
+      let scopes = subst (AllByRecursion (λ (z : Found). last s ≤ z.it.scope.from)) (others_found _ m.added.longer.function (found_in k m.added.b.tokens own) m.added.longer.parameters declared) made in
+      subst (λ es. AllByRecursion (λ o. MeansOuter k j o.meaning) (asked_in (meanings new) k b es)) (sym told)
+      (names_outer k j name old new m.added m.lies q (file_here m file r.1) b (trees.first s) (last s) other scopes (trees.first s) own (omega arith) (events_order (signature_context end x y s u v ps) s laid))
 
   pub stays_faultless : length before ≡ k → AllByRecursion IsParsed before → AllByRecursion IsParsed behind → IsFile ts t → HasNames (unit_of a t) → IsFront j a b → Derives us category.Declaration d → j ≤ x → is_blank name ≡ false
       → imports_fmt b (events (file_context end) (with_declaration t d end)) ≡ imports_fmt a (events (file_context j) t) → Bound

@@ -20,6 +20,8 @@ mod Redeclared
 mod Asks
 mod Following
 mod Needing
+mod Locals
+mod Outer
 mod Faultless
 mod Rounds
 mod Circles

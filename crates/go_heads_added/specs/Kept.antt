@@ -1,5 +1,5 @@
 -- What a package with one function more keeps: what its names mean, what it declares, and what its declarations need.
-use Rattle.std.specs.Prelude.{◌≡◌, ◌<◌, ◌≤◌, ℕ, true, nat_eq, List, [], ◌++◌, map}
+use Rattle.std.specs.Prelude.{◌≡◌, ◌<◌, ◌≤◌, ℕ, true, nat_eq, List, [], ◌∷◌, ◌++◌, length, map}
 use Rattle.std.specs.List.{AllByRecursion}
 use Rattle.go_tree.specs.declared.context.Entity.TheVariants as entity
 use Rattle.go_tree.specs.Declarations.{Found, found}
@@ -7,8 +7,9 @@ use Rattle.go_tree.specs.Lookups.{Asked, asked_from}
 use Rattle.go_tree.specs.Meanings.{meanings}
 use Rattle.go_tree.specs.Needs.{Needed, with_all, needs, all_needed}
 use Rattle.go_tree.specs.Units.{Unit}
-use Rattle.go_tree.specs.Uses.{count_functions}
-use Rattle.go_heads_added.specs.Added.{Gap, longer, KeepsAll, KeepsDeclared}
+use Rattle.go_tree.specs.Uses.{count_functions, uses}
+use Rattle.go_tree.specs.declared.object.Declared.{Declared}
+use Rattle.go_heads_added.specs.Added.{Gap, longer, KeepsAll, KeepsDeclared, longer_declared}
 use Rattle.go_heads_added.specs.Within.{SourceWithin}
 
 -- If it is declared in the file k, it stands in front of the token n, with its specification.
@@ -39,6 +40,15 @@ pub record KeepsNeeds (k n end : ℕ) (old new : List Unit) : Type 0 where
   pub same : (r : ℕ) (x : Needed) → StandsInFront k n x.it → needed_after (looked_up new) r (longer_need k end x) ≡ map (longer_need k end) (needed_after (looked_up old) r x)
   pub stay : (r : ℕ) (x : Needed) → AllByRecursion (λ y. StandsInFront k n y.it) (needed_after (looked_up old) r x)
 
+-- The locals of the functions are those that they were, and those of the new function between.
+pub record KeepsLocals (k end : ℕ) (g : Gap) (old new : List Unit) : Type 0 where
+  pub first : List (List Declared)
+  pub second : List (List Declared)
+  pub own : List Declared
+  pub were : (uses old).locals ≡ first ++ second
+  pub are : (uses new).locals ≡ map (λ ds. map (longer_declared k end) ds) first ++ own ∷ map (λ ds. map (longer_declared k end) ds) second
+  pub place : length first ≡ g.functions
+
 -- Each old token means what it meant, the objects of the package are those that there were and the function between, by the name of this
 -- token, and these need what they needed.
 pub record KeepsPackage (k n called : ℕ) (old new : List Unit) : Type 0 where
@@ -46,6 +56,7 @@ pub record KeepsPackage (k n called : ℕ) (old new : List Unit) : Type 0 where
   pub gap : Gap
   pub objects : KeepsAll k n gap old new
   pub declared : KeepsDeclared k end gap old new
+  pub locals : KeepsLocals k end gap old new
   pub needs : KeepsNeeds k n end old new
   pub functions : count_functions declared.first ≡ gap.functions
   pub file : declared.function.file ≡ k

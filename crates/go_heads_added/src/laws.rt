@@ -1,25 +1,28 @@
 //! Laws of a package with one function more, for the crates above. The functions do nothing: their contracts are the laws.
 
-ghost use Rattle.std.specs.Prelude.{◌≡◌, ℕ, suc, ◌≤◌, false, List, ◌∷◌, ◌++◌, length, map, None};
+ghost use Rattle.std.specs.Prelude.{◌≡◌, ℕ, suc, ◌<◌, ◌≤◌, false, List, ◌∷◌, ◌++◌, length, map, None};
 ghost use Rattle.std.specs.List.{AllByRecursion};
 ghost use Rattle.go_tokens.specs.Tokens.{TokenList};
 ghost use Rattle.go_tokens.specs.declared.token.TokenKind.{TokenKind};
 ghost use Rattle.go_grammar.specs.declared.kind.Category.TheVariants as category;
 ghost use Rattle.go_grammar.specs.declared.kind.Kind.TheVariants as kind;
 ghost use Rattle.go_grammar.specs.Grammar.{IsFile, Derives};
-ghost use Rattle.go_grammar.specs.Trees.{Tree, Trees, node, last};
+ghost use Rattle.go_grammar.specs.Trees.{Tree, Trees, node, first, last};
 ghost use Rattle.go_rewriting.specs.Places.{with_declaration};
 ghost use Rattle.go_tree.specs.declared.event.Event.{Event};
 ghost use Rattle.go_tree.specs.Contexts.{file_context};
 ghost use Rattle.go_tree.specs.Events.{events, function_declared};
 ghost use Rattle.go_tree.specs.Faults.{reported};
 ghost use Rattle.go_tree.specs.Imports.{imports_fmt};
+ghost use Rattle.go_tree.specs.Lookups.{asked_in};
+ghost use Rattle.go_tree.specs.Meanings.{meanings};
+ghost use Rattle.go_tokens.specs.Spellings.{same_text};
 ghost use Rattle.go_scopes_events.specs.Orders.{EachDeclared};
 ghost use Rattle.go_tree.specs.Units.{Unit, word, is_blank};
 ghost use Rattle.go_heads_added.specs.Added.{IsAdded, LiesIn, NoneSays, KeepsAll, KeepsDeclared, AreEarlier, BlockWithin, gap_in, reaching};
 ghost use Rattle.go_heads_added.specs.Appended.{AreAdded, HasNames, IsFront, IsParameterOf, IsParsed, TellsMore, context_behind, empty_function, unit_of};
 ghost use Rattle.go_heads_added.specs.Examples.{Examples};
-ghost use Rattle.go_heads_added.specs.Faults.{FunctionIsFine, FileIsWithin, MayBeAdded};
+ghost use Rattle.go_heads_added.specs.Faults.{FunctionIsFine, FileIsWithin, MayBeAdded, MeansOuter};
 ghost use Rattle.go_heads_added.specs.Kept.{KeepsPackage};
 ghost use Rattle.go_heads_added.specs.Within.{EventWithin, IsOfFunction};
 
@@ -127,6 +130,20 @@ pub fn appended_functions_keep_the_package()
         length before ≡ k → AllByRecursion IsParsed before → AllByRecursion IsParsed behind → IsFile ts t → HasNames (unit_of a t)
         → IsFront j a b → Derives us category.Declaration d → j ≤ x → is_blank (word b (suc x)) ≡ false
         → NoneSays (word b (suc x)) old → KeepsPackage k j (suc x) old new }
+{
+    locals_stand_in_functions();
+    longer_files_import_the_same();
+}
+
+/// The names of the signature of such a function mean what is declared elsewhere, where no token of the signature says the function's name:
+/// the scopes of its parameters begin behind them (Go specification: Declarations and scope).
+pub fn signatures_mean_what_is_declared_elsewhere()
+    ensures { (k j end x y u v : ℕ) (a b : TokenList) (ts us : List TokenKind) (ps : Trees) (s : Tree) (before behind : List Unit) → let d = empty_function x y s u v in
+        let t = node kind.File 0 j ps in let old = before ++ unit_of a t ∷ behind in let new = before ++ unit_of b (with_declaration t d end) ∷ behind in
+        let name = word b (suc x) in length before ≡ k → AllByRecursion IsParsed before → AllByRecursion IsParsed behind → IsFile ts t → HasNames (unit_of a t)
+        → IsFront j a b → Derives us category.Declaration d → j ≤ x → is_blank name ≡ false → NoneSays name old
+        → ((i : ℕ) → first s ≤ i → i < last s → same_text name (word b i) ≡ false)
+        → AllByRecursion (λ o. MeansOuter k j o.meaning) (asked_in (meanings new) k b (events (context_behind end ps d) d)) }
 {
     locals_stand_in_functions();
     longer_files_import_the_same();

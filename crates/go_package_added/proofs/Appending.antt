@@ -14,23 +14,27 @@ use Rattle.go_scopes_events.proofs.Public.{derives_laid}
 use Rattle.go_tree.specs.declared.context.Entity.{Entity}
 use Rattle.go_tree.specs.declared.context.Entity.TheVariants as entity
 use Rattle.go_tree.specs.declared.object.Declared.{Declared}
+use Rattle.go_tree.specs.declared.object.Object.{Object}
+use Rattle.go_package_alike.specs.Scopes.{AllTokens}
+use Rattle.std.specs.Option.{option_map}
 use Rattle.go_tree.specs.Contexts.{is_package}
 use Rattle.go_tree.specs.Declarations.{Found, found, is_new, new_among}
-use Rattle.go_tree.specs.Uses.{uses, declared_by, declared_in_package}
+use Rattle.go_tree.specs.Uses.{uses, declared_by, declared_in_package, object_of}
 use Rattle.go_tree.specs.Units.{word}
 use Rattle.go_exprs_rules.specs.Sorts.{Stands as Sort}
+use Rattle.go_exprs_elsewhere.specs.Elsewhere.{referent_moved}
 use Rattle.go_package_defs.specs.Answer.{Environment, is_main, is_main_package, specifications, answer_by, package_answer}
 use Rattle.go_package_defs.specs.Declarations.{Specification, declarations}
-use Rattle.go_package_defs.specs.Knowledge.{Outline, outlines, declaring, outline_by}
+use Rattle.go_package_defs.specs.Knowledge.{Outline, outlines, declaring, outline_by, referent_at}
 use Rattle.go_package_defs.specs.Sources.{Source, Package, unit_of, text_at, tokens_there, needed_at, rounds}
 use Rattle.go_package_defs.specs.Verdicts.{first_name}
-use Rattle.go_heads_added.specs.Added.{Stands, longer_declared}
+use Rattle.go_heads_added.specs.Added.{Stands, beyond, longer_declared, shifted}
 use Rattle.go_heads_added.specs.Appended.{IsFront}
 use Rattle.go_heads_added.specs.Kept.{KeepsPackage, StandsInFront}
 use Rattle.go_heads_added.proofs.Public.{clause_behind}
 use Rattle.go_package_settled.specs.Read.{IsFaultless}
 use Rattle.go_package_added.specs.Appended.{IsAppended, AreClosed, IsClosed, function_name, function_specification, package_in, outlines_in, found_in}
-use Rattle.go_package_added.specs.OneMore.{inserted, all_beyond, outline_beyond, IsOneMore, IsSignature, Settles, with_function}
+use Rattle.go_package_added.specs.OneMore.{inserted, all_beyond, outline_beyond, IsOneMore, IsSignature, IsSignatureBefore, MaybeReadAt, function_moves}
 use Rattle.go_package_added.proofs.Needing.{needed_kept}
 use Rattle.go_package_added.proofs.Numbered.{referents_beyond}
 use Rattle.go_package_added.proofs.Outlined.{KeepsTokens, all_kept, outlines_kept, declaring_skips, not_here, function_declared, put_in}
@@ -148,7 +152,7 @@ module _ (k : ℕ) (ss us : List Source) (h : IsAppended k ss us) (keeps : Keeps
   below : AreBelow n h.declarations
   below = (laid_below n (node kind.File 0 h.count h.declarations) (derives_laid (kinds h.old_tokens.tokens) (node kind.File 0 h.count h.declarations) category.File derived.derives) (omega arith)).3
 
-  texts : (m t : ℕ) → Stands k n m t → text_at q m t ≡ text_at p m t
+  pub texts : (m t : ℕ) → Stands k n m t → text_at q m t ≡ text_at p m t
   texts m t s =
       ap (λ zs. word (tokens_there (slice_get zs m)) t) h.is
       ∙ words_same n were_file is_file h.front h.before h.behind m t (λ e. s (same_test m k (e ∙ h.place)))
@@ -179,6 +183,9 @@ module _ (k : ℕ) (ss us : List Source) (h : IsAppended k ss us) (keeps : Keeps
   placed_rest : AllByRecursion (IsPlaced k n) rest
   placed_rest = behind_placed k n (suc k) h.behind (omega arith)
 
+  pub all_placed : AllByRecursion (IsPlaced k n) ds
+  all_placed = subst (AllByRecursion (IsPlaced k n)) (sym were) (both_of 0 (IsPlaced k n) front rest placed_front placed_rest)
+
   -- ---- numbers
 
   count_level : length q.uses.package_level ≡ suc (length p.uses.package_level)
@@ -196,7 +203,7 @@ module _ (k : ℕ) (ss us : List Source) (h : IsAppended k ss us) (keeps : Keeps
   two_more : rounds q ≡ suc (suc (rounds p))
   two_more = let e = count_level in omega (arith, e)
 
-  inside : a ≤ length p.uses.package_level
+  pub inside : a ≤ length p.uses.package_level
   inside =
       let y = ap length keeps.declared.were in
       let c = length-append keeps.declared.first keeps.declared.second in
@@ -237,6 +244,10 @@ module _ (k : ℕ) (ss us : List Source) (h : IsAppended k ss us) (keeps : Keeps
       none_second : (b : Bool) → (b && false) ≡ false
       none_second true = refl
       none_second false = refl
+
+  pub referents_same : (m : ℕ) → referent_at q (beyond a m) ≡ referent_moved (function_moves keeps.gap) (referent_at p m)
+  referents_same =
+      referents_beyond k keeps.end keeps.gap keeps.declared.function keeps.entity p q keeps.declared.first keeps.declared.second keeps.declared.were keeps.declared.are keeps.declared.place inside keeps.functions
 
   module _ (closed : AreClosed p ds) (other : same_text (function_name k ss us h) (codes "main") ≡ false) where
     -- ---- outlines
@@ -299,7 +310,7 @@ module _ (k : ℕ) (ss us : List Source) (h : IsAppended k ss us) (keeps : Keeps
     one_more = record {
       place = inside;
       entities = entities;
-      referents = referents_beyond k keeps.end keeps.gap keeps.declared.function keeps.entity p q keeps.declared.first keeps.declared.second keeps.declared.were keeps.declared.are keeps.declared.place inside keeps.functions;
+      referents = referents_same;
       mains = mains;
       function = function_outline;
       is_function = refl;
@@ -319,3 +330,21 @@ module _ (k : ℕ) (ss us : List Source) (h : IsAppended k ss us) (keeps : Keeps
     pub as_signature : (s : Sort) → IsSignature q (outlines_in us) a f 0 (found_in ss) s → IsSignature q (outlines_in us) a one_more.function.specification one_more.function.column (found_in ss) s
     unfolding one_more
     as_signature s sig = sig
+
+    pub signed_before : (s : Sort) (meant : ℕ → Option Object) → IsSignatureBefore p (outlines p ds) f 0 (text_at q k) meant (found_in ss) s
+        → IsSignatureBefore p (outlines p ds) one_more.function.specification one_more.function.column (text_at q one_more.function.specification.file) meant (found_in ss) s
+    unfolding one_more
+    signed_before s meant before = before
+
+    pub meant_here : (test : ℕ → Bool) (meant : ℕ → Option Object) → ((i : ℕ) → test i ≡ true → object_of (uses (map unit_of us)) k i ≡ option_map (shifted keeps.gap) (meant i))
+        → (i : ℕ) → test i ≡ true → object_of q.uses one_more.function.specification.file i ≡ option_map (shifted keeps.gap) (meant i)
+    unfolding one_more
+    meant_here test meant e = e
+
+    pub read_here : (test : ℕ → Bool) → AllTokens test h.signature → MaybeReadAt test one_more.function.specification.type_tree
+    unfolding one_more
+    read_here test e = e
+
+    pub from_signature : (s : Sort) → IsSignature q (outlines q es) a one_more.function.specification one_more.function.column (found_in ss) s → IsSignature q (outlines_in us) a f 0 (found_in ss) s
+    unfolding one_more
+    from_signature s sig = sig

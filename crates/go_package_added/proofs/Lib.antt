@@ -12,3 +12,6 @@ mod Named
 mod Numbered
 mod Appending
 mod Keeping
+mod Signed
+mod Unchanged
+mod Surrounding

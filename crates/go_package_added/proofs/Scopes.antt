@@ -23,7 +23,7 @@ use Rattle.go_exprs_rules.specs.declared.fault.TypeFault.{TypeFault}
 use Rattle.go_package_alike.specs.Scopes.{AllTokens, SaySame, IsTypedSame, said, MeanSame}
 use Rattle.go_package_defs.specs.Declarations.{Specification}
 use Rattle.go_package_defs.specs.Knowledge.{is_type, Outline, outlines, State, state_of, state_there, all_pass, needs_of, passes, stands_if, stands_where, rights_among, rights_of, referent_at, scope_where}
-use Rattle.go_package_defs.specs.Sources.{Package}
+use Rattle.go_package_defs.specs.Sources.{Package, text_at}
 use Rattle.go_exprs_elsewhere.specs.Elsewhere.{Moves, Along, KeepsLast, LastKept, AllKeepLast, KeepsSpelling, IsTypedElsewhere, form_moved, fault_placed}
 use Rattle.go_heads_added.specs.Added.{Gap, beyond, shifted}
 use Rattle.go_package_added.specs.OneMore.{inserted, all_beyond, outline_beyond, IsKept, IsOneMore}
@@ -43,7 +43,7 @@ FollowsTokens = (p : ℕ → Bool) (s t : Scope) (h : Hint) (x : Tree) → SaySa
 -- ---- trees whose tokens stay
 
 mutual
-  carried : (x : Tree) → carry (λ (i : ℕ). i) x ≡ x
+  pub carried : (x : Tree) → carry (λ (i : ℕ). i) x ≡ x
   carried (node k i j ps) = ap (node k i j) (all_carried ps)
 
   all_carried : (ps : Trees) → carries (λ (i : ℕ). i) ps ≡ ps
@@ -57,7 +57,7 @@ module _ (g : Gap) where
   last_stays k j = tt
 
   mutual
-    keeps_last : (x : Tree) → KeepsLast (m g) x
+    pub keeps_last : (x : Tree) → KeepsLast (m g) x
     keeps_last (node k i j ps) = (last_stays k j, all_keep_last ps)
 
     all_keep_last : (ts : Trees) → AllKeepLast (m g) ts
@@ -147,16 +147,18 @@ module _ (moves : MovesTyped) (keeps : KeepsWords) (follows : FollowsTokens) (p 
       (let e = mapped_count (λ (d : Declared). d.entity) p.uses.package_level in let l = h.place in omega (arith, e, l)) as_many
       ∙ sym (by_entities p.uses.package_level ss)
 
-  module _ (test : State → Bool) (limits : Bool) (d : Specification) (k : IsKept p q g d) where
+  -- the tokens of a specification say this, and mean this by the numbers of the first package
+  module _ (test : State → Bool) (limits : Bool) (d : Specification) (pass : ℕ → Bool) (said_there : ℕ → List ℕ) (meant : ℕ → Option Object)
+      (texts : (i : ℕ) → pass i ≡ true → text_at q d.file i ≡ said_there i) (objects : (i : ℕ) → pass i ≡ true → object_of q.uses d.file i ≡ option_map (shifted g) (meant i)) where
     abbrev old : Scope
-    old = scope_where test limits p xs ss d
+    old = record (scope_where test limits p xs ss d) { texts = said_there; characters = λ i. chars (said_there i); objects = meant }
 
     abbrev new : Scope
     new = scope_where test limits q ys ts d
 
     -- the scope of the first package, by the numbers of the second one
     abbrev between : Scope
-    between = record old { objects = λ i. option_map (shifted g) (object_of p.uses d.file i); sorts = stands_where test ys ts; referents = referent_at q }
+    between = record old { objects = λ i. option_map (shifted g) (meant i); sorts = stands_where test ys ts; referents = referent_at q }
 
     sort_same : (n : Needed) (o : Option Object) → object_sort between n (option_map (shifted g) o) ≡ object_sort old n o
     sort_same n None = refl
@@ -187,9 +189,9 @@ module _ (moves : MovesTyped) (keeps : KeepsWords) (follows : FollowsTokens) (p 
       means = record {
         texts = λ i e. refl;
         characters = λ i e. refl;
-        standing = λ n i. sort_same n (object_of p.uses d.file i);
-        object = λ i. form_same (object_of p.uses d.file i);
-        declared = λ i. declared_same (object_of p.uses d.file i);
+        standing = λ n i. sort_same n (meant i);
+        object = λ i. form_same (meant i);
+        declared = λ i. declared_same (meant i);
       };
     }
 
@@ -200,26 +202,29 @@ module _ (moves : MovesTyped) (keeps : KeepsWords) (follows : FollowsTokens) (p 
     mean_alike (Some (object.Package i)) = ((λ need. refl), refl)
     mean_alike (Some (object.Local f i)) = ((λ need. refl), refl)
 
-    says : SaySame k.test between new
+    says : SaySame pass between new
     says = record {
       rights = rights_same;
       iota = refl;
       needed = refl;
       limits = refl;
       tokens = record {
-        texts = k.texts;
-        characters = λ i e. ap chars (k.texts i e);
-        objects = λ i e. subst (MeanSame (said between) (said new) (option_map (shifted g) (object_of p.uses d.file i))) (sym (k.objects i e)) (mean_alike (option_map (shifted g) (object_of p.uses d.file i)));
+        texts = texts;
+        characters = λ i e. ap chars (texts i e);
+        objects = λ i e. subst (MeanSame (said between) (said new) (option_map (shifted g) (meant i))) (sym (objects i e)) (mean_alike (option_map (shifted g) (meant i)));
       };
     }
 
-    pub scopes_anew : IsTypedAnew g k.test old new
-    scopes_anew = record {
+    pub spoken_anew : IsTypedAnew g pass old new
+    spoken_anew = record {
       rights = rights_same;
       typed = λ hint x w.
-          (follows k.test between new hint x says w).typed ∙ ap (typing between hint) (sym (carried x))
+          (follows pass between new hint x says w).typed ∙ ap (typing between hint) (sym (carried x))
           ∙ (moves (m g) old between hint x along (keeps (m g) x (λ i. refl) (keeps_last g x))).typed;
       failing = λ hint x w.
-          (follows k.test between new hint x says w).failing ∙ ap (faults between hint) (sym (carried x))
+          (follows pass between new hint x says w).failing ∙ ap (faults between hint) (sym (carried x))
           ∙ (moves (m g) old between hint x along (keeps (m g) x (λ i. refl) (keeps_last g x))).failing ∙ all_fails_same g (faults old hint x);
     }
+
+  pub scopes_anew : (test : State → Bool) (limits : Bool) (d : Specification) (k : IsKept p q g d) → IsTypedAnew g k.test (scope_where test limits p xs ss d) (scope_where test limits q ys ts d)
+  scopes_anew test limits d k = spoken_anew test limits d k.test (text_at p d.file) (object_of p.uses d.file) k.texts k.objects

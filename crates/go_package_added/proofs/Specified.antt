@@ -128,6 +128,7 @@ pub record StandsBelow (k n : ℕ) (d : Specification) : Type 0 where
   pub type_below : MaybeBelow n d.type_tree
   pub values_below : AllByRecursion (IsBelow n) d.values
   pub names_below : AllByRecursion (λ t. t < n) d.names
+  pub ends : d.last ≤ n
 
 module _ (k n : ℕ) where
   abbrev Below : Specification → Type 0
@@ -183,18 +184,18 @@ module _ (k n : ℕ) where
   source_below (more ns (more t (more u ps))) r h o = o
   source_below (more ns (more t (skip ps))) r h o = o
 
-  named_is : (e : Entity) (m : ℕ) (r : Option Tree) (t : Tree) (i j : ℕ) (ps : Trees) → AreBelow n ps → MaybeBelow n r → Below (named_specification k e m t i j ps r)
-  named_is e m r t i j ps h o = record { file = refl; type_below = type_below r o; values_below = values_below r o; names_below = names_below ps h }
+  named_is : (e : Entity) (m : ℕ) (r : Option Tree) (t : Tree) (i j : ℕ) (ps : Trees) → j ≤ n → AreBelow n ps → MaybeBelow n r → Below (named_specification k e m t i j ps r)
+  named_is e m r t i j ps v h o = record { file = refl; type_below = type_below r o; values_below = values_below r o; names_below = names_below ps h; ends = v }
 
-  by_entity : (e : Entity) (m : ℕ) (r : Option Tree) (t : Tree) (i j : ℕ) (ps : Trees) → i < n → AreBelow n ps → MaybeBelow n r → Below (specification_by k e m r t i j ps)
-  by_entity entity.Type m r t i j ps l h o = record { file = refl; type_below = part_below ps h; values_below = tt; names_below = (l, tt) }
-  by_entity entity.Constant m r t i j ps l h o = named_is entity.Constant m (part_source ps r) t i j ps h (source_below ps r h o)
-  by_entity entity.Variable m r t i j ps l h o = named_is entity.Variable m (part_source ps r) t i j ps h (source_below ps r h o)
-  by_entity entity.Function m r t i j ps l h o = named_is entity.Function m (part_source ps r) t i j ps h (source_below ps r h o)
-  by_entity entity.Parameter m r t i j ps l h o = named_is entity.Parameter m (part_source ps r) t i j ps h (source_below ps r h o)
+  by_entity : (e : Entity) (m : ℕ) (r : Option Tree) (t : Tree) (i j : ℕ) (ps : Trees) → i < n → j ≤ n → AreBelow n ps → MaybeBelow n r → Below (specification_by k e m r t i j ps)
+  by_entity entity.Type m r t i j ps l v h o = record { file = refl; type_below = part_below ps h; values_below = tt; names_below = (l, tt); ends = v }
+  by_entity entity.Constant m r t i j ps l v h o = named_is entity.Constant m (part_source ps r) t i j ps v h (source_below ps r h o)
+  by_entity entity.Variable m r t i j ps l v h o = named_is entity.Variable m (part_source ps r) t i j ps v h (source_below ps r h o)
+  by_entity entity.Function m r t i j ps l v h o = named_is entity.Function m (part_source ps r) t i j ps v h (source_below ps r h o)
+  by_entity entity.Parameter m r t i j ps l v h o = named_is entity.Parameter m (part_source ps r) t i j ps v h (source_below ps r h o)
 
   one_below : (s : Sort) (m : ℕ) (r : Option Tree) (t : Tree) → IsBelow n t → MaybeBelow n r → Below (specification_of k s m r t)
-  one_below s m r (node l i j ps) h o = by_entity (entity_of s) m r (node l i j ps) i j ps h.0 h.3 o
+  one_below s m r (node l i j ps) h o = by_entity (entity_of s) m r (node l i j ps) i j ps h.0 h.1 h.3 o
 
   behind_below : (r : Option Tree) (t : Tree) → IsBelow n t → MaybeBelow n r → MaybeBelow n (source_behind r t)
   behind_below r (node l i j ps) h o = source_below ps r h.3 o
@@ -215,7 +216,7 @@ module _ (k n : ℕ) where
   declaration_below : (t : Tree) → IsBelow n t → AllByRecursion Below (declaration k t)
   declaration_below (node (kind.Declaration s) i j ps) h = declared_below s ps h.3
   declaration_below (node kind.FunctionDeclaration i j ps) h = (
-    record { file = refl; type_below = part_below ps h.3; values_below = tt; names_below = ((let o = h.2 in omega (arith, o)), tt) },
+    record { file = refl; type_below = part_below ps h.3; values_below = tt; names_below = ((let o = h.2 in omega (arith, o)), tt); ends = h.1 },
     tt,
   )
   declaration_below (node l i j ps) h = tt

@@ -1,6 +1,7 @@
 -- A function with an empty body that is appended to a file of a package.
-use Rattle.std.specs.Prelude.{◌≡◌, ◌≤◌, ℕ, suc, Bool, false, List, [], ◌∷◌, ◌++◌, length, map, Option, Some, None, Ok, codes}
+use Rattle.std.specs.Prelude.{◌≡◌, ◌≤◌, ℕ, suc, Bool, true, false, List, [], ◌∷◌, ◌++◌, length, map, Option, Some, None, Ok, codes}
 use Rattle.std.specs.List.{AllByRecursion}
+use Rattle.std.specs.Option.{option_map}
 use Rattle.go_grammar.specs.declared.kind.Category.TheVariants as category
 use Rattle.go_grammar.specs.declared.kind.Kind.TheVariants as kind
 use Rattle.go_grammar.specs.Grammar.{Derives}
@@ -10,16 +11,19 @@ use Rattle.go_tokens.specs.Spellings.{same_text}
 use Rattle.go_tokens.specs.Tokens.{TokenList, kinds}
 use Rattle.go_tree.specs.Declarations.{Found}
 use Rattle.go_tree.specs.Units.{word, is_blank}
-use Rattle.go_tree.specs.Uses.{uses}
+use Rattle.go_tree.specs.declared.object.Object.{Object}
+use Rattle.go_tree.specs.Uses.{uses, object_of}
 use Rattle.go_exprs_rules.specs.Sorts.{Stands}
+use Rattle.go_heads_added.specs.Added.{shifted}
+use Rattle.go_package_alike.specs.Scopes.{AllTokens}
 use Rattle.go_heads_added.specs.Appended.{IsFront, empty_function}
 use Rattle.go_heads_added.specs.Kept.{KeepsPackage, needed_after}
 use Rattle.go_package_defs.specs.Answer.{Environment, package_answer, specifications}
 use Rattle.go_package_defs.specs.Declarations.{Specification, function}
 use Rattle.go_package_defs.specs.Knowledge.{Outline, outlines, State}
-use Rattle.go_package_defs.specs.Sources.{Source, Package, unit_of, package_of, needed_numbers, rounds, declared_at, needed_at}
+use Rattle.go_package_defs.specs.Sources.{Source, Package, unit_of, package_of, text_at, needed_numbers, rounds, declared_at, needed_at}
 use Rattle.go_package_defs.specs.Verdicts.{first_name, known}
-use Rattle.go_package_added.specs.OneMore.{IsSignature, with_function}
+use Rattle.go_package_added.specs.OneMore.{IsSignature, IsSignatureBefore, with_function}
 
 -- The file of the number k has a function with an empty body behind what it had, and the other files are as they were.
 pub record IsAppended (k : ℕ) (ss us : List Source) : Type 0 where
@@ -94,3 +98,8 @@ pub record AnswersWith (k : ℕ) (ss us : List Source) (h : IsAppended k ss us) 
   pub answer : AreClosed (package_in ss) (specifications 0 ss) → same_text (function_name k ss us h) (codes "main") ≡ false → (s : Stands)
       → IsSignature (package_in us) (outlines_in us) keeps.gap.shared (function_specification k ss us h) 0 (found_in ss) s
       → (x : Environment) → package_answer ss (uses (map unit_of ss)) ≡ Ok x → package_answer us (uses (map unit_of us)) ≡ Ok (with_function keeps.gap.shared s x)
+  -- the signature may be judged by what its names mean in the package without it
+  pub signature : AreClosed (package_in ss) (specifications 0 ss) → same_text (function_name k ss us h) (codes "main") ≡ false → (test : ℕ → Bool) (meant : ℕ → Option Object)
+      → ((i : ℕ) → test i ≡ true → object_of (uses (map unit_of us)) k i ≡ option_map (shifted keeps.gap) (meant i)) → AllTokens test h.signature → (s : Stands)
+      → IsSignatureBefore (package_in ss) (outlines_in ss) (function_specification k ss us h) 0 (text_at (package_in us) k) meant (found_in ss) s
+      → IsSignature (package_in us) (outlines_in us) keeps.gap.shared (function_specification k ss us h) 0 (found_in ss) s

@@ -5,6 +5,9 @@ use Rattle.std.specs.List.{AllByRecursion}
 use Rattle.go_grammar.specs.Trees.{Tree}
 use Rattle.go_tree.specs.declared.context.Entity.TheVariants as entity
 use Rattle.go_tree.specs.Uses.{object_of}
+use Rattle.std.specs.Str.{chars}
+use Rattle.go_tree.specs.declared.object.Object.{Object}
+use Rattle.go_exprs_rules.specs.Scopes.{Scope}
 use Rattle.go_exprs_rules.specs.Sorts.{Stands}
 use Rattle.go_exprs_elsewhere.specs.Elsewhere.{Moves, referent_moved}
 use Rattle.go_stmts_elsewhere.specs.Functions.{only_objects}
@@ -82,3 +85,13 @@ pub record Settles (p : Package) (os : List Outline) : Type 0 where
 -- The package stands for the same, and the function for its type at its number.
 abbrev pub with_function : ℕ → Stands → Environment → Environment
 with_function a s x = record { rights = x.rights; objects = inserted a s x.objects }
+
+-- ---- the signature, by the numbers of the package without the function
+
+-- the scope of a specification of which the tokens say this and mean this
+abbrev pub spoken_scope : Package → List Outline → List State → Specification → (ℕ → List ℕ) → (ℕ → Option Object) → Scope
+spoken_scope p os found d said_there meant = record (free_scope p os found d) { texts = said_there; characters = λ i. chars (said_there i); objects = meant }
+
+-- Where its tokens say this and mean this, the function stands for s, and no rule fails in its signature.
+pub record IsSignatureBefore (p : Package) (os : List Outline) (d : Specification) (column : ℕ) (said_there : ℕ → List ℕ) (meant : ℕ → Option Object) (found : List State) (s : Stands) : Type 0 where
+  pub state : let scope = spoken_scope p os found d said_there meant in value_state scope d column (own_faults scope d column) ≡ function_state s

@@ -1,22 +1,31 @@
 //! Laws of packages with one function more.
 
-ghost use Rattle.std.specs.Prelude.{◌≡◌, ℕ, Ok, List, map};
+ghost use Rattle.std.specs.List.{AllByRecursion};
+ghost use Rattle.std.specs.Prelude.{◌≡◌, ℕ, suc, Bool, true, Ok, List, map, Option};
+ghost use Rattle.std.specs.Option.{option_map};
+ghost use Rattle.go_tree.specs.declared.object.Object.{Object};
+ghost use Rattle.go_tree.specs.Uses.{object_of, uses};
+ghost use Rattle.go_types.specs.Relations.{Rights};
+ghost use Rattle.go_package_defs.specs.Checked.{surroundings_of};
+ghost use Rattle.go_heads_added.specs.Kept.{KeepsPackage};
+ghost use Rattle.go_package_added.specs.Unchanged.{StaysTyped};
 ghost use Rattle.go_exprs_rules.specs.Sorts.{Stands};
-ghost use Rattle.go_heads_added.specs.Added.{Gap, NoneSays};
-ghost use Rattle.go_package_defs.specs.Answer.{Environment, answer_by};
+ghost use Rattle.go_heads_added.specs.Added.{Gap, NoneSays, shifted};
+ghost use Rattle.go_package_defs.specs.Answer.{Environment, answer_by, package_answer, specifications};
 ghost use Rattle.go_package_defs.specs.Declarations.{Specification};
 ghost use Rattle.go_package_defs.specs.Knowledge.{outlines};
-ghost use Rattle.go_package_defs.specs.Sources.{Package, Source, rounds, unit_of};
+ghost use Rattle.go_package_defs.specs.Sources.{Package, Source, rounds, text_at, unit_of};
 ghost use Rattle.go_package_defs.specs.Verdicts.{known};
-ghost use Rattle.go_package_added.specs.Appended.{AnswersWith, IsAppended, function_name};
+ghost use Rattle.go_package_added.specs.Appended.{AnswersWith, IsAppended, function_name, package_in};
 ghost use Rattle.go_package_added.specs.Examples.{Examples};
 ghost use Rattle.go_package_settled.specs.Read.{IsFaultless};
-ghost use Rattle.go_package_added.specs.OneMore.{IsOneMore, IsSignature, Settles, with_function};
+ghost use Rattle.go_package_added.specs.OneMore.{IsOneMore, IsSignature, IsSignatureBefore, MaybeReadAt, Settles, with_function};
 
 use go_exprs_elsewhere::laws::{expressions_are_typed_elsewhere, trees_spelled_the_same_keep_it};
 use go_heads_added::laws::appended_functions_keep_the_package;
 use go_package_alike::laws::expressions_follow_from_their_tokens;
 use go_package_settled::laws::faultless_packages_settle;
+use go_stmts_elsewhere::laws::functions_are_typed_elsewhere;
 
 /// Worked examples: the package of two functions with a third, at the end of its one file and of the first of two.
 pub fn examples()
@@ -35,6 +44,19 @@ pub fn one_more_function_has_its_answer()
     expressions_follow_from_their_tokens();
 }
 
+/// Whether a rule fails in the signature of such a function, and what the function stands for, follows from what the tokens of the signature
+/// say and mean by the numbers of the package without it, whatever is known of the function itself.
+pub fn signatures_follow_from_their_names()
+    ensures { (p q : Package) (ds es : List Specification) (g : Gap) (h : IsOneMore p q ds es g) → let f = h.function.specification in let found = known p (outlines p ds) (rounds p) in
+        (test : ℕ → Bool) (meant : ℕ → Option Object) → ((i : ℕ) → test i ≡ true → object_of q.uses f.file i ≡ option_map (shifted g) (meant i)) → MaybeReadAt test f.type_tree
+        → (s : Stands) → IsSignatureBefore p (outlines p ds) f h.function.column (text_at q f.file) meant found s
+        → IsSignature q (outlines q es) g.shared f h.function.column found s }
+{
+    expressions_are_typed_elsewhere();
+    trees_spelled_the_same_keep_it();
+    expressions_follow_from_their_tokens();
+}
+
 /// Behind a function with an empty body that is appended to a file, and whose name no token says, the declarations of a package without faults
 /// of names need what they needed; and if it is closed and has an answer, the longer package has it too, with the function's type at its
 /// number.
@@ -44,4 +66,17 @@ pub fn appended_functions_have_their_answer()
     appended_functions_keep_the_package();
     faultless_packages_settle();
     one_more_function_has_its_answer();
+    signatures_follow_from_their_names();
+}
+
+/// In such a package the functions that stay as they are have the same types under their new numbers, behind the same right sides and where
+/// the objects of the package stand for the same; or the same fault is reported of them.
+pub fn unchanged_functions_keep_their_types()
+    ensures { (k : ℕ) (ss us : List Source) (h : IsAppended k ss us) (keeps : KeepsPackage k h.count (suc h.first) (map unit_of ss) (map unit_of us)) → IsFaultless ss
+        → (x : Environment) → package_answer ss (uses (map unit_of ss)) ≡ Ok x → (s : Stands) → let a = surroundings_of (uses (map unit_of ss)) x in
+        let b = surroundings_of (uses (map unit_of us)) (with_function keeps.gap.shared s x) in
+        AllByRecursion (λ d. (rights : Rights) (number : ℕ) → StaysTyped (package_in ss) (package_in us) keeps.gap a b rights number d) (specifications 0 ss) }
+{
+    functions_are_typed_elsewhere();
+    trees_spelled_the_same_keep_it();
 }

@@ -1,6 +1,6 @@
 use Rattle.go_package_added.specs.Appended.{package_in}
 use Rattle.go_package_defs.specs.Answer.{specifications}
-use Rattle.go_package_added.proofs.Appending.{as_signature, one_more}
+use Rattle.go_package_added.proofs.Appending.{as_signature, from_signature, meant_here, one_more, read_here, signed_before}
 use Rattle.go_package_added.proofs.Keeping.{keeps_names}
 use Rattle.go_package_added.proofs.laws.appended_functions_have_their_answer.Goals as goal
 
@@ -12,4 +12,8 @@ returns c k ss us h faultless none =
       answer = λ closed other s sig x e.
           c.one_more_function_has_its_answer.ensures (package_in ss) (package_in us) (specifications 0 ss) (specifications 0 us) keeps.gap
           (one_more k ss us h keeps faultless closed other) s (record { further = (c.faultless_packages_settle.ensures ss faultless).further }) (as_signature k ss us h keeps faultless closed other s sig) x e;
+      signature = λ closed other test meant objects read s before.
+          from_signature k ss us h keeps faultless closed other s
+          (c.signatures_follow_from_their_names.ensures (package_in ss) (package_in us) (specifications 0 ss) (specifications 0 us) keeps.gap (one_more k ss us h keeps faultless closed other) test meant
+          (meant_here k ss us h keeps faultless closed other test meant objects) (read_here k ss us h keeps faultless closed other test read) s (signed_before k ss us h keeps faultless closed other s meant before));
     }
