@@ -35,7 +35,9 @@ use std::alloc::Global;
 /// code that applies, with the first window to which it applies and the first place there; none where no code applies. Where the package
 /// doesn't have the first window's function there is none.
 ///
-/// It looks at each token of the package and of the windows, and at each node of the package and of the windows.
+/// It looks at each token and each node of the package and of the windows. Where a window has the first token of a statement on which its
+/// function's end rests, it looks at that function's body again. For each window it looks up each name in the types of the results that
+/// occur later: each look-up takes maps, and a binary search among the places where the name's local meaning changes in that file.
 ///
 /// # Errors
 ///

@@ -22,14 +22,43 @@ use Rattle.go_heads.proofs.Public.{Every, every_map}
 use Rattle.go_scopes_bodies.specs.Meant.{Meant, own, outside, Outer, own_meanings, own_meant, own_object}
 use Rattle.extract_names.specs.Gaps.{Among}
 use Rattle.extract_names.specs.Pieces.{Piece, stays, gap, told_before}
-use Rattle.extract_names.specs.Sites.{found_as, declared_at, token_of, EachEvent, renumbered}
+use Rattle.extract_names.specs.Sites.{found_as, declared_at, token_of, EachEvent, IsNamed, renumbered}
 use Rattle.extract_names.specs.Copies.{Replaced, Copy, IsKept, IsEdge, is_around, copied_block, copied_declaration, copied_event, told_copied, EventCopied, HoleGoes, HoleIsNew, AllCopied, DeclaredInFront, StandsInFront, StandsBehind, IsParameter, HeadTells, TailTells, ParameterStands, NamesLocal, NamesFree, NamesOuter, IsCopy, copied_behind, copied_number}
-use Rattle.extract_names.proofs.Edges.{is_le, is_lt, le_true, lt_true, mono, one, same_le, same_lt, same_eq}
+use Rattle.extract_names.proofs.Edges.{is_le, is_lt, le_true, lt_true, eq_true, mono, one, same_le, same_lt, same_eq}
 use Rattle.extract_names.proofs.Founds.{RiseFrom, find, IsObject, object_found, object_none, hit, inner_of, over_of, innermost_of, innermost_both, HoldsOf, innermost_holds, by_found, meant_is, Which, untold, looked_up, declaring, which, pick, first_of_two, object_is}
 use Rattle.extract_names.proofs.Rows.{and_true, first_off, second_off, not_on, on_off, Hits, hit_tells, hit_told, takes, NoTwo, none_hit, Hitting, hitting, every_among}
 use Rattle.extract_names.proofs.Replaced.{each_among, among_found, among_new, same_truth}
 use Rattle.extract_names.proofs.CopiedRows.{outside_hole, is_kept, Elsewhere, which_skip, which_none, each_map, find_skip, find_none, rise_left, rise_right, parameter_is, declared_own, not_outside, same_refl}
 use Rattle.extract_names.proofs.CopiedRows as rows
+
+-- ---- whether something is told of a token
+
+abbrev IsTold : Which → Type 0
+IsTold untold = ⊥
+IsTold looked_up = Unit {0}
+IsTold declaring = Unit {0}
+
+-- Of a token that isn't told of behind some events it is told among these, if at all.
+which_named : (t : ℕ) (es rest : List Event) → which t rest ≡ untold → (which t (es ++ rest) ≡ untold) ⊎ IsNamed t es
+which_named t [] rest h = inl h
+which_named t (event.Use x ∷ es) rest h = by (nat_eq x.name t) refl (which_named t es rest h)
+  where
+    by : (b : Bool) → nat_eq x.name t ≡ b → (which t (es ++ rest) ≡ untold) ⊎ IsNamed t es → ((if b then looked_up else which t (es ++ rest)) ≡ untold) ⊎ ((x.name ≡ t) ⊎ IsNamed t es)
+    by true q go = inr (inl (eq_true x.name t q))
+    by false q (inl e) = inl e
+    by false q (inr n) = inr (inr n)
+which_named t (event.Declaration d ∷ es) rest h = by (nat_eq d.name t) refl (which_named t es rest h)
+  where
+    by : (b : Bool) → nat_eq d.name t ≡ b → (which t (es ++ rest) ≡ untold) ⊎ IsNamed t es → ((if b then declaring else which t (es ++ rest)) ≡ untold) ⊎ ((d.name ≡ t) ⊎ IsNamed t es)
+    by true q go = inr (inl (eq_true d.name t q))
+    by false q (inl e) = inl e
+    by false q (inr n) = inr (inr n)
+which_named t (event.Import x ∷ es) rest h = which_named t es rest h
+which_named t (event.Member x y z ∷ es) rest h = which_named t es rest h
+which_named t (event.Bodiless x y ∷ es) rest h = which_named t es rest h
+which_named t (event.Statement x y ∷ es) rest h = which_named t es rest h
+which_named t (event.Misplaced x y ∷ es) rest h = which_named t es rest h
+which_named t (event.SecondDefault x ∷ es) rest h = which_named t es rest h
 
 module _ (a new : Alone) (outer : Outer) (c : Copy) (copy : IsCopy a outer c new) where
   abbrev m : ℕ → ℕ
@@ -364,8 +393,8 @@ module _ (a new : Alone) (outer : Outer) (c : Copy) (copy : IsCopy a outer c new
             ap (λ z. by_found new z (outer w)) (y.folded None)
             ∙ (rows.objects_same a new outer c copy) x.it.name y.one.it.name x y.one ((rows.find_old a new outer c copy) x ((rows.in_front_old a new outer c copy) x f.among)) ((rows.find_new a new outer c copy) y.one ((rows.in_head_new a new outer c copy) y.one y.among)) (n ∙ sym b) ((hit_tells (m t) w y.one y.hits).local ∙ sym f.local)
 
-    meant_same : own_object a outer t ≡ U → V ≡ rename U
-    meant_same q = by (is_blank w) refl (now w)
+    meant_same : IsNamed t (told_before copy.pieces) → own_object a outer t ≡ U → V ≡ rename U
+    meant_same named q = by (is_blank w) refl (now w)
       where
         clear : is_blank w ≡ false → (x : Option Found) → o ≡ x → U ≡ by_found a x (outer w)
         clear b x e = old_meant ∙ ap (λ z. if z then None else by_found a o (outer w)) b ∙ ap (λ z. by_found a z (outer w)) e
@@ -377,7 +406,7 @@ module _ (a new : Alone) (outer : Outer) (c : Copy) (copy : IsCopy a outer c new
         by true b n = new_meant ∙ ap (λ z. if z then None else by_found new p (outer w)) b ∙ sym (ap rename (old_meant ∙ ap (λ z. if z then None else by_found a o (outer w)) b))
         by false b (hi, in_copy x e f r k lt) = clear_new b (Some (placed x)) f ∙ (rows.run_object a new outer c copy) x k ∙ sym (ap rename (clear b (Some x) e))
         by false b (hi, in_front e f) =
-            clear_new b (p0 w) f ∙ front_meant (o0 w) (old_front w) (copy.names t kt) (q ∙ clear b (o0 w) e) ∙ sym (ap rename (clear b (o0 w) e))
+            clear_new b (p0 w) f ∙ front_meant (o0 w) (old_front w) (copy.names t kt named) (q ∙ clear b (o0 w) e) ∙ sym (ap rename (clear b (o0 w) e))
 
     -- ---- which name is told of it
 
@@ -524,18 +553,36 @@ module _ (a new : Alone) (outer : Outer) (c : Copy) (copy : IsCopy a outer c new
     new_is : own_object new outer (m t) ≡ pick (which t old_events) V (first_of_two (declared_at new (m t)) V)
     new_is = object_is new outer (m t) V (own_text new (m t)) (ap (own_meant new outer (m t)) (copy.texts t kt)) ∙ ap (λ z. pick z V (first_of_two (declared_at new (m t)) V)) which_same
 
+    -- a token that something is told of is named in the run
+    named_run : (which t old_events ≡ untold) ⊎ IsNamed t (told_before copy.pieces)
+    named_run = by (which_named t (told_before copy.pieces) copy.behind (which_none t copy.behind (each_map (StandsBehind c) (Elsewhere t) copy.behind rest_off copy.from_behind)))
+      where
+        whole : which t old_events ≡ which t (told_before copy.pieces ++ copy.behind)
+        whole = ap (which t) copy.told ∙ which_skip t copy.before (told_before copy.pieces ++ copy.behind) (each_map (StandsInFront c) (Elsewhere t) copy.before front_off copy.in_front)
+
+        by : (which t (told_before copy.pieces ++ copy.behind) ≡ untold) ⊎ IsNamed t (told_before copy.pieces) → (which t old_events ≡ untold) ⊎ IsNamed t (told_before copy.pieces)
+        by (inl e) = inl (whole ∙ e)
+        by (inr n) = inr n
+
+    is_named : IsTold (which t old_events) → IsNamed t (told_before copy.pieces)
+    is_named h = by named_run
+      where
+        by : (which t old_events ≡ untold) ⊎ IsNamed t (told_before copy.pieces) → IsNamed t (told_before copy.pieces)
+        by (inl e) = absurd (subst IsTold e h)
+        by (inr n) = n
+
     -- a name that is looked up means the same
     pub kept_use : which t old_events ≡ looked_up → V ≡ rename U
-    kept_use q = meant_same (old_is ∙ ap (λ z. pick z U (first_of_two (declared_at a t) U)) q)
+    kept_use q = meant_same (is_named (subst IsTold (sym q) tt)) (old_is ∙ ap (λ z. pick z U (first_of_two (declared_at a t) U)) q)
 
     pub kept : own_object new outer (m t) ≡ rename (own_object a outer t)
-    kept = new_is ∙ by (which t old_events) (λ e. meant_same (old_is ∙ e)) ∙ sym (ap rename old_is)
+    kept = new_is ∙ by (which t old_events) (λ n e. meant_same (is_named n) (old_is ∙ e)) ∙ sym (ap rename old_is)
       where
         there : (x : Option Meant) → declared_at a t ≡ x → (first_of_two (declared_at a t) U ≡ U → V ≡ rename U) → first_of_two (declared_at new (m t)) V ≡ rename (first_of_two (declared_at a t) U)
         there None e f = ap (λ z. first_of_two z V) (declared_same ∙ ap rename e) ∙ f (ap (λ z. first_of_two z U) e) ∙ sym (ap (λ z. rename (first_of_two z U)) e)
         there (Some x) e f = ap (λ z. first_of_two z V) (declared_same ∙ ap rename e) ∙ sym (ap (λ z. rename (first_of_two z U)) e)
 
-        by : (x : Which) → (pick x U (first_of_two (declared_at a t) U) ≡ U → V ≡ rename U) → pick x V (first_of_two (declared_at new (m t)) V) ≡ rename (pick x U (first_of_two (declared_at a t) U))
+        by : (x : Which) → (IsTold x → pick x U (first_of_two (declared_at a t) U) ≡ U → V ≡ rename U) → pick x V (first_of_two (declared_at new (m t)) V) ≡ rename (pick x U (first_of_two (declared_at a t) U))
         by untold f = refl
-        by looked_up f = f refl
-        by declaring f = there (declared_at a t) refl f
+        by looked_up f = f tt refl
+        by declaring f = there (declared_at a t) refl (f tt)

@@ -323,7 +323,7 @@ module _ (a new : Alone) (outer : Outer) (c : Copy) (copy : IsCopy a outer c new
   around_moved block.Package e = cc
   around_moved (block.Local i) e = ap (λ b. if b then block.Local c.body else block.Local (m i)) e
 
-  module _ (d : Declaration) (s : DeclarationCopied c d) (k : Among (event.Declaration d) old_events) (defined : d.manner ≡ manner.Defined) where
+  module _ (d : Declaration) (s : DeclarationCopied c d) (k : Among (event.Declaration d) old_events) (defined : d.manner ≡ manner.Defined) (blank : is_blank (own_text a d.name) ≡ false) where
     in_run : IsIn c d.name
     in_run = (s.name.0, s.name.1)
 
@@ -368,7 +368,7 @@ module _ (a new : Alone) (outer : Outer) (c : Copy) (copy : IsCopy a outer c new
         inside x r (inr n) = absurd (behind x r n)
 
         by : (x : Declaration) → Reuses (found_as a d) (found_as a x) → Among (event.Declaration x) copy.before ⊎ Among (event.Declaration x) (run_events ++ copy.behind) → is_reused (found_as new (moved d)) (own_names new) ≡ true
-        by x r (inl n) = let y = copy.reuses d x k n in_run (reuse_is (found_as a d) (found_as a x) r) in by_parameter y.1 y.2 y.3 y.0
+        by x r (inl n) = let y = copy.reuses d x k n in_run defined blank (reuse_is (found_as a d) (found_as a x) r) in by_parameter y.1 y.2 y.3 y.0
         by x r (inr n) = inside x r (among_split (event.Declaration x) run_events copy.behind n)
 
     to_old : is_reused (found_as new (moved d)) (own_names new) ≡ true → is_reused (found_as a d) (own_names a) ≡ true
@@ -412,12 +412,16 @@ module _ (a new : Alone) (outer : Outer) (c : Copy) (copy : IsCopy a outer c new
     reused_same = same_truth (is_reused (found_as new (moved d)) (own_names new)) (is_reused (found_as a d) (own_names a)) to_old to_new
 
   pub new_same : (d : Declaration) → DeclarationCopied c d → Among (event.Declaration d) old_events → is_new (own_names new) (found_as new (moved d)) ≡ is_new (own_names a) (found_as a d)
-  new_same d s k = ap (λ w. not (is_blank w) && not (may_be_reused d.manner && is_reused (found_as new (moved d)) (own_names new))) (copy.texts d.name s.name) ∙ ap (λ b. not (is_blank (own_text a d.name)) && not b) (by d.manner refl)
+  new_same d s k = ap (λ w. not (is_blank w) && not (may_be_reused d.manner && is_reused (found_as new (moved d)) (own_names new))) (copy.texts d.name s.name) ∙ named (is_blank (own_text a d.name)) refl
     where
-      by : (x : Manner) → d.manner ≡ x → (may_be_reused x && is_reused (found_as new (moved d)) (own_names new)) ≡ (may_be_reused x && is_reused (found_as a d) (own_names a))
-      by manner.Declared e = refl
-      by manner.Ranged e = refl
-      by manner.Defined e = reused_same d s k e
+      by : is_blank (own_text a d.name) ≡ false → (x : Manner) → d.manner ≡ x → (may_be_reused x && is_reused (found_as new (moved d)) (own_names new)) ≡ (may_be_reused x && is_reused (found_as a d) (own_names a))
+      by blank manner.Declared e = refl
+      by blank manner.Ranged e = refl
+      by blank manner.Defined e = reused_same d s k e blank
+
+      named : (b : Bool) → is_blank (own_text a d.name) ≡ b → (not b && not (may_be_reused d.manner && is_reused (found_as new (moved d)) (own_names new))) ≡ (not b && not (may_be_reused d.manner && is_reused (found_as a d) (own_names a)))
+      named true e = refl
+      named false e = ap not (by e d.manner refl)
 
   -- ---- declarations, in front of the run, in it and behind it
 

@@ -300,11 +300,11 @@ example_copy = record {
   distinct = distinct;
   free = λ f k. subst (λ (x : Free). x.old < 8) (sym (is_only f k)) (omega arith);
   once = λ f g k l e. is_only f k ∙ sym (is_only g l);
-  names = names;
+  names = λ t k n. names t k;
   apart =
       λ d k s p n u l e.
       let q : d ≡ was = the_b d k s.0 in
       not_those (own_text old d.name) (ap (λ (x : Declaration). same_text (own_text old x.name) (codes "a")) q) (ap (λ (x : Declaration). same_text (own_text old x.name) (codes "p")) q) u l e;
-  reuses = λ d x k l s h. absurd (reuses x l (subst (λ z. is_reused_of (found_as old z) (found_as old x) ≡ true) (the_b d k s.0) h));
+  reuses = λ d x k l s m b h. absurd (reuses x l (subst (λ z. is_reused_of (found_as old z) (found_as old x) ≡ true) (the_b d k s.0) h));
   used = λ d k n e. used d k;
 }

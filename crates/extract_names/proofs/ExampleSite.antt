@@ -287,6 +287,6 @@ example_site = record {
   says = λ g k i w e o m. let q : g ≡ gap = in_gaps g k in subst (λ x. slice_get x.texts i ≡ Some w → x.means i ≡ Some o → Says old around x i w) (sym q) (λ a b. says i w a o b) e m;
   needed = λ g k d r o e n. let q : g ≡ gap = in_gaps g k in subst (λ (x : Gap). IsInRun x d → (z : Redeclared) × Among z x.declared × (z.old ≡ d)) (sym q) (λ a. needed d a o e) r;
   once = λ g k y z a b e. let q : g ≡ gap = in_gaps g k in declared y (subst (λ (x : Gap). Among y x.declared) q a) ∙ sym (declared z (subst (λ (x : Gap). Among z x.declared) q b));
-  reuses = λ g k d x a b s r m e. absurd (reuses d x a s m);
+  reuses = λ g k d x a b s r m n e. absurd (reuses d x a s m);
   used = λ d k n e st. used d k e;
 }

@@ -26,7 +26,7 @@ use Rattle.go_scopes_bodies.specs.Faults.{own_second_declarations}
 use Rattle.go_scopes_bodies.specs.Meant.{Outer}
 use Rattle.extract_names.specs.Gaps.{Redeclared, Gap, moved_by, Among, IsInRun, AreApart, AtEdge, BlockAtEdge}
 use Rattle.extract_names.specs.Pieces.{Piece, stays, gap, told_before, told_behind, pieces, TellsPieces}
-use Rattle.extract_names.specs.Sites.{found_as, EachEvent, DeclarationStays, EventStays, DeclarationGoes, EventGoes, RunGoes, DeclaresAgain, EventIsNew, IsDeclared, GapTells, AllStand, IsSite}
+use Rattle.extract_names.specs.Sites.{found_as, EachEvent, DeclarationStays, EventStays, DeclarationGoes, EventGoes, RunGoes, DeclaresAgain, EventIsNew, IsDeclared, GapTells, AllStand, DeclaredAgainIn, IsSite}
 use Rattle.extract_names.proofs.Edges.{rises, upto_moved, low_moved, stays_edge, placed, same_lt, same_eq, mono, back, is_lt, lt_true}
 use Rattle.extract_names.proofs.Founds.{RiseFrom, rise_new, rise_found, rise_lower, files_found}
 use Rattle.extract_names.proofs.Rows.{both_true, and_true, ClashFree, Row, same, other, old_row, new_row, placed_at, Again, GapStands, RowsStand}
@@ -520,8 +520,9 @@ module _ (a new : Alone) (outer : Outer) (gaps : List Gap) (site : IsSite a oute
       let m : y.0.name ≡ v g.from + z.token = y.2 in
       record { it = y.0; there = y.1; came = c; again = site.once g i.listed c.it.again z c.it.listed k (inr (omega (arith, n, m))) }
 
-  reused_same : (d : Declaration) → DeclarationStays gaps d → Among (event.Declaration d) old_events → d.manner ≡ manner.Defined → is_reused (found_as new (moved_down d)) (own_names new) ≡ is_reused (found_as a d) (own_names a)
-  reused_same d s k defined = same_truth (is_reused (found_as new (moved_down d)) (own_names new)) (is_reused (found_as a d) (own_names a)) to_old to_new
+  reused_same : (d : Declaration) → DeclarationStays gaps d → Among (event.Declaration d) old_events → d.manner ≡ manner.Defined → is_blank (own_text a d.name) ≡ false
+      → is_reused (found_as new (moved_down d)) (own_names new) ≡ is_reused (found_as a d) (own_names a)
+  reused_same d s k defined blank = same_truth (is_reused (found_as new (moved_down d)) (own_names new)) (is_reused (found_as a d) (own_names a)) to_old to_new
     where
       tell : (w : Declaration) → Among (event.Declaration w) new_events → Reuses (found_as new (moved_down d)) (found_as new w) → is_reused (found_as new (moved_down d)) (own_names new) ≡ true
       tell w m r = reuse_told (found_as new (moved_down d)) (own_names new) (found_as new w) (among_found (own_text new) w new_events m) (reuse_is (found_as new (moved_down d)) (found_as new w) r)
@@ -529,11 +530,19 @@ module _ (a new : Alone) (outer : Outer) (gaps : List Gap) (site : IsSite a oute
       in_gap : (x : Declaration) → Among (event.Declaration x) old_events → Gone (event.Declaration x) → Reuses (found_as a d) (found_as a x) → is_reused (found_as new (moved_down d)) (own_names new) ≡ true
       in_gap x m (g, old, news, i, n) r =
           let goes : DeclarationGoes g i.goes.block i.goes.end x = each_among (EventGoes g i.goes.block i.goes.end) (event.Declaration x) old i.goes.each n in
-          let y = site.reuses g i.listed d x k m s.name goes.name defined (reuse_is (found_as a d) (found_as a x) r) in
-          let z : Redone g old news y.1 = redone g old news i y.1 y.3 in
-          let same_name : z.came.it.was.name ≡ y.0.name = z.came.it.named ∙ ap (λ (q : Redeclared). q.old) z.again ∙ sym y.4 in
-          let one : z.came.it.was ≡ y.0 = one_declaration 0 (length a.texts) old_events site.order z.came.it.was y.0 (i.from_old (event.Declaration z.came.it.was) z.came.it.told) y.2 same_name in
-          tell z.it (i.from_new (event.Declaration z.it) z.there) (reuse_gap d z.it g old i.listed s z.came (subst (λ q. Reuses (found_as a d) (found_as a q)) (sym one) (reuse_tells (found_as a d) (found_as a y.0) y.5)))
+          let y = site.reuses g i.listed d x k m s.name goes.name defined blank (reuse_is (found_as a d) (found_as a x) r) in
+          again y.0 y.1 y.3 (reuse_tells (found_as a d) (found_as a y.0) y.2) (old_or_gone (event.Declaration y.0) y.1)
+        where
+          again : (w : Declaration) → Among (event.Declaration w) old_events → DeclaredAgainIn gaps w.name → Reuses (found_as a d) (found_as a w) → Remains (event.Declaration w) ⊎ Gone (event.Declaration w)
+              → is_reused (found_as new (moved_down d)) (own_names new) ≡ true
+          again w l f q (inl e) = tell (moved_down w) e.1 (reuse_down d w s e.0 q)
+          again w l f q (inr (h, olds, others, j, e)) =
+              let gone : DeclarationGoes h j.goes.block j.goes.end w = each_among (EventGoes h j.goes.block j.goes.end) (event.Declaration w) olds j.goes.each e in
+              let y = f h j.listed gone.name in
+              let z : Redone h olds others y.0 = redone h olds others j y.0 y.1 in
+              let same_name : z.came.it.was.name ≡ w.name = z.came.it.named ∙ ap (λ (r : Redeclared). r.old) z.again ∙ y.2 in
+              let one : z.came.it.was ≡ w = one_declaration 0 (length a.texts) old_events site.order z.came.it.was w (j.from_old (event.Declaration z.came.it.was) z.came.it.told) l same_name in
+              tell z.it (j.from_new (event.Declaration z.it) z.there) (reuse_gap d z.it h olds j.listed s z.came (subst (λ r. Reuses (found_as a d) (found_as a r)) (sym one) q))
 
       by_old : (x : Declaration) → Among (event.Declaration x) old_events → Reuses (found_as a d) (found_as a x) → Remains (event.Declaration x) ⊎ Gone (event.Declaration x) → is_reused (found_as new (moved_down d)) (own_names new) ≡ true
       by_old x m r (inl q) = tell (moved_down x) q.1 (reuse_down d x s q.0 r)
@@ -572,12 +581,17 @@ module _ (a new : Alone) (outer : Outer) (gaps : List Gap) (site : IsSite a oute
 
   -- What stays is declared where it was.
   pub new_same : (d : Declaration) → DeclarationStays gaps d → Among (event.Declaration d) old_events → is_new (own_names new) (found_as new (moved_down d)) ≡ is_new (own_names a) (found_as a d)
-  new_same d s k = ap (λ w. not (is_blank w) && not (may_be_reused d.manner && is_reused (found_as new (moved_down d)) (own_names new))) (name_text d s) ∙ ap (λ b. not (is_blank (own_text a d.name)) && not b) (by d.manner refl)
+  new_same d s k = ap (λ w. not (is_blank w) && not (may_be_reused d.manner && is_reused (found_as new (moved_down d)) (own_names new))) (name_text d s) ∙ named (is_blank (own_text a d.name)) refl
     where
-      by : (m : Manner) → d.manner ≡ m → (may_be_reused m && is_reused (found_as new (moved_down d)) (own_names new)) ≡ (may_be_reused m && is_reused (found_as a d) (own_names a))
-      by manner.Declared e = refl
-      by manner.Ranged e = refl
-      by manner.Defined e = reused_same d s k e
+      by : is_blank (own_text a d.name) ≡ false → (m : Manner) → d.manner ≡ m → (may_be_reused m && is_reused (found_as new (moved_down d)) (own_names new)) ≡ (may_be_reused m && is_reused (found_as a d) (own_names a))
+      by blank manner.Declared e = refl
+      by blank manner.Ranged e = refl
+      by blank manner.Defined e = reused_same d s k e blank
+
+      named : (b : Bool) → is_blank (own_text a d.name) ≡ b
+          → (not b && not (may_be_reused d.manner && is_reused (found_as new (moved_down d)) (own_names new))) ≡ (not b && not (may_be_reused d.manner && is_reused (found_as a d) (own_names a)))
+      named true e = refl
+      named false e = ap not (by e d.manner refl)
 
   -- ---- rows
 

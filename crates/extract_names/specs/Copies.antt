@@ -282,7 +282,7 @@ UsedInCopy a outer c new run tail d =
     ((u : Use) × Among (event.Use u) run × IsKept c u.name × (is_assigned u.role ≡ false) × (own_object a outer u.name ≡ declared_at a d.name))
     ⊎ ((u : Use) × Among (event.Use u) tail × (is_assigned u.role ≡ false) × (is_around c d.block ≡ true) × (own_text new u.name ≡ own_text a d.name))
 
--- What a token of the run names: a local of the run; a free local, whose parameter is spelled so; or what no local is, and no parameter is
+-- What a name of the run means: a local of the run; a free local, whose parameter is spelled so; or what no local is, and no parameter is
 -- spelled so.
 abbrev pub NamesLocal : Alone → Outer → Copy → ℕ → Type 0
 NamesLocal a outer c t = (d : ℕ) × (o : Meant) × IsIn c d × (declared_at a d ≡ Some o) × (own_object a outer t ≡ Some o)
@@ -335,11 +335,12 @@ pub record IsCopy (a : Alone) (outer : Outer) (c : Copy) (new : Alone) : Type 0 
   pub distinct : (u w : ℕ) → Among u c.parameters → Among w c.parameters → own_text new u ≡ own_text new w → u ≡ w
   pub free : (f : Free) → Among f c.free → f.old < c.from
   pub once : (f g : Free) → Among f c.free → Among g c.free → f.old ≡ g.old → f ≡ g
-  pub names : (t : ℕ) → IsKept c t → NamesLocal a outer c t ⊎ (NamesFree a outer c new t ⊎ NamesOuter a outer c new t)
+  pub names : (t : ℕ) → IsKept c t → IsNamed t (told_before pieces) → NamesLocal a outer c t ⊎ (NamesFree a outer c new t ⊎ NamesOuter a outer c new t)
   -- What the list of the run declares isn't spelled like a parameter; and what it reuses of the list in front of it is one.
   pub apart : (d : Declaration) → Among (event.Declaration d) (function_events a) → IsIn c d.name → is_around c d.block ≡ true → is_new (own_names a) (found_as a d) ≡ true
       → (u : ℕ) → Among u c.parameters → own_text new u ≡ own_text a d.name → ⊥
-  pub reuses : (d x : Declaration) → Among (event.Declaration d) (function_events a) → Among (event.Declaration x) before → IsIn c d.name → is_reused_of (found_as a d) (found_as a x) ≡ true
+  pub reuses : (d x : Declaration) → Among (event.Declaration d) (function_events a) → Among (event.Declaration x) before → IsIn c d.name → d.manner ≡ manner.Defined → is_blank (own_text a d.name) ≡ false
+      → is_reused_of (found_as a d) (found_as a x) ≡ true
       → (is_around c d.block ≡ true) × (u : ℕ) × Among u c.parameters × (own_text new u ≡ own_text a d.name)
   -- Each variable of the run is used.
   pub used : (d : Declaration) → Among (event.Declaration d) (told_before pieces) → is_new (own_names a) (found_as a d) ≡ true → d.entity ≡ entity.Variable → UsedInCopy a outer c new (told_before pieces) tail d

@@ -294,6 +294,15 @@ module _ (k n end : ℕ) (g : Gap) where
     rounds_old zero xs o = o
     rounds_old (suc r) xs o = rounds_old r (with_all (needs_of os xs) xs) (all_old (needs_of os xs) xs (each_old os old xs) o)
 
+    -- an old declaration needs what it needed
+    pub needed_same : (r : ℕ) (x : Needed) → IsOldNeeded x → all_needed bs r (with_all (needs bs (to x)) []) ≡ map to (all_needed os r (with_all (needs os x) []))
+    needed_same r x o =
+        ap (λ l. all_needed bs r (with_all l [])) (needs_same mid os bs h x (aside_all x o)) ∙ ap (all_needed bs r) (all_same (needs os x) [])
+        ∙ rounds_same r (with_all (needs os x) []) (all_old (needs os x) [] (needs_old os old x) tt)
+
+    pub needed_old : (r : ℕ) (x : Needed) → AllByRecursion IsOldNeeded (all_needed os r (with_all (needs os x) []))
+    needed_old r x = rounds_old r (with_all (needs os x) []) (all_old (needs os x) [] (needs_old os old x) tt)
+
     -- an old declaration needs itself as before
     pub itself_same : (r : ℕ) (d : Found) → IsOld d → needs_itself bs r (longer k end d) ≡ needs_itself os r d
     itself_same r d o =

@@ -14,7 +14,7 @@ use Rattle.go_tree.specs.declared.event.Event.TheVariants as event
 use Rattle.go_tree.specs.Branches.{branches, misplaced, statements, limit}
 use Rattle.go_tree.specs.Clauses.{package_names, imports, other_imports, outside_declarations, declares, is_spelled, read_byte, is_read_byte, bodiless, missing_bodies}
 use Rattle.go_tree.specs.Constants.{hidden_in, hidden_lists}
-use Rattle.go_tree.specs.Declarations.{Found, found, found_in, found_from, is_function, new_among, declarations}
+use Rattle.go_tree.specs.Declarations.{Found, found, found_in, is_function, new_among, declarations}
 use Rattle.go_tree.specs.Duplicates.{is_duplicate, second_members, second_defaults, duplicates}
 use Rattle.go_tree.specs.Failures.{Failure, failing, of_files, least, or_else}
 use Rattle.go_tree.specs.Faults.{clause_faults, lookup_faults, unused_faults, placed_faults, cycle_faults, name_faults, reported}
@@ -29,18 +29,18 @@ use Rattle.go_scopes_cycles.specs.Needs.{source_of}
 use Rattle.go_heads_added.specs.Added.{reaching, longer, behind, IsEarlier, IsParameter, IsAdded, LiesIn, NoneSays}
 use Rattle.go_heads_added.specs.Faults.{FunctionIsFine, FileIsWithin, SourceIsOuter, MeansOuter}
 use Rattle.go_heads_added.specs.Within.{EventWithin, IsOfFunction, SiteWithin, SiteBehind, SourceBehind}
-use Rattle.go_heads_added.proofs.Asks.{AsksFollow, asks_follow, undeclared_none, names_none, selected_none, calls_none, initials_none, still_used, still_imported}
+use Rattle.go_heads_added.proofs.Asks.{AsksFollow, undeclared_none, names_none, selected_none, calls_none, initials_none, still_used, still_imported}
 use Rattle.go_heads_added.proofs.Circles.{Maybe, IsOld, SourceHas, asked_has, from_has, numbered_has, imports_have, sourceless, itself_same, ComesFrom, function_never}
 use Rattle.go_heads_added.proofs.Files as files
 use Rattle.go_heads_added.proofs.Files.{test_false, rest_none, none_there, none_front, none_behind, none_both, failing_none, none_failing, least_none, Rule, Follows, changed_none, all_follow}
+use Rattle.go_heads_added.proofs.Following as following
 use Rattle.go_heads_added.proofs.Found.{found_before, found_after}
-use Rattle.go_heads_added.proofs.Names.{g, front, rest, all, kept, others, added, first_meanings, new_meanings, other_meanings, declarations_were, declarations_are, meanings_were, meanings_are, new_aside, parameters_new}
+use Rattle.go_heads_added.proofs.Names.{g, front, rest, all, kept, others, added, first_meanings, new_meanings, other_meanings, declarations_were, declarations_are, meanings_are, parameters_new}
 use Rattle.go_heads_added.proofs.Numbers.{moved}
-use Rattle.go_heads_added.proofs.Objects.{were, are}
 use Rattle.go_heads_added.proofs.Own as own
 use Rattle.go_heads_added.proofs.Redeclared as twice
 use Rattle.go_heads_added.proofs.Rounds.{Bound, never_itself}
-use Rattle.go_heads_added.proofs.Texts.{IsApart, Says, all_both, all_front, all_behind, all_more, all_mapped, new_all, from_apart, all_say}
+use Rattle.go_heads_added.proofs.Texts.{IsApart, Says, all_both, all_front, all_behind, all_more, all_mapped, new_all, from_apart}
 
 -- ---- what is reported
 
@@ -227,7 +227,7 @@ module _ (k n : ℕ) (name : List ℕ) (old new : List Unit) (h : IsAdded k n na
   mid = asked_in (meanings new) k us extra
 
   says : AllByRecursion (Says name) (h.before ++ h.a ∷ h.behind)
-  says = all_say name (h.before ++ h.a ∷ h.behind) (subst (NoneSays name) h.was q)
+  says = following.says k n name old new h i q w
 
   own_says : Says name h.a
   own_says = (all_behind (Says name) h.before (h.a ∷ h.behind) says).0
@@ -348,18 +348,7 @@ module _ (k n : ℕ) (name : List ℕ) (old new : List Unit) (h : IsAdded k n na
   -- ---- names that are looked up
 
   follow : AsksFollow k e (g k n name old new h i) mid asks more_asks
-  follow =
-      let x = first_meanings k n name old new h i in
-      let y = new_meanings k n name old new h i in
-      let z = other_meanings k n name old new h i in
-      let r = asks_follow k n name e (g k n name old new h i) x y z (new_aside k n name old new h i) h.before h.a h.b h.behind extra h.place h.longer.events h.longer.words w.events says in
-      let R : List Unit → List Unit → List Meaning → List Meaning → Type 0 = λ zs vs ms ns. AsksFollow k e (g k n name old new h i) (asked_in ns k us extra) (asked_from ms 0 zs) (asked_from ns 0 vs) in
-      let ms = were k n name e (g k n name old new h i) x y z in
-      let ns = are k n name e (g k n name old new h i) x y z in
-      let one : R old (h.before ++ h.b ∷ h.behind) ms ns = subst (λ zs. R zs (h.before ++ h.b ∷ h.behind) ms ns) (sym h.was) r in
-      let two : R old new ms ns = subst (λ vs. R old vs ms ns) (sym h.is) one in
-      let three : R old new (meanings old) ns = subst (λ m. R old new m ns) (sym (meanings_were k n name old new h i)) two in
-      subst (λ m. R old new (meanings old) m) (sym (meanings_are k n name old new h i)) three
+  follow = following.follow k n name old new h i q w
 
   lookups : lookup_faults asks ≡ [] → lookup_faults more_asks ≡ []
   lookups z =
@@ -467,50 +456,14 @@ module _ (k n : ℕ) (name : List ℕ) (old new : List Unit) (h : IsAdded k n na
   abbrev IsInFront : Found → Type 0
   IsInFront = IsOld k n e (g k n name old new h i)
 
-  old_in : (es : List Event) → AllByRecursion (EventWithin n) es → AllByRecursion IsInFront (found_in k ts es)
-  old_in [] x = tt
-  old_in (event.Declaration d ∷ es) x = ((λ z. x.0), old_in es x.1)
-  old_in (event.Use u ∷ es) x = old_in es x.1
-  old_in (event.Import p ∷ es) x = old_in es x.1
-  old_in (event.Member m y j ∷ es) x = old_in es x.1
-  old_in (event.Bodiless y j ∷ es) x = old_in es x.1
-  old_in (event.Statement y j ∷ es) x = old_in es x.1
-  old_in (event.Misplaced y j ∷ es) x = old_in es x.1
-  old_in (event.SecondDefault y ∷ es) x = old_in es x.1
-
-  other_in : (m : ℕ) (vs : TokenList) (es : List Event) → nat_eq m k ≡ false → AllByRecursion IsInFront (found_in m vs es)
-  other_in m vs [] x = tt
-  other_in m vs (event.Declaration d ∷ es) x = ((λ z. absurd (never (sym x ∙ z))), other_in m vs es x)
-    where
-      never : false ≡ true → ⊥
-      never z = cc
-  other_in m vs (event.Use u ∷ es) x = other_in m vs es x
-  other_in m vs (event.Import p ∷ es) x = other_in m vs es x
-  other_in m vs (event.Member o y j ∷ es) x = other_in m vs es x
-  other_in m vs (event.Bodiless y j ∷ es) x = other_in m vs es x
-  other_in m vs (event.Statement y j ∷ es) x = other_in m vs es x
-  other_in m vs (event.Misplaced y j ∷ es) x = other_in m vs es x
-  other_in m vs (event.SecondDefault y ∷ es) x = other_in m vs es x
-
-  before_in : (m : ℕ) (xs : List Unit) → m + length xs ≤ k → AllByRecursion IsInFront (found_from m xs)
-  before_in m [] l = tt
-  before_in m (u ∷ xs) l = all_both IsInFront (found_in m u.tokens u.events) (found_from (suc m) xs) (other_in m u.tokens u.events (grind (arith, nat_tests))) (before_in (suc m) xs (omega (arith, l)))
-
-  behind_in : (m : ℕ) (xs : List Unit) → k < m → AllByRecursion IsInFront (found_from m xs)
-  behind_in m [] l = tt
-  behind_in m (u ∷ xs) l = all_both IsInFront (found_in m u.tokens u.events) (found_from (suc m) xs) (other_in m u.tokens u.events (grind (arith, nat_tests))) (behind_in (suc m) xs (omega (arith, l)))
-
-  front_is_old : AllByRecursion IsInFront (front k n name old new h i)
-  front_is_old = all_both IsInFront (found_from 0 h.before) (found_in k ts h.a.events) (before_in 0 h.before (let p = h.place in omega (arith, p))) (old_in h.a.events w.events)
-
   kept_is_old : AllByRecursion IsInFront (kept k n name old new h i)
-  kept_is_old = new_all IsInFront (front k n name old new h i ++ rest k n name old new h i) (front k n name old new h i) front_is_old
+  kept_is_old = following.kept_is_old k n name old new h i q w
 
   others_is_old : AllByRecursion IsInFront (others k n name old new h i)
-  others_is_old = new_all IsInFront (front k n name old new h i ++ rest k n name old new h i) (rest k n name old new h i) (behind_in (suc k) h.behind (omega arith))
+  others_is_old = following.others_is_old k n name old new h i q w
 
   declared_is_old : AllByRecursion IsInFront (declarations old)
-  declared_is_old = subst (AllByRecursion IsInFront) (sym (declarations_were k n name old new h i)) (all_both IsInFront (kept k n name old new h i) (others k n name old new h i) kept_is_old others_is_old)
+  declared_is_old = following.declared_is_old k n name old new h i q w
 
   -- each name that is looked up means what is declared
   abbrev IsThere : Found → Type 0
@@ -620,23 +573,6 @@ module _ (k n : ℕ) (name : List ℕ) (old new : List Unit) (h : IsAdded k n na
   asks_early : AllByRecursion IsEarly asks
   asks_early = subst (λ us. AllByRecursion IsEarly (asked_from (meanings old) 0 us)) (sym h.was) (early_from (meanings old) 0 h.before (let p = h.place in omega (arith, p)))
 
-  -- what the function's own names are
-  news_in : (ms : List Meaning) (es : List Event) → AllByRecursion (IsOfFunction n) es → AllByRecursion (λ a. (a.file ≡ k) × SiteBehind n a.it.site) (asked_in ms k us es)
-  news_in ms [] x = tt
-  news_in ms (event.Use u ∷ es) x = by (is_blank (word us u.name)) (news_in ms es x.1)
-    where
-      by : (b : Bool) → AllByRecursion (λ a. (a.file ≡ k) × SiteBehind n a.it.site) (asked_in ms k us es)
-          → AllByRecursion (λ a. (a.file ≡ k) × SiteBehind n a.it.site) (if b then asked_in ms k us es else asked ms k us u ∷ asked_in ms k us es)
-      by true y = y
-      by false y = ((refl, x.0), y)
-  news_in ms (event.Declaration d ∷ es) x = news_in ms es x.1
-  news_in ms (event.Import p ∷ es) x = absurd x.0
-  news_in ms (event.Member m y j ∷ es) x = news_in ms es x.1
-  news_in ms (event.Bodiless y j ∷ es) x = absurd x.0
-  news_in ms (event.Statement y j ∷ es) x = absurd x.0
-  news_in ms (event.Misplaced y j ∷ es) x = absurd x.0
-  news_in ms (event.SecondDefault y ∷ es) x = absurd x.0
-
   own_in : (es : List Event) → AllByRecursion (IsOfFunction n) es → AllByRecursion (λ d. (is_function d.it.entity ≡ false → d.it.source ≡ None) × SourceBehind n d.it.source) (found_in k us es)
   own_in [] x = tt
   own_in (event.Declaration d ∷ es) x = ((x.0.1, x.0.2), own_in es x.1)
@@ -700,7 +636,7 @@ module _ (k n : ℕ) (name : List ℕ) (old new : List Unit) (h : IsAdded k n na
   mid_comes = asked_has Comes (meanings new) all_come k us extra
 
   mid_news : AllByRecursion (λ a. (a.file ≡ k) × SiteBehind n a.it.site) mid
-  mid_news = news_in (meanings new) extra fine.tells
+  mid_news = following.news_in k n name old new h i q w (meanings new) extra fine.tells
 
   comes_from : (xs : List Asked) → AllByRecursion (λ a. Maybe Comes a.meaning) xs → AllByRecursion (λ a. MeansOuter k n a.meaning) xs
       → AllByRecursion (λ a. Maybe (ComesFrom k n e (g k n name old new h i) mid asks more_asks follow mid_news asks_old) a.meaning) xs

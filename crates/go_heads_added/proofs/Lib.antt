@@ -18,9 +18,12 @@ mod Own
 mod Texts
 mod Redeclared
 mod Asks
+mod Following
+mod Needing
 mod Faultless
 mod Rounds
 mod Circles
 mod Bare
 mod Tells
 mod Derived
+pub mod Public

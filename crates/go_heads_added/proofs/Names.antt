@@ -208,6 +208,10 @@ module _ (k n : ℕ) (name : List ℕ) (old new : List Unit) (h : IsAdded k n na
     place = (let c = package_count first_numbers kept in let e = ap (λ ds. (behind first_numbers (new_among ds front)).shared) (found_before k n name old new h i) in omega (arith, c, e));
   }
 
+  pub declared_parts : (declared_added.first ≡ declared_in_package kept) × (declared_added.function ≡ declared_by h.longer.function)
+  unfolding declared_added
+  declared_parts = (refl, refl)
+
   abbrev pub first_meanings : List Meaning
   first_meanings = imported_from 0 old ++ numbered first_numbers kept
 

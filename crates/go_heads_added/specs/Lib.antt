@@ -3,3 +3,4 @@ pub mod Appended
 pub mod Examples
 pub mod Within
 pub mod Faults
+pub mod Kept

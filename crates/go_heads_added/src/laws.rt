@@ -20,6 +20,7 @@ ghost use Rattle.go_heads_added.specs.Added.{IsAdded, LiesIn, NoneSays, KeepsAll
 ghost use Rattle.go_heads_added.specs.Appended.{AreAdded, HasNames, IsFront, IsParameterOf, IsParsed, TellsMore, context_behind, empty_function, unit_of};
 ghost use Rattle.go_heads_added.specs.Examples.{Examples};
 ghost use Rattle.go_heads_added.specs.Faults.{FunctionIsFine, FileIsWithin, MayBeAdded};
+ghost use Rattle.go_heads_added.specs.Kept.{KeepsPackage};
 ghost use Rattle.go_heads_added.specs.Within.{EventWithin, IsOfFunction};
 
 use go_scopes_cycles::laws::declarations_bound_rounds;
@@ -116,6 +117,19 @@ pub fn appended_functions_fail_no_rule()
     locals_stand_in_functions();
     longer_files_import_the_same();
     declarations_bound_rounds();
+}
+
+/// Where the files of a package are derived, and a function with an empty body is appended to one of them whose name no token says, each token
+/// means what it meant, and the declarations need what they needed, with the function between.
+pub fn appended_functions_keep_the_package()
+    ensures { (k j end x y u v : ℕ) (a b : TokenList) (ts us : List TokenKind) (ps : Trees) (s : Tree) (before behind : List Unit) → let d = empty_function x y s u v in
+        let t = node kind.File 0 j ps in let old = before ++ unit_of a t ∷ behind in let new = before ++ unit_of b (with_declaration t d end) ∷ behind in
+        length before ≡ k → AllByRecursion IsParsed before → AllByRecursion IsParsed behind → IsFile ts t → HasNames (unit_of a t)
+        → IsFront j a b → Derives us category.Declaration d → j ≤ x → is_blank (word b (suc x)) ≡ false
+        → NoneSays (word b (suc x)) old → KeepsPackage k j (suc x) old new }
+{
+    locals_stand_in_functions();
+    longer_files_import_the_same();
 }
 
 /// A worked example: a file with a function more, its tree, and what it tells.

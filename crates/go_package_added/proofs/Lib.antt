@@ -1,1 +1,14 @@
-mod Examples
+pub mod Examples
+mod Inserted
+mod Assigned
+mod Judged
+mod Scopes
+mod Rounds
+mod Answered
+mod Specified
+mod Outlined
+mod Needing
+mod Named
+mod Numbered
+mod Appending
+mod Keeping

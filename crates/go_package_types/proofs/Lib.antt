@@ -12,4 +12,4 @@ pub mod Undeclared
 pub mod Constants
 pub mod Rows
 pub mod Places
-pub mod Hidden
+pub mod Unblocked

@@ -125,10 +125,14 @@ fn unless_told(
         → option_map failure_of told ≡ least (all_failures p os ss ds) → IfOk result (λ o. option_map failure_of o ≡ least (package_failures p os ss ds)) }
 {
     types.count();
-    if told.is_some() || !is_failing(known.faulty, known.assigning) {
+    if told.is_some() {
         return Ok(told);
     }
-    hidden_fault(alloc, types, world, known)
+    if is_failing(known.faulty, known.assigning) {
+        hidden_fault(alloc, types, world, known)
+    } else {
+        Ok(told)
+    }
 }
 
 /// The least fault of the declarations of a package.

@@ -2,25 +2,25 @@
 
 ghost use Rattle.std.specs.Prelude.{◌≡◌, ◌∷◌, ◌++◌, ℕ, List, [], None, IfOk, OnOk, map};
 ghost use Rattle.std.specs.Option.{option_map, option_copied};
-ghost use Rattle.go_tree.specs.Extents.{covers};
 ghost use Rattle.go_tree.specs.Meanings.{meaning_at};
 ghost use Rattle.go_tree.specs.Objects.{object_at};
 ghost use Rattle.go_tree.specs.Meanings as meanings;
-ghost use Rattle.go_scopes_events.specs.Scopes.{inner, locals_of, AreNested};
-ghost use Rattle.go_scopes_named.specs.Named.{KnowsNamed, IsNamed, all_meanings, named_locals, over_covering, inmost_among, local_meaning, reached_meaning};
-ghost use Rattle.go_scopes_lookup.specs.Sorted.{items_of};
+ghost use Rattle.go_scopes_events.specs.Scopes.{locals_of, AreNested};
+ghost use Rattle.go_scopes_named.specs.Named.{KnowsNamed, NestsIn, IsNamed, all_meanings, named_locals, local_meaning, reached_meaning};
+ghost use Rattle.go_scopes_named.specs.Segments.{AreSegments, segments_of};
 ghost use Rattle.go_scopes_lookup.specs.Views.{entry_view, meaning_view};
 
+use crate::segments::{Segment, add, or_none, said};
 use go_base::Memory;
-use go_scopes_lookup::meaning::{Entry, Meaning, lies_inside, meanings, object_by};
-use go_scopes_lookup::sorted::{Sorted, by_block, or_none};
+use go_scopes_lookup::meaning::{Entry, Meaning, meanings, object_by};
+use go_scopes_lookup::sorted::{Sorted, by_block};
 use go_scopes_lookup::unit::is_blank;
 use go_tree::object::{Extent, Object};
 use std::alloc::{AllocError, Global};
 use std::collections::HashMap;
 
-/// The local meanings of each name of each file, in order.
-type NamedLocals<'a> = HashMap<(u32, &'a [u8]), Vec<Meaning<'a>>>;
+/// Where the local meaning of each name of each file changes.
+type NamedLocals<'a> = HashMap<(u32, &'a [u8]), Vec<Segment<'a>>>;
 
 /// The meanings of a package by their names.
 #[derive(Drop)]
@@ -35,19 +35,20 @@ fn add_local<'a>(
     locals: &mut NamedLocals<'a>,
     meaning: &Meaning<'a>,
 ) -> Result<(), AllocError>
-    ensures { OnOk result ((ms : List meanings.Meaning) → KnowsNamed locals.old ms → KnowsNamed locals.new (ms ++ meaning_view meaning.now ∷ [])) }
+    ensures { OnOk result ((ms : List meanings.Meaning) → NestsIn ms (meaning_view meaning.now) → KnowsNamed locals.old ms → KnowsNamed locals.new (ms ++ meaning_view meaning.now ∷ [])) }
 {
-    if let Extent::Between { file, .. } = meaning.entry.extent {
+    if let Extent::Between { file, scope } = meaning.entry.extent {
         let key = (file, meaning.entry.name);
         let mut own = or_none(alloc, locals.remove(&key));
-        own.push(*meaning)?;
+        add(&mut own, scope, meaning)?;
         locals.insert(key, own)?;
     }
     Ok(())
 }
 
-/// The local meanings by file and name.
+/// The segments by file and name.
 fn locals<'a>(alloc: Global, all: &[Meaning<'a>]) -> Result<NamedLocals<'a>, AllocError>
+    requires { (n : ℕ) → AreNested (locals_of n (map meaning_view all.now)) }
     ensures { IfOk result (λ m. KnowsNamed m (map meaning_view all.now)) }
 {
     let mut locals = HashMap::new(alloc);
@@ -72,67 +73,11 @@ pub fn by_name<'a>(alloc: Global, entries: &'a [Entry<'a>]) -> Result<Named<'a>,
     Ok(Named { sorted, locals })
 }
 
-/// Whether the extent has the token of the file.
-fn covers(extent: Extent, file: u32, token: u32) -> bool
-    ensures { result ≡ covers extent file token }
-{
-    match extent {
-        Extent::Everywhere => true,
-        Extent::Throughout(own) => own == file,
-        Extent::Between { file: own, scope } => {
-            own == file && scope.from <= token && token < scope.to
-        }
-    }
-}
-
-/// The inner of two meanings: of equal extents the first counts.
-fn inner<'a>(found: Option<Meaning<'a>>, meaning: &Meaning<'a>) -> Option<Meaning<'a>>
-    ensures { option_map meaning_view result ≡ inner (option_map meaning_view found.entry) (meaning_view meaning.now) }
-{
-    match found {
-        None => Some(*meaning),
-        Some(found) => {
-            if lies_inside(found.entry.extent, meaning.entry.extent) {
-                Some(found)
-            } else {
-                Some(*meaning)
-            }
-        }
-    }
-}
-
-/// The inner of two meanings where the second covers the token of the file, else the first.
-fn over<'a>(
-    found: Option<Meaning<'a>>,
-    meaning: &Meaning<'a>,
-    file: u32,
-    token: u32,
-) -> Option<Meaning<'a>>
-    ensures { option_map meaning_view result ≡ over_covering file token (option_map meaning_view found.entry) (meaning_view meaning.now) }
-{
-    if covers(meaning.entry.extent, file, token) {
-        inner(found, meaning)
-    } else {
-        found
-    }
-}
-
-/// The innermost of the meanings that cover the token of the file.
-fn inmost<'a>(all: &[Meaning<'a>], file: u32, token: u32) -> Option<Meaning<'a>>
-    ensures { option_map meaning_view result ≡ inmost_among file token None (map meaning_view all.now) }
-{
-    let mut found = None;
-    for meaning in all {
-        found = over(found, meaning, file, token);
-    }
-    found
-}
-
 impl<'a> Named<'a> {
-    /// The local meanings of the name in the file, in order, if there are some.
-    fn locals_of(&self, file: u32, name: &'a [u8]) -> Option<&Vec<Meaning<'a>>>
+    /// The segments of the name in the file, if it has a local one.
+    fn segments_of(&self, file: u32, name: &'a [u8]) -> Option<&Vec<Segment<'a>>>
         requires { IsNamed self.now }
-        ensures { items_of (option_copied result) ≡ named_locals file name.entry.now (all_meanings self.now) }
+        ensures { AreSegments file (segments_of (option_copied result)) (named_locals file name.entry.now (all_meanings self.now)) }
     {
         self.locals.get(&(file, name))
     }
@@ -142,9 +87,9 @@ impl<'a> Named<'a> {
         requires { IsNamed self.now }
         ensures { option_map meaning_view result ≡ local_meaning file token name.entry.now (all_meanings self.now) }
     {
-        match self.locals_of(file, name) {
+        match self.segments_of(file, name) {
             None => None,
-            Some(all) => inmost(all, file, token),
+            Some(segments) => said(segments, token),
         }
     }
 
@@ -164,7 +109,7 @@ impl<'a> Named<'a> {
 
     /// The declared or imported meaning of the name at the token of the file (Go specification: Declarations and scope).
     ///
-    /// It takes as long as there are locals of that name in that file.
+    /// It looks the name up in maps, and the token by binary search among the places of that file where the name's local meaning changes.
     pub fn meaning_at(&self, file: u32, token: u32, name: &'a [u8]) -> Option<Meaning<'a>>
         requires { IsNamed self.now }
         ensures { option_map meaning_view result ≡ meaning_at (all_meanings self.now) file token name.entry.now }

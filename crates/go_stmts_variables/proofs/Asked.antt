@@ -3,6 +3,9 @@ use Rattle.std.proofs.Common.{◌≡◌, ◌∙◌, ℕ, zero, suc, Bool, true, 
 use Rattle.std.specs.Char.{encode_utf8}
 use Rattle.std.specs.Prelude.{◌&&◌, not, nat_eq, if◌then◌else◌, slice_get}
 use Rattle.go_grammar.specs.declared.kind.Category.TheVariants as category
+use Rattle.go_grammar.specs.declared.kind.Kind.TheVariants as kind
+use Rattle.go_grammar.specs.declared.kind.Sort.TheVariants as declaring
+use Rattle.go_grammar.specs.Trees.{node}
 use Rattle.go_tokens.specs.Literals.{letter_base, is_digit_of}
 use Rattle.go_tree.specs.declared.object.Object.{Object}
 use Rattle.go_tree.specs.declared.object.Object.TheVariants as object
@@ -16,28 +19,34 @@ use Rattle.go_typed.specs.Trees.{Value, Label}
 use Rattle.go_exprs_rules.specs.Faults.{sooner}
 use Rattle.go_exprs_rules.specs.Names.{object_form, object_sort}
 use Rattle.go_exprs_rules.specs.Scopes.{Needed, value}
-use Rattle.go_exprs_rules.specs.Sentences.{Word}
+use Rattle.go_exprs_rules.specs.Sentences.{Word, name}
 use Rattle.go_exprs_rules.specs.Sentences as expressions
-use Rattle.go_exprs_rules.specs.Sorts.{is_open, int}
+use Rattle.go_exprs_rules.specs.Sorts.{is_open}
 use Rattle.go_stmts_defs.specs.Laying.{local_named}
 use Rattle.go_stmts_defs.specs.Reading.{reading}
+use Rattle.go_stmts_defs.specs.Sentences.{one}
 use Rattle.clone_window.specs.Masses.{is_hole}
 use Rattle.go_exprs_variables.specs.Stood.{as_before}
 use Rattle.go_exprs_variables.specs.Shapes.{IsShaped}
 use Rattle.go_exprs_variables.specs.Variables.{Standin, final_type, IsFit, Proper, Fits, no_rule_fails, ExpressionsTyped}
 use Rattle.go_stmts_variables.specs.Frames.{FramesStand}
 use Rattle.go_stmts_variables.specs.Statements.{tree_in, found_in, Declares, Tagged}
+use Rattle.go_stmts_variables.specs.Steady.{Steady}
 use Rattle.go_stmts_variables.proofs.Law.{bodies_read}
-use Rattle.go_stmts_variables.specs.Asked.{AskedIsMet, words, body, before, after, standing}
+use Rattle.go_stmts_variables.specs.Asked.{AskedIsMet, words, named_type, body, before, after, standing}
 
 shaped : IsShaped category.Block body
-shaped = (refl, ((refl, ((refl, tt, refl), ((refl, ((refl, ((refl, tt, refl), tt), refl), tt), refl), tt)), refl), tt), refl)
+shaped =
+    (refl, ((refl, ((refl, tt, refl), ((refl, ((refl, ((refl, tt, refl), tt), refl), ((refl, ((refl, ((refl, tt, refl), tt), refl), tt), refl), tt)), refl), tt)), refl), tt), refl)
 
 proper : Proper standing body
-proper = (tt, tt, ((tt, tt, ((refl, tt, tt), ((tt, tt, ((tt, tt, (tt, tt)), tt)), tt))), tt))
+proper = (tt, tt, ((tt, tt, ((refl, tt, tt), ((tt, tt, ((tt, tt, (tt, tt)), ((tt, tt, ((tt, tt, ((refl, tt, tt), tt)), tt)), tt))), tt))), tt))
 
 declares : Declares standing body
-declares = (tt, ((refl, ((tt, tt), ((tt, ((tt, ((tt, tt), tt)), tt)), tt))), tt))
+declares = (tt, ((tt, ((tt, tt), ((tt, ((tt, ((tt, tt), tt)), (type_declares, tt))), tt))), tt))
+  where
+    type_declares : Declares standing (node (kind.Declaration declaring.Type) 13 16 (one (node (kind.Specification declaring.Type) 14 16 (one (name 15)))))
+    type_declares = ((((λ e. refl), (((λ e. refl), tt), tt)), tt), ((refl, ((tt, tt), tt)), tt))
 
 good : no_rule_fails (found_in (reading before value body)) ≡ true
 unfolding sooner answers is_assignable is_digit_of letter_base encode_utf8
@@ -45,20 +54,25 @@ good = refl
 
 tagged : Tagged (tree_in (reading before value body))
 unfolding sooner answers is_assignable is_digit_of letter_base encode_utf8
-tagged = (tt, ((refl, ((tt, tt), ((tt, ((tt, tt), tt)), tt))), tt))
+tagged = (tt, ((refl, ((tt, tt), ((tt, ((tt, tt), ((tt, ((tt, tt), tt)), tt))), tt))), tt))
+
+-- what D is doesn't change
+steady : Steady before value body
+unfolding sooner answers is_assignable is_digit_of letter_base encode_utf8
+steady = (tt, (((refl, tt), ((tt, tt), ((tt, ((tt, ((tt, tt), tt)), ((tt, ((tt, ((tt, tt), tt)), tt)), tt))), tt))), tt))
 
 -- ---- the hole
 
 abbrev the_variable : Standin
-the_variable = record { upto = 12; function = 0; local = 1; type = int }
+the_variable = record { upto = 12; function = 0; local = 1; type = named_type }
 
-hole_fits : (l : Label TypeTree) → is_hole false form.Literal l ≡ true → final_type l.sort ≡ Some int → (v : Standin) → Some the_variable ≡ Some v → IsFit v false form.Literal 12 l
+hole_fits : (l : Label TypeTree) → is_hole false form.Literal l ≡ true → final_type l.sort ≡ Some named_type → (v : Standin) → Some the_variable ≡ Some v → IsFit v false form.Literal 12 l
 hole_fits l h t v e = let same : the_variable ≡ v = cc in subst (λ v. IsFit v false form.Literal 12 l) same (record { hole = h; upto = refl; type = t })
 
 fits : Fits standing false (tree_in (reading before value body))
 unfolding sooner answers is_assignable is_digit_of letter_base encode_utf8
 fits =
-    ((λ v e h. cc), refl, (((λ v e h. cc), refl, (((λ v e h. cc), refl, tt), (((λ v e h. cc), refl, (((λ v e h. hole_fits _ refl refl v e), refl, tt), tt)), tt))), tt))
+    ((λ v e h. cc), refl, (((λ v e h. cc), refl, (((λ v e h. cc), refl, tt), (((λ v e h. cc), refl, (((λ v e h. hole_fits _ refl refl v e), refl, tt), (((λ v e h. cc), refl, (((λ v e h. cc), refl, tt), tt)), tt))), tt))), tt))
 
 -- ---- frames
 
@@ -155,6 +169,7 @@ asked_is_met law = record {
   good = good;
   fits = fits;
   tagged = tagged;
+  steady = steady;
   variables = refl;
-  read = bodies_read law standing before after value body shaped stand proper declares good fits tagged;
+  read = bodies_read law standing before after value body shaped stand proper declares good fits tagged steady;
 }

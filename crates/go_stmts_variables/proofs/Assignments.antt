@@ -63,29 +63,30 @@ module _ (w : Standins) where
   AllClosed [] = Unit {0}
   AllClosed (x ∷ xs) = (is_open (sort_of x) ≡ false) × AllClosed xs
 
-  module _ (f g : Frame) (st : FramesStand w f g) where
-    pub one_closed : (h : Hint) (p : Place) (x : Tree) → IsShaped (any p) x → is_naming h ≡ false → is_target (rights_of f) (typing (scope_of f) h x) ≡ true → is_open (sort_of (typing (scope_of f) h x)) ≡ false
+  -- by whatever right sides they are judged
+  module _ (f g : Frame) (st : FramesStand w f g) (rights : Rights) where
+    pub one_closed : (h : Hint) (p : Place) (x : Tree) → IsShaped (any p) x → is_naming h ≡ false → is_target rights (typing (scope_of f) h x) ≡ true → is_open (sort_of (typing (scope_of f) h x)) ≡ false
     one_closed h p x shape n e =
         let y = typing (scope_of f) h x in
-        target_closed (rights_of f) (scope_of f) (is_blank (sort_of y)) (is_unknown (sort_of y)) (is_variable (rights_of f) y) (sort_of y) refl refl
-        (λ v. variable_closed (rights_of f) (scope_of f) (variables_typed w f g st) h (any p) x shape (expression_operand level.Either p x shape) n v) e
+        target_closed rights (scope_of f) (is_blank (sort_of y)) (is_unknown (sort_of y)) (is_variable rights y) (sort_of y) refl refl
+        (λ v. variable_closed rights (scope_of f) (variables_typed w f g st) h (any p) x shape (expression_operand level.Either p x shape) n v) e
 
-    pub targets_will : (p : Place) (ps : Trees) → AreExpressions p ps → rules.each (not_a_target (rights_of f)) (values_of (scope_of f) target ps) ≡ [] → All (Fits w false) (values_of (scope_of f) target ps)
+    pub targets_will : (p : Place) (ps : Trees) → AreExpressions p ps → rules.each (not_a_target rights) (values_of (scope_of f) target ps) ≡ [] → All (Fits w false) (values_of (scope_of f) target ps)
         → All (Will w (rights_of f)) (values_of (scope_of f) target ps)
     targets_will p none shape e fits = tt
     targets_will p (skip ps) shape e fits = elim shape [ ]
     targets_will p (more q ps) shape e fits =
         let y = typing (scope_of f) target q in
-        let both = both_none (not_a_target (rights_of f) y) (rules.each (not_a_target (rights_of f)) (values_of (scope_of f) target ps)) e in
-        (will (variables.has (one_closed target p q shape.0 refl (passes (is_target (rights_of f) y) [] code.LeftSide y both.0).0) fits.0), targets_will p ps shape.1 both.1 fits.1)
+        let both = both_none (not_a_target rights y) (rules.each (not_a_target rights) (values_of (scope_of f) target ps)) e in
+        (will (variables.has (one_closed target p q shape.0 refl (passes (is_target rights y) [] code.LeftSide y both.0).0) fits.0), targets_will p ps shape.1 both.1 fits.1)
 
-    pub targets_closed : (p : Place) (ps : Trees) → AreExpressions p ps → rules.each (not_a_target (rights_of f)) (values_of (scope_of f) target ps) ≡ [] → AllClosed (values_of (scope_of f) target ps)
+    pub targets_closed : (p : Place) (ps : Trees) → AreExpressions p ps → rules.each (not_a_target rights) (values_of (scope_of f) target ps) ≡ [] → AllClosed (values_of (scope_of f) target ps)
     targets_closed p none shape e = tt
     targets_closed p (skip ps) shape e = elim shape [ ]
     targets_closed p (more q ps) shape e =
         let y = typing (scope_of f) target q in
-        let both = both_none (not_a_target (rights_of f) y) (rules.each (not_a_target (rights_of f)) (values_of (scope_of f) target ps)) e in
-        (one_closed target p q shape.0 refl (passes (is_target (rights_of f) y) [] code.LeftSide y both.0).0, targets_closed p ps shape.1 both.1)
+        let both = both_none (not_a_target rights y) (rules.each (not_a_target rights) (values_of (scope_of f) target ps)) e in
+        (one_closed target p q shape.0 refl (passes (is_target rights y) [] code.LeftSide y both.0).0, targets_closed p ps shape.1 both.1)
 
   -- ---- a left side with variables in it
 
@@ -214,11 +215,11 @@ module _ (w : Standins) where
         let gives = assignment_gives w (rights_of f) i j ts vs two.1 front.1 in
         let found = all_of (all_held_faults f kind.ExpressionList target qs [] qs ++ []) (all_held_faults f kind.ExpressionList several ps [] ps) own.0 in
         let left_found = sym (ap no_rule_fails (append-nil (all_held_faults f kind.ExpressionList target qs [] qs))) ∙ found.0 in
-        let l = list_reads w law f g target p qs left refl st pq left_found (targets_will f g st p qs left two.0 front.0) in
+        let l = list_reads w law f g target p qs left refl st pq left_found (targets_will f g st (rights_of f) p qs left two.0 front.0) in
         let r = list_reads w law f g several p ps shape refl st pp found.1 (all_will w (rights_of f) ts vs gives) in
         let ops = all_operands w (rights_of f) ts vs r.values gives in
         let types = types_new (rights_of f) ns l.values front.0 in
-        let closed = targets_closed f g st p qs left two.0 in
+        let closed = targets_closed f g st (rights_of f) p qs left two.0 in
         let now : assign_failing (rights_of g) i j (all_new w ns) (all_new w vs) ≡ [] =
         ap (λ q. assign_failing q i j (all_new w ns) (all_new w vs)) st.rights
         ∙ none_of_both (rules.each (not_a_target (rights_of f)) (all_new w ns)) (assignment_failing (rights_of f) i j (map target_type (all_new w ns)) (all_new w vs)) (targets_new (rights_of f) ns l.values closed front.0 two.0)

@@ -24,6 +24,7 @@ use Rattle.go_exprs_variables.specs.Variables.{Standins, with_variables, all_wit
 use Rattle.go_exprs_variables.proofs.Public.{all_of, default_suits, new_part, news, passes}
 use Rattle.go_stmts_variables.specs.Frames.{FramesStand}
 use Rattle.go_stmts_variables.specs.Statements.{tree_in, found_in, frame_in, Tagged, AllTagged}
+use Rattle.go_stmts_variables.specs.Steady.{Steady}
 use Rattle.go_stmts_variables.proofs.Endings.{AllCalm, CalmBehind}
 use Rattle.go_stmts_variables.proofs.Conditions.{condition_kept}
 use Rattle.go_stmts_variables.proofs.Expressions.{IsValuePart}
@@ -32,7 +33,7 @@ use Rattle.go_stmts_variables.proofs.Headers.{Header, held_new, header_new, else
 use Rattle.go_stmts_variables.proofs.Nodes.{Reads, Old, old_rules, old_fits, old_tagged, rule_of, own_none, node_reads, NamesKnown, judged}
 use Rattle.go_stmts_variables.proofs.Puts.{Puts, IsStatementForm, node_put, value_put}
 use Rattle.go_stmts_variables.proofs.Roles.{IsPlainRow, Role, a_statement, a_value, Ranged, RangedAll, row_parts, row_found, row_behind, any_row, PartsRead, parts_read, Roles, Awaits, Values, holder_is, holder_reads}
-use Rattle.go_stmts_variables.proofs.Rows.{news_two, stated_kind, IsStated, reading_stated, statement_put, Stated}
+use Rattle.go_stmts_variables.proofs.Rows.{news_two, stated_kind, IsStated, reading_stated, statement_put, RowSteady, row_steady, Stated}
 use Rattle.go_stmts_variables.proofs.Wills.{will_as, operand_as}
 
 abbrev pub RangedIf : Option Part → Type 0
@@ -230,30 +231,30 @@ module _ (w : Standins) where
     pub part : Option Part
     pub rows : row_parts f es ≡ part ∷ []
     pub stated : AllStatedIf (held part)
-    pub reads : AllFit w false (row (held part)) → AllTagged (row (held part)) → PartsRead w f es
-    pub calm : AllFit w false (row (held part)) → AllTagged (row (held part)) → (g : Frame) → FramesStand w f g → no_rule_fails (row_found f es) ≡ true → AllCalm w (row (held part))
+    pub reads : AllFit w false (row (held part)) → AllTagged (row (held part)) → RowSteady f es → PartsRead w f es
+    pub calm : AllFit w false (row (held part)) → AllTagged (row (held part)) → RowSteady f es → (g : Frame) → FramesStand w f g → no_rule_fails (row_found f es) ≡ true → AllCalm w (row (held part))
 
   module _ (law : ExpressionsTyped) where
     else_held : (f : Frame) (i j : ℕ) (b : Tree) → held (Some (tree_in (reading f value (node kind.Else i j (more b none))))) ≡ Some (tree_in (reading f value b)) ∷ []
     else_held f i j b = ap (λ x. held (Some x)) (holder_is w f f value kind.Else i j (more b none) (else_holder w))
 
     else_row : (f : Frame) (es : Trees) → Elses es → ElseRow f es
-    else_row f es no_else = record { part = None; rows = refl; stated = tt; reads = λ fits tags. tt; calm = λ fits tags g st good. tt }
+    else_row f es no_else = record { part = None; rows = refl; stated = tt; reads = λ fits tags steady. tt; calm = λ fits tags steady g st good. tt }
     else_row f es (an_else i j b s) =
         let same = else_held f i j b in
         record {
           part = Some (tree_in (reading f value (node kind.Else i j (more b none))));
           rows = refl;
           stated = subst AllStatedIf (sym same) (reading_stated f value b s.kind, tt);
-          reads = λ fits tags. (
+          reads = λ fits tags steady. (
             (λ g st good. (holder_reads w f g value kind.Else i j (more b none) (else_holder w) law (a_statement ∷ []) (s, tt) st good
-                (((subst (λ ys. AllFit w false (row ys)) same fits).0, (subst (λ ys. AllTagged (row ys)) same tags).0), tt)).reads),
+                (((subst (λ ys. AllFit w false (row ys)) same fits).0, (subst (λ ys. AllTagged (row ys)) same tags).0), tt) steady.0).reads),
             tt,
           );
-          calm = λ fits tags g st good.
+          calm = λ fits tags steady g st good.
               let one = all_of (found_in (reading f value (node kind.Else i j (more b none)))) [] good in
               let r = holder_reads w f g value kind.Else i j (more b none) (else_holder w) law (a_statement ∷ []) (s, tt) st one.0
-              (((subst (λ ys. AllFit w false (row ys)) same fits).0, (subst (λ ys. AllTagged (row ys)) same tags).0), tt) in
+              (((subst (λ ys. AllFit w false (row ys)) same fits).0, (subst (λ ys. AllTagged (row ys)) same tags).0), tt) steady.0 in
               subst (λ ys. AllCalm w (row ys)) (sym same) (r.row.calm.0 (stated_kind (kind_of b) s.kind), tt);
         }
 
@@ -298,9 +299,9 @@ module _ (w : Standins) where
           ∙ sym (news_two w hs ts)
 
       pub if_reads : no_rule_fails (found_in (reading f h (node kind.If i j (more hd (more b es))))) ≡ true → Fits w false (tree_in (reading f h (node kind.If i j (more hd (more b es)))))
-          → Tagged (tree_in (reading f h (node kind.If i j (more hd (more b es))))) → Reads w f g h (node kind.If i j (more hd (more b es)))
+          → Tagged (tree_in (reading f h (node kind.If i j (more hd (more b es))))) → Steady f h (node kind.If i j (more hd (more b es))) → Reads w f g h (node kind.If i j (more hd (more b es)))
       unfolding if_old
-      if_reads good fits tags =
+      if_reads good fits tags steady =
           let er = else_row last es el in
           let own = old_rules w f h kind.If i j (more hd (more b es)) refl if_old good in
           let all = old_fits w f h kind.If i j (more hd (more b es)) refl if_old own.1 fits in
@@ -312,10 +313,11 @@ module _ (w : Standins) where
           let behind = condition_behind hs ts hf.stated all in
           let later = condition_tagged hs ts hf.stated tagged in
           let found = all_of (found_in (reading f value hd)) (row_found middle (more b es)) own.0 in
-          let hr = hf.read g st found.0 awaits in
-          let r = parts_read w f g (more hd (more b es)) ((λ g st good. (hf.read g st good awaits).reads), ((λ g st good. sb.reads middle g value st good behind.0 later.0), er.reads behind.1 later.1)) st own.0 in
+          let parts = row_steady kind.If h (more hd (more b es)) (λ xs s. refl) (λ xs n. refl) f [] (more hd (more b es)) steady.1 in
+          let hr = hf.read g st found.0 awaits parts.0 in
+          let r = parts_read w f g (more hd (more b es)) ((λ g st good. (hf.read g st good awaits parts.0).reads), ((λ g st good. sb.reads middle g value st good behind.0 later.0 parts.1.0), er.reads behind.1 later.1 parts.1.1)) st own.0 in
           let body = all_of (found_in (reading middle value b)) (row_found last es) found.1 in
-          let one = sb.reads middle (frame_in (reading g value (with_variables w hd))) value hr.reads.frame body.0 behind.0 later.0 in
+          let one = sb.reads middle (frame_in (reading g value (with_variables w hd))) value hr.reads.frame body.0 behind.0 later.0 parts.1.0 in
           let T = row_behind g new in
           node_reads w f g h kind.If i j (more hd (more b es)) if_old refl refl own.1
           (record {
@@ -330,5 +332,5 @@ module _ (w : Standins) where
                 ∙ condition_holds (rights_of S) hs ts hf.stated hr.values ranged rule all);
             node = node_put w form.If i j condition_takes (hs ++ ts) if_form (condition_put hs ts hf.stated hr.values (reading_stated middle value b sb.kind, er.stated) all);
             frame = back_stands w f g S T st r.frame;
-            calm = condition_calm hs ts hf.stated (one.calm (stated_kind (kind_of b) sb.kind), er.calm behind.1 later.1 (frame_in (reading (frame_in (reading g value (with_variables w hd))) value (with_variables w b))) one.frame body.1);
+            calm = condition_calm hs ts hf.stated (one.calm (stated_kind (kind_of b) sb.kind), er.calm behind.1 later.1 parts.1.1 (frame_in (reading (frame_in (reading g value (with_variables w hd))) value (with_variables w b))) one.frame body.1);
           })

@@ -1,17 +1,16 @@
 -- Clauses of switches with variables in them.
-use Rattle.std.proofs.Common.{◌≡◌, ◌∙◌, ◌⊎◌, inl, inr, ℕ, Bool, true, false, List, [], ◌∷◌, ◌++◌, length, Some, None, refl, sym, ap, subst}
+use Rattle.std.proofs.Common.{◌≡◌, ◌∙◌, ℕ, true, false, List, [], ◌∷◌, ◌++◌, length, Some, None, refl, sym, ap, subst}
 use Rattle.std.specs.Prelude.{if◌then◌else◌, replicate}
 use Rattle.go_grammar.specs.declared.kind.Kind.TheVariants as kind
 use Rattle.go_grammar.specs.declared.kind.Level.TheVariants as level
 use Rattle.go_grammar.specs.declared.kind.Place.{Place}
 use Rattle.go_grammar.specs.Grammar.{any}
 use Rattle.go_grammar.specs.Trees.{Tree, Trees, node, none, more, skip, kind_of}
-use Rattle.go_types.specs.Trees.{TypeTree, boolean}
+use Rattle.go_types.specs.Trees.{TypeTree}
 use Rattle.go_types.specs.Relations.{Rights}
 use Rattle.go_typed.specs.declared.form.Form.TheVariants as form
 use Rattle.go_typed.specs.Trees.{form_of, parts_of, list_of, row}
 use Rattle.go_typed.specs.Trees as sort
-use Rattle.go_exprs_rules.specs.declared.family.OpenKind.TheVariants as untyped_kind
 use Rattle.go_exprs_rules.specs.Scopes.{Scope, Hint, value}
 use Rattle.go_exprs_rules.specs.Settling.{Part, Take, as_type, given}
 use Rattle.go_exprs_rules.specs.Sorts.{Stands, own_type}
@@ -25,23 +24,23 @@ use Rattle.go_exprs_variables.specs.Stood.{Stood}
 use Rattle.go_exprs_variables.specs.Variables.{Standins, with_variables, all_with_variables, AllProper, begun, Fits, AllFit, no_rule_fails, ExpressionsTyped}
 use Rattle.go_exprs_variables.proofs.Public.{All, all_new, all_of, both_none, each, expression_operand, length_new, news, news_each, none_of_both, of_all}
 use Rattle.go_stmts_variables.specs.Frames.{FramesStand}
-use Rattle.go_stmts_variables.specs.Statements.{tree_in, found_in, frame_in, Tagged, AllTagged, are_typeless}
-use Rattle.go_stmts_variables.proofs.Basics.{same_unrepresented}
+use Rattle.go_stmts_variables.specs.Statements.{tree_in, found_in, frame_in, Tagged, AllTagged}
+use Rattle.go_stmts_variables.specs.Steady.{Keeps, ClausesKeep, Steady}
 use Rattle.go_stmts_variables.proofs.Calls.{calm_typed}
 use Rattle.go_stmts_variables.proofs.Cases.{type_kept, case_suits, case_kept}
 use Rattle.go_stmts_variables.proofs.Defines.{taken_form}
 use Rattle.go_stmts_variables.proofs.Endings.{is_calm, calm_form, AllCalm}
 use Rattle.go_stmts_variables.proofs.Expressions.{Will, IsValuePart}
 use Rattle.go_stmts_variables.proofs.Frames.{back_stands}
-use Rattle.go_stmts_variables.proofs.Left.{reading_tag, behind_tag, behind_rights}
+use Rattle.go_stmts_variables.proofs.Left.{reading_tag, behind_tag}
 use Rattle.go_stmts_variables.proofs.Lists.{AreExpressions, expression_operands, values_of, list_parts, list_values, list_reads}
-use Rattle.go_stmts_variables.proofs.Nodes.{Reads, Old, old_rules, old_fits, old_tagged, rule_of, own_none, node_reads, judged}
+use Rattle.go_stmts_variables.proofs.Nodes.{Reads, Old, old_closed, old_rules, old_fits, old_tagged, rule_of, own_none, node_reads, judged}
 use Rattle.go_stmts_variables.proofs.Puts.{Puts, AllTake, IsStatementForm, value_put, node_put}
 use Rattle.go_stmts_variables.proofs.Returns.{takes_known}
 use Rattle.go_stmts_variables.proofs.Rows.{news_two, is_stated, reading_stated, AllStated, AreStated, are_stated, new_stated}
-use Rattle.go_stmts_variables.proofs.Rows.{statements_of, statement_faults, frame_behind, row_reads, statements_read, statements_put, stated_kind, default_reads}
+use Rattle.go_stmts_variables.proofs.Rows.{statements_of, statement_faults, frame_behind, RowSteady, row_steady, row_reads, statements_read, statements_put, stated_kind, default_reads}
 use Rattle.go_stmts_variables.proofs.Splits.{length_each, split_two}
-use Rattle.go_stmts_variables.proofs.Wills.{Suits, will_as, operand_as}
+use Rattle.go_stmts_variables.proofs.Wills.{Suits, kept_suits, will_as, operand_as}
 
 module _ (w : Standins) where
   -- ---- rows of values and statements
@@ -99,29 +98,26 @@ module _ (w : Standins) where
       none_of_both (case_failing rights b (begun w false x)) (rules.each (case_failing rights b) (all_new w xs))
       (case_kept rights a b t x (begun w false x) st e (operand_as w rights t x v.0 s.0 fits.0) both.0) (cases_kept rights a b t xs st e v.1 s.1 fits.1 both.1)
 
-  truth_suits : (r q : Rights) (x : Part) → Suits w r boolean x → Suits w q boolean x
-  truth_suits r q x f k e = let both = f k e in (both.0, same_unrepresented untyped_kind.Boolean q r x ∙ both.1)
+  all_suit : (r q : Rights) (t : TypeTree) → Keeps r q (Some t) → (xs : List Part) → All (Suits w q t) xs → All (Suits w r t) xs
+  all_suit r q t e [] s = tt
+  all_suit r q t e (x ∷ xs) s = (kept_suits w r q t x e s.0, all_suit r q t e xs s.1)
 
-  truths_suit : (r q : Rights) (t : TypeTree) → t ≡ boolean → (xs : List Part) → All (Suits w r t) xs → All (Suits w q t) xs
-  truths_suit r q t e [] s = tt
-  truths_suit r q t e (x ∷ xs) s = (subst (λ u. Suits w q u x) (sym e) (truth_suits r q x (subst (λ u. Suits w r u x) e s.0)), truths_suit r q t e xs s.1)
+  -- ---- a clause is read in a switch whose tag has a type, which it keeps
 
-  -- ---- a clause is read in a switch whose tag has a type; b says that types may be declared in it
-
-  pub record Clause (b : Bool) (p : Tree) : Type 0 where
+  pub record Clause (p : Tree) : Type 0 where
     pub kind : is_stated (kind_of p) ≡ true
-    pub reads : (f g : Frame) (h : Hint) (t : TypeTree) → own_type f.tag ≡ Some t → (b ≡ true → t ≡ boolean) → FramesStand w f g → no_rule_fails (found_in (reading f h p)) ≡ true → Fits w false (tree_in (reading f h p))
-        → Tagged (tree_in (reading f h p)) → Reads w f g h p
+    pub reads : (f g : Frame) (h : Hint) (t : TypeTree) → own_type f.tag ≡ Some t → Keeps (rights_of f) (rights_of (frame_in (reading f h p))) (Some t) → FramesStand w f g → no_rule_fails (found_in (reading f h p)) ≡ true
+        → Fits w false (tree_in (reading f h p)) → Tagged (tree_in (reading f h p)) → Steady f h p → Reads w f g h p
 
-  abbrev pub AllClauses : Bool → Trees → Type 0
-  AllClauses b none = Unit {0}
-  AllClauses b (more p ps) = Clause b p × AllClauses b ps
-  AllClauses b (skip ps) = ⊥
+  abbrev pub AllClauses : Trees → Type 0
+  AllClauses none = Unit {0}
+  AllClauses (more p ps) = Clause p × AllClauses ps
+  AllClauses (skip ps) = ⊥
 
-  pub are_clauses : (b : Bool) (ps : Trees) → AllClauses b ps → AreStated ps
-  are_clauses b none s = tt
-  are_clauses b (more p ps) s = (s.0.kind, are_clauses b ps s.1)
-  are_clauses b (skip ps) s = elim s [ ]
+  pub are_clauses : (ps : Trees) → AllClauses ps → AreStated ps
+  are_clauses none s = tt
+  are_clauses (more p ps) s = (s.0.kind, are_clauses ps s.1)
+  are_clauses (skip ps) s = elim s [ ]
 
   pub record ClausesRead (f g : Frame) (ps : Trees) : Type 0 where
     pub trees : statements_of g (all_with_variables w ps) ≡ all_new w (statements_of f ps)
@@ -129,16 +125,16 @@ module _ (w : Standins) where
     pub frame : FramesStand w (frame_behind f ps) (frame_behind g (all_with_variables w ps))
     pub calm : AllCalm w (row (each (statements_of f ps)))
 
-  pub clauses_read : (b : Bool) (f g : Frame) (ps : Trees) (t : TypeTree) → own_type f.tag ≡ Some t → (b ≡ true → t ≡ boolean) → AllClauses b ps → FramesStand w f g
+  pub clauses_read : (f g : Frame) (ps : Trees) (t : TypeTree) → own_type f.tag ≡ Some t → ClausesKeep (Some t) f ps → AllClauses ps → FramesStand w f g
       → no_rule_fails (statement_faults f ps) ≡ true → AllFit w false (row (each (statements_of f ps)))
-      → AllTagged (row (each (statements_of f ps))) → ClausesRead f g ps
-  clauses_read b f g none t e m s st good fits tags = record { trees = refl; good = refl; frame = st; calm = tt }
-  clauses_read b f g (skip ps) t e m s st good fits tags = elim s [ ]
-  clauses_read b f g (more p ps) t e m s st good fits tags =
+      → AllTagged (row (each (statements_of f ps))) → RowSteady f ps → ClausesRead f g ps
+  clauses_read f g none t e m s st good fits tags steady = record { trees = refl; good = refl; frame = st; calm = tt }
+  clauses_read f g (skip ps) t e m s st good fits tags steady = elim s [ ]
+  clauses_read f g (more p ps) t e m s st good fits tags steady =
       let both = all_of (found_in (reading f value p)) (statement_faults (frame_in (reading f value p)) ps) good in
-      let one = s.0.reads f g value t e m st both.0 fits.0 tags.0 in
+      let one = s.0.reads f g value t e m.0 st both.0 fits.0 tags.0 steady.0 in
       let q = with_variables w p in
-      let rest = clauses_read b (frame_in (reading f value p)) (frame_in (reading g value q)) ps t (ap own_type (reading_tag f value p) ∙ e) m s.1 one.frame both.1 fits.1 tags.1 in
+      let rest = clauses_read (frame_in (reading f value p)) (frame_in (reading g value q)) ps t (ap own_type (reading_tag f value p) ∙ e) m.1 s.1 one.frame both.1 fits.1 tags.1 steady.1 in
       record {
         trees = ap (λ x. x ∷ statements_of (frame_in (reading g value q)) (all_with_variables w ps)) one.tree ∙ ap (λ xs. begun w false (tree_in (reading f value p)) ∷ xs) rest.trees;
         good = of_all (found_in (reading g value q)) (statement_faults (frame_in (reading g value q)) (all_with_variables w ps)) one.failing rest.good;
@@ -151,8 +147,7 @@ module _ (w : Standins) where
   case_form : (n : ℕ) → IsStatementForm w (form.Case n)
   case_form n = record { held = refl; key = refl; call = refl; name = λ z. refl }
 
-  module _ (f g : Frame) (h : Hint) (i j a b : ℕ) (p : Place) (vs ss : Trees) (shape : AreExpressions p vs) (s : AllStated w ss) (st : FramesStand w f g) (t : TypeTree) (tag : own_type f.tag ≡ Some t)
-      (steady : (are_typeless ss ≡ true) ⊎ (t ≡ boolean)) where
+  module _ (f g : Frame) (h : Hint) (i j a b : ℕ) (p : Place) (vs ss : Trees) (shape : AreExpressions p vs) (s : AllStated w ss) (st : FramesStand w f g) (t : TypeTree) (tag : own_type f.tag ≡ Some t) where
     abbrev vals : List Part
     vals = list_values w f value vs
 
@@ -186,16 +181,15 @@ module _ (w : Standins) where
     split_new : {A : Type 0} (F : List Part → List Part → A) → rules.split_at (length vals) F (news w (each vals ++ each xs)) ≡ F (all_new w vals) (all_new w xs)
     split_new F = ap (rules.split_at (length vals) F) new_row ∙ ap (λ n. rules.split_at n F (each (all_new w vals) ++ each (all_new w xs))) (sym same_length) ∙ split_two F (all_new w vals) (all_new w xs)
 
-    -- Where types are declared the tag is a truth value, of which right sides say nothing.
-    steady_wills : (are_typeless ss ≡ true) ⊎ (t ≡ boolean) → All (Suits w (rights_of (frame_behind f ss)) t) vals → All (λ x. Fits w false (given (as_type t) x)) vals → All (Will w (rights_of f)) vals
-    steady_wills (inl e) suit fits = subst (λ q. All (Will w q) vals) (behind_rights f ss e) (cases_will (rights_of (frame_behind f ss)) t vals suit fits)
-    steady_wills (inr e) suit fits = cases_will (rights_of f) t vals (truths_suit (rights_of (frame_behind f ss)) (rights_of f) t e vals suit) fits
-
-    pub case_reads : ExpressionsTyped → AllProper w vs → no_rule_fails (found_in (reading f h (node kind.Case i j (more (node kind.ExpressionList a b vs) ss)))) ≡ true
-        → Fits w false (tree_in (reading f h (node kind.Case i j (more (node kind.ExpressionList a b vs) ss)))) → Tagged (tree_in (reading f h (node kind.Case i j (more (node kind.ExpressionList a b vs) ss))))
-        → Reads w f g h (node kind.Case i j (more (node kind.ExpressionList a b vs) ss))
+    case_rights : rights_of (frame_in (reading f h (node kind.Case i j (more (node kind.ExpressionList a b vs) ss)))) ≡ rights_of (frame_behind f ss)
     unfolding case_old
-    case_reads law proper good fits tags =
+    case_rights = ap (λ r. rights_of (frame_in r)) (old_closed w f h kind.Case i j (more (node kind.ExpressionList a b vs) ss) refl case_old)
+
+    pub case_reads : Keeps (rights_of f) (rights_of (frame_in (reading f h (node kind.Case i j (more (node kind.ExpressionList a b vs) ss))))) (Some t) → ExpressionsTyped → AllProper w vs → no_rule_fails (found_in (reading f h (node kind.Case i j (more (node kind.ExpressionList a b vs) ss)))) ≡ true
+        → Fits w false (tree_in (reading f h (node kind.Case i j (more (node kind.ExpressionList a b vs) ss)))) → Tagged (tree_in (reading f h (node kind.Case i j (more (node kind.ExpressionList a b vs) ss))))
+        → Steady f h (node kind.Case i j (more (node kind.ExpressionList a b vs) ss)) → Reads w f g h (node kind.Case i j (more (node kind.ExpressionList a b vs) ss))
+    unfolding case_old
+    case_reads keeps law proper good fits tags steady =
         let ps : Trees = more (node kind.ExpressionList a b vs) ss in
         let ys : Parts = each vals ++ each xs in
         let n = length vals in
@@ -212,10 +206,10 @@ module _ (w : Standins) where
         let fails : rules.each (case_failing R S.tag) vals ≡ [] =
         sym (split_two (λ us vs. rules.each (case_failing R S.tag) us) vals xs) ∙ rule_of w f h kind.Case i j ps refl S (form.Case n) ys known own.1 in
         let suit = cases_suit R S.tag t vals typed fails in
-        let wills = steady_wills steady suit parts.0 in
+        let wills = cases_will (rights_of f) t vals (all_suit (rights_of f) R t (subst (λ q. Keeps (rights_of f) q (Some t)) case_rights keeps) vals suit) parts.0 in
         let found = all_of (values_found f vs) (statement_faults f ss) own.0 in
         let r = list_reads w law f g value p vs shape refl st proper found.0 wills in
-        let rows = statements_read w f g ss s st found.1 parts.1 tagged in
+        let rows = statements_read w f g ss s st found.1 parts.1 tagged (row_steady kind.Case h (more (node kind.ExpressionList a b vs) ss) (λ xs s. refl) (λ xs n. refl) f [] (more (node kind.ExpressionList a b vs) ss) steady.1).1 in
         let new_vs = all_with_variables w vs in
         let new_ss = all_with_variables w ss in
         let T = frame_behind g new_ss in
@@ -242,5 +236,5 @@ module _ (w : Standins) where
           calm = subst (λ z. AllCalm w (row (all_given z ys))) (sym taking_is) (clause_calm (as_type t) vals (each xs) (calm_values (scope_of f) value p vs shape) rows.calm);
         })
 
-  pub default_clause : (b : Bool) (i j : ℕ) (ss : Trees) → AllStated w ss → Clause b (node kind.Default i j ss)
-  default_clause b i j ss s = record { kind = refl; reads = λ f g h t e m st good fits tags. default_reads w f g h i j ss s st good fits tags }
+  pub default_clause : (i j : ℕ) (ss : Trees) → AllStated w ss → Clause (node kind.Default i j ss)
+  default_clause i j ss s = record { kind = refl; reads = λ f g h t e m st good fits tags steady. default_reads w f g h i j ss s st good fits tags steady }

@@ -68,7 +68,7 @@ module _ (w : Standins) (law : ExpressionsTyped) where
       → Stated w (node (kind.Specification declaring.Variable) i j (more nl (more r none)))
   specified_tree i j (node kind.NameList a b ds) r e dn s proper free dec = record {
     kind = refl;
-    reads = λ f g h st good fits tags. specified_reads w f g h i j a b ds r (list_declared place.Free ds e.1 dn.1) (rest_tree f g st r s proper free dec) st law good fits;
+    reads = λ f g h st good fits tags steady. specified_reads w f g h i j a b ds r (list_declared place.Free ds e.1 dn.1) (rest_tree f g st r s proper free dec) st law good fits;
   }
   specified_tree i j (node k a b ds) r e dn s proper free dec = impossible e.0
 
@@ -97,8 +97,8 @@ module _ (w : Standins) (law : ExpressionsTyped) where
   variables_stated i j (more p (skip ps)) e proper dec = elim e.1 [ ]
   variables_stated i j (more (node (kind.Specification declaring.Variable) a b qs) none) e proper dec =
       let s = specification_stated a b qs e.0.1 proper.0.2 dec.0 in
-      record { kind = refl; reads = λ f g h st good fits tags. one_declared w f g h i j (node (kind.Specification declaring.Variable) a b qs) s st good fits tags }
+      record { kind = refl; reads = λ f g h st good fits tags steady. one_declared w f g h i j (node (kind.Specification declaring.Variable) a b qs) s st good fits tags steady }
   variables_stated i j (more (node (kind.Group declaring.Variable) a b qs) none) e proper dec =
       let s = group_stated (token.LeftParenthesis ∷ []) qs e.0.1 proper.0.2 dec.0.1 in
-      record { kind = refl; reads = λ f g h st good fits tags. group_declared w f g h i j a b qs s st law good fits tags }
+      record { kind = refl; reads = λ f g h st good fits tags steady. group_declared w f g h i j a b qs s st law good fits tags steady }
   variables_stated i j (more (node k a b qs) none) e proper dec = impossible e.0.0

@@ -19,6 +19,7 @@ use Rattle.go_exprs_variables.specs.Variables.{Standins, with_variables, all_wit
 use Rattle.go_exprs_variables.proofs.Public.{all_of, news}
 use Rattle.go_stmts_variables.specs.Frames.{FramesStand}
 use Rattle.go_stmts_variables.specs.Statements.{tree_in, found_in, frame_in, Tagged, AllTagged}
+use Rattle.go_stmts_variables.specs.Steady.{Steady}
 use Rattle.go_stmts_variables.proofs.Frames.{back_stands}
 use Rattle.go_stmts_variables.proofs.Headers.{list_begun}
 use Rattle.go_stmts_variables.proofs.Lists.{list_row}
@@ -67,16 +68,17 @@ module _ (w : Standins) where
     }
 
     pub one_declared : no_rule_fails (found_in (reading f h (node (kind.Declaration declaring.Variable) i j (more p none)))) ≡ true → Fits w false (tree_in (reading f h (node (kind.Declaration declaring.Variable) i j (more p none))))
-        → Tagged (tree_in (reading f h (node (kind.Declaration declaring.Variable) i j (more p none)))) → Reads w f g h (node (kind.Declaration declaring.Variable) i j (more p none))
+        → Tagged (tree_in (reading f h (node (kind.Declaration declaring.Variable) i j (more p none)))) → Steady f h (node (kind.Declaration declaring.Variable) i j (more p none))
+        → Reads w f g h (node (kind.Declaration declaring.Variable) i j (more p none))
     unfolding one_old
-    one_declared good fits tags =
+    one_declared good fits tags steady =
         let k = kind.Declaration declaring.Variable in
         let own = old_rules w f h k i j (more p none) refl one_old good in
         let all = old_fits w f h k i j (more p none) refl one_old own.1 fits in
         let tagged = (old_tagged w f h k i j (more p none) refl one_old own.1 tags).1 in
         let found = all_of (found_in (reading f value p)) [] own.0 in
-        let one = s.reads f g value st found.0 all.0 tagged.0 in
-        let r = parts_read w f g (more p none) ((λ g st good. s.reads f g value st good all.0 tagged.0), tt) st own.0 in
+        let one = s.reads f g value st found.0 all.0 tagged.0 steady.1.0 in
+        let r = parts_read w f g (more p none) ((λ g st good. s.reads f g value st good all.0 tagged.0 steady.1.0), tt) st own.0 in
         let new = all_with_variables w (more p none) in
         let T = row_behind g new in
         let plain : is_group (form_of (begun w false x)) ≡ false =
@@ -158,16 +160,17 @@ module _ (w : Standins) where
     pub group_declared : ExpressionsTyped → no_rule_fails (found_in (reading f h (node (kind.Declaration declaring.Variable) i j (more (node (kind.Group declaring.Variable) a b qs) none)))) ≡ true
         → Fits w false (tree_in (reading f h (node (kind.Declaration declaring.Variable) i j (more (node (kind.Group declaring.Variable) a b qs) none))))
         → Tagged (tree_in (reading f h (node (kind.Declaration declaring.Variable) i j (more (node (kind.Group declaring.Variable) a b qs) none))))
+        → Steady f h (node (kind.Declaration declaring.Variable) i j (more (node (kind.Group declaring.Variable) a b qs) none))
         → Reads w f g h (node (kind.Declaration declaring.Variable) i j (more (node (kind.Group declaring.Variable) a b qs) none))
     unfolding group_old
-    group_declared law good fits tags =
+    group_declared law good fits tags steady =
         let k = kind.Declaration declaring.Variable in
         let ps : Trees = more p none in
         let own = old_rules w f h k i j ps refl group_old good in
         let all = old_fits w f h k i j ps refl group_old own.1 fits in
         let tagged = (old_tagged w f h k i j ps refl group_old own.1 tags).1 in
         let awaits = group_awaits f qs s all tagged in
-        let r = parts_read w f g ps ((λ g st good. (holder_reads w f g value (kind.Group declaring.Variable) a b qs variable_group law (roles_of qs) (are_roles qs s) st good awaits).reads), tt) st own.0 in
+        let r = parts_read w f g ps ((λ g st good. (holder_reads w f g value (kind.Group declaring.Variable) a b qs variable_group law (roles_of qs) (are_roles qs s) st good awaits steady.1.0).reads), tt) st own.0 in
         let new = all_with_variables w ps in
         let T = row_behind g new in
         node_reads w f g h k i j ps group_old refl refl own.1

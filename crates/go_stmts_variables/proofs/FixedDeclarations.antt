@@ -172,5 +172,5 @@ module _ (w : Standins) where
       pub declaration_stated : Stated w (node (kind.Declaration d) i j (more p none))
       declaration_stated = record {
         kind = refl;
-        reads = λ f g h st good fits tags. unchanged_reads w f g h (node (kind.Declaration d) i j (more p none)) (declaration_unchanged f g h st) good (λ e. declaration_calm f h);
+        reads = λ f g h st good fits tags steady. unchanged_reads w f g h (node (kind.Declaration d) i j (more p none)) (declaration_unchanged f g h st) good (λ e. declaration_calm f h);
       }

@@ -28,6 +28,7 @@ use Rattle.clone_window.specs.Masses.{is_hole, is_inside}
 use Rattle.go_exprs_variables.proofs.Public.{begun_by, expression_operand, is_operand, new_part, news, split_operand, unheld}
 use Rattle.go_stmts_variables.specs.Frames.{FramesStand}
 use Rattle.go_stmts_variables.specs.Statements.{tree_in, found_in}
+use Rattle.go_stmts_variables.specs.Steady.{Steady}
 use Rattle.go_stmts_variables.proofs.Expressions.{operand_reading}
 use Rattle.go_stmts_variables.proofs.Lists.{list_row}
 use Rattle.go_stmts_variables.proofs.Nodes.{Reads}
@@ -201,7 +202,8 @@ module _ (w : Standins) where
   pub record Header (flat : Option Part → Parts) (rs : List Role) (f : Frame) (x : Tree) : Type 0 where
     pub stated : Roles w rs (flat (Some (tree_in (reading f value x))))
     pub ranged : RangedAll rs (flat (Some (tree_in (reading f value x))))
-    pub read : (g : Frame) → FramesStand w f g → no_rule_fails (found_in (reading f value x)) ≡ true → Awaits w rs (flat (Some (tree_in (reading f value x)))) → HeaderRead flat rs f g x
+    pub read : (g : Frame) → FramesStand w f g → no_rule_fails (found_in (reading f value x)) ≡ true → Awaits w rs (flat (Some (tree_in (reading f value x)))) → Steady f value x
+        → HeaderRead flat rs f g x
 
   operand_unheld : (s : Scope) (h : Hint) (x : Tree) → is_operand (kind_of x) ≡ true → is_held (form_of (typing s h x)) ≡ false
   operand_unheld s h (node k i j ps) e = by (split_operand w k e)
@@ -231,7 +233,7 @@ module _ (w : Standins) where
         record {
           stated = subst (Roles w (a_statement ∷ a_value ∷ [])) (sym flat) tt;
           ranged = subst (RangedAll (a_statement ∷ a_value ∷ [])) (sym flat) (reading_ranged w f p x shape, tt);
-          read = λ g st good a.
+          read = λ g st good a steady.
               let r = value_reads w law f g value p x shape refl st proper good ((subst (Awaits w (a_statement ∷ a_value ∷ [])) flat a).0 f.around.rights) in
               record { reads = r.reads; values = subst (Values w (a_statement ∷ a_value ∷ [])) (sym flat) (r.value, tt) };
         }
@@ -242,7 +244,7 @@ module _ (w : Standins) where
         record {
           stated = subst (Roles w (a_statement ∷ a_value ∷ a_statement ∷ [])) (sym flat) tt;
           ranged = subst (RangedAll (a_statement ∷ a_value ∷ a_statement ∷ [])) (sym flat) (reading_ranged w f p x shape, tt);
-          read = λ g st good a.
+          read = λ g st good a steady.
               let r = value_reads w law f g value p x shape refl st proper good ((subst (Awaits w (a_statement ∷ a_value ∷ a_statement ∷ [])) flat a).0 f.around.rights) in
               record { reads = r.reads; values = subst (Values w (a_statement ∷ a_value ∷ a_statement ∷ [])) (sym flat) (r.value, tt) };
         }
@@ -255,8 +257,8 @@ module _ (w : Standins) where
         record {
           stated = subst (Roles w rs) (sym same) (row_roles w rs f ps e);
           ranged = subst (RangedAll rs) (sym same) (row_ranged w rs f ps e);
-          read = λ g st good a.
-              let r = holder_reads w f g value k i j ps is law rs e st good (subst (Awaits w rs) same a) in
+          read = λ g st good a steady.
+              let r = holder_reads w f g value k i j ps is law rs e st good (subst (Awaits w rs) same a) steady in
               record { reads = r.reads; values = subst (Values w rs) (sym same) r.values };
         }
 
@@ -267,7 +269,7 @@ module _ (w : Standins) where
         record {
           stated = subst (Roles w (a_statement ∷ rs)) (sym same) (row_roles w rs f ps e);
           ranged = subst (RangedAll (a_statement ∷ rs)) (sym same) (row_ranged w rs f ps e);
-          read = λ g st good a.
-              let r = holder_reads w f g value k i j ps is law rs e st good (subst (Awaits w (a_statement ∷ rs)) same a) in
+          read = λ g st good a steady.
+              let r = holder_reads w f g value k i j ps is law rs e st good (subst (Awaits w (a_statement ∷ rs)) same a) steady in
               record { reads = r.reads; values = subst (Values w (a_statement ∷ rs)) (sym same) r.values };
         }

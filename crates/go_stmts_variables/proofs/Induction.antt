@@ -1,6 +1,5 @@
 -- The induction over statements.
-use Rattle.std.proofs.Common.{◌≡◌, ◌∙◌, ◌⊎◌, inl, inr, ℕ, Bool, true, false, List, [], ◌∷◌, Some, refl, sym, ap, IsTrue}
-use Rattle.std.specs.Prelude.{◌&&◌, not}
+use Rattle.std.proofs.Common.{◌≡◌, ◌∙◌, ℕ, Bool, true, false, List, [], ◌∷◌, Some, refl, sym, ap, IsTrue}
 use Rattle.go_grammar.specs.declared.kind.Arithmetic.{Arithmetic}
 use Rattle.go_grammar.specs.declared.kind.Category.{Category}
 use Rattle.go_grammar.specs.declared.kind.Category.TheVariants as category
@@ -18,14 +17,13 @@ use Rattle.go_tokens.specs.declared.token.TokenKind.{TokenKind}
 use Rattle.go_tokens.specs.declared.token.TokenKind.TheVariants as token
 use Rattle.go_exprs_variables.specs.Shapes.{IsShaped, AreShaped}
 use Rattle.go_exprs_variables.specs.Variables.{Standins, AllFree, Proper, AllProper, ExpressionsTyped}
-use Rattle.go_types.specs.Trees.{TypeTree, boolean}
 use Rattle.go_typed.specs.declared.form.Form.TheVariants as form
 use Rattle.go_exprs_rules.specs.Scopes.{value}
 use Rattle.go_stmts_defs.specs.Frames.{Frame}
 use Rattle.go_stmts_defs.specs.Laying.{header_parts, loop_header, loop_form}
 use Rattle.go_stmts_defs.specs.Reading.{reading}
-use Rattle.go_stmts_variables.specs.Statements.{tree_in, Declares, AllDeclare, is_typeless, are_typeless, goes_over, TypelessIf}
-use Rattle.go_stmts_variables.proofs.SimpleTrees.{first_true, impossible, uncovered, names_shape, define_stated, assign_stated}
+use Rattle.go_stmts_variables.specs.Statements.{tree_in, Declares, AllDeclare}
+use Rattle.go_stmts_variables.proofs.SimpleTrees.{impossible, uncovered, names_shape, define_stated, assign_stated}
 use Rattle.go_stmts_variables.proofs.Steps.{step_reads}
 use Rattle.go_stmts_variables.proofs.Switches.{tag_part, plain_tag, switch_reads, bare_switch}
 use Rattle.go_stmts_variables.proofs.Branches.{condition_roles, second, Elses, no_else, an_else, if_reads}
@@ -118,10 +116,10 @@ module _ (w : Standins) where
   module _ (law : ExpressionsTyped) where
     return_stated : (p : Place) (i j : ℕ) (ps : Trees) → AreShaped (rule p kind.Return) ps → AllProper w ps → Stated w (node kind.Return i j ps)
     return_stated p i j none e proper = elim e [ ]
-    return_stated p i j (skip none) e proper = record { kind = refl; reads = λ f g h st good fits tags. bare_returned w f g h i j st good }
+    return_stated p i j (skip none) e proper = record { kind = refl; reads = λ f g h st good fits tags steady. bare_returned w f g h i j st good }
     return_stated p i j (skip (more q ps)) e proper = elim e [ ]
     return_stated p i j (skip (skip ps)) e proper = elim e [ ]
-    return_stated p i j (more (node kind.ExpressionList a b ps) none) e proper = record { kind = refl; reads = λ f g h st good fits tags. list_returned w f g h i j a b p ps (list_expressions p ps e.0.1) st law proper.0.2 good fits }
+    return_stated p i j (more (node kind.ExpressionList a b ps) none) e proper = record { kind = refl; reads = λ f g h st good fits tags steady. list_returned w f g h i j a b p ps (list_expressions p ps e.0.1) st law proper.0.2 good fits }
     return_stated p i j (more (node k a b ps) none) e proper = impossible e.0.0
     return_stated p i j (more q (more r ps)) e proper = elim e.1 [ ]
     return_stated p i j (more q (skip ps)) e proper = elim e.1 [ ]
@@ -131,7 +129,7 @@ module _ (w : Standins) where
     step_stated o p i j (skip ps) e proper = elim e [ ]
     step_stated o p i j (more x (more y ps)) e proper = elim e.1 [ ]
     step_stated o p i j (more x (skip ps)) e proper = elim e.1 [ ]
-    step_stated o p i j (more x none) e proper = record { kind = refl; reads = λ f g h st good fits tags. step_reads w f g h o i j p x e.0 st law proper.0 good fits }
+    step_stated o p i j (more x none) e proper = record { kind = refl; reads = λ f g h st good fits tags steady. step_reads w f g h o i j p x e.0 st law proper.0 good fits }
 
     operate_stated : (o : Arithmetic) (p : Place) (i j : ℕ) (ps : Trees) → AreShaped (rule p (kind.OperatorAssignment o)) ps → AllProper w ps → Stated w (node (kind.OperatorAssignment o) i j ps)
     operate_stated o p i j none e proper = elim e [ ]
@@ -140,14 +138,14 @@ module _ (w : Standins) where
     operate_stated o p i j (more x (skip ps)) e proper = elim e.1 [ ]
     operate_stated o p i j (more x (more y (more z ps))) e proper = elim e.1.1 [ ]
     operate_stated o p i j (more x (more y (skip ps))) e proper = elim e.1.1 [ ]
-    operate_stated o p i j (more x (more y none)) e proper = record { kind = refl; reads = λ f g h st good fits tags. operate_reads w f g h o i j p x y e.0 e.1.0 st law proper.0 proper.1.0 good fits }
+    operate_stated o p i j (more x (more y none)) e proper = record { kind = refl; reads = λ f g h st good fits tags steady. operate_reads w f g h o i j p x y e.0 e.1.0 st law proper.0 proper.1.0 good fits }
 
     expression_stated : (p : Place) (i j : ℕ) (ps : Trees) → AreShaped (rule p kind.ExpressionStatement) ps → AllProper w ps → Stated w (node kind.ExpressionStatement i j ps)
     expression_stated p i j none e proper = elim e [ ]
     expression_stated p i j (skip ps) e proper = elim e [ ]
     expression_stated p i j (more x (more y ps)) e proper = elim e.1 [ ]
     expression_stated p i j (more x (skip ps)) e proper = elim e.1 [ ]
-    expression_stated p i j (more x none) e proper = record { kind = refl; reads = λ f g h st good fits tags. expression_reads w f g h i j p x e.0 st law proper.0 good fits }
+    expression_stated p i j (more x none) e proper = record { kind = refl; reads = λ f g h st good fits tags steady. expression_reads w f g h i j p x e.0 st law proper.0 good fits }
 
     -- ---- headers
 
@@ -257,26 +255,12 @@ module _ (w : Standins) where
     switch_head f (node kind.InitializedTag i j ps) e proper s = initialized_switch f i j ps e.1 proper.2 s
     switch_head f (node k i j ps) e proper s = lone_tag f (node k i j ps) (e.0, e.1, e.2) proper
 
-    -- no types are declared in it, or the switch has no tag
-    steadied : (b : Bool) (t : TypeTree) (ss : Trees) → TypelessIf (not b) ss → (b ≡ true → t ≡ boolean) → (are_typeless ss ≡ true) ⊎ (t ≡ boolean)
-    steadied true t ss e m = inr (m refl)
-    steadied false t ss e m = inl e
-
-    case_clause : (c : Bool) (i j : ℕ) (l : Tree) (ss : Trees) → IsShaped (category.ExpressionList place.Free) l → Proper w l → AllStated w ss → TypelessIf (not c) ss → Clause w c (node kind.Case i j (more l ss))
-    case_clause c i j (node kind.ExpressionList a b vs) ss e proper s typeless = record {
+    case_clause : (i j : ℕ) (l : Tree) (ss : Trees) → IsShaped (category.ExpressionList place.Free) l → Proper w l → AllStated w ss → Clause w (node kind.Case i j (more l ss))
+    case_clause i j (node kind.ExpressionList a b vs) ss e proper s = record {
       kind = refl;
-      reads = λ f g h t m q st good fits tags. case_reads w f g h i j a b place.Free vs ss (list_expressions place.Free vs e.1) s st t m (steadied c t ss typeless q) law proper.2 good fits tags;
+      reads = λ f g h t m keeps st good fits tags steady. case_reads w f g h i j a b place.Free vs ss (list_expressions place.Free vs e.1) s st t m keeps law proper.2 good fits tags steady;
     }
-    case_clause c i j (node k a b vs) ss e proper s typeless = impossible e.0
-
-    -- what is said of all parts is said of the first one's behind its values, and of the rest
-    first_typeless : (b : Bool) (i j : ℕ) (l : Tree) (ss cs : Trees) → TypelessIf b (more (node kind.Case i j (more l ss)) cs) → TypelessIf b ss
-    first_typeless true i j l ss cs e = (first_true (is_typeless l) (are_typeless ss) (first_true (is_typeless l && are_typeless ss) (are_typeless cs) e).0).1
-    first_typeless false i j l ss cs e = tt
-
-    rest_typeless : (b : Bool) (p : Tree) (cs : Trees) → TypelessIf b (more p cs) → TypelessIf b cs
-    rest_typeless true p cs e = (first_true (is_typeless p) (are_typeless cs) e).1
-    rest_typeless false p cs e = tt
+    case_clause i j (node k a b vs) ss e proper s = impossible e.0
 
     -- ---- loops
 
@@ -309,15 +293,12 @@ module _ (w : Standins) where
     plain_loop : (i j : ℕ) (hd b : Tree) → ((f : Frame) → LoopHead f hd) → Stated w b → Stated w (node kind.For i j (more hd (more b none)))
     plain_loop i j hd b head sb = record {
       kind = refl;
-      reads = λ f g h st good fits tags. for_reads w law f g h i j hd b (head f).header (head f).clause sb st good fits tags;
+      reads = λ f g h st good fits tags steady. for_reads w law f g h i j hd b (head f).header (head f).clause sb st good fits tags steady;
     }
 
     -- loops that go over a value
-    value_loop : (i j : ℕ) (hd b : Tree) → ((f : Frame) → RangeHead w f hd) → Stated w b → (is_typeless hd && (is_typeless b && true)) ≡ true → Stated w (node kind.For i j (more hd (more b none)))
-    value_loop i j hd b head sb e =
-        let one = first_true (is_typeless hd) (is_typeless b && true) e in
-        let two = first_true (is_typeless b) true one.1 in
-        record { kind = refl; reads = λ f g h st good fits tags. range_reads w f g h i j hd b (head f) sb one.0 two.0 st good fits tags }
+    value_loop : (i j : ℕ) (hd b : Tree) → ((f : Frame) → RangeHead w f hd) → Stated w b → Stated w (node kind.For i j (more hd (more b none)))
+    value_loop i j hd b head sb = record { kind = refl; reads = λ f g h st good fits tags steady. range_reads w f g h i j hd b (head f) sb st good fits tags steady }
 
     range_head : (f : Frame) (a c : ℕ) (ps : Trees) → AreShaped (rule place.Header kind.Range) ps → AllProper w ps → RangeHead w f (node kind.Range a c ps)
     range_head f a c none e proper = elim e [ ]
@@ -365,24 +346,23 @@ module _ (w : Standins) where
     defining_tree f a c (more (node kind.NewNames d m ts) (more q none)) e proper dec = defining_head f a c d m ts q e.0.1 e.0.2 dec.0.0 e.1.0 proper.1.0
     defining_tree f a c (more (node k d m ts) (more q none)) e proper dec = impossible e.0.0
 
-    loop_stated : (i j : ℕ) (hd b : Tree) → IsShaped category.ForHeader hd → Proper w hd → Declares w hd → HeaderStated hd → Stated w b → TypelessIf (goes_over (more hd (more b none))) (more hd (more b none))
-        → Stated w (node kind.For i j (more hd (more b none)))
-    loop_stated i j (node kind.ForClause a c ps) b e proper dec s sb t =
+    loop_stated : (i j : ℕ) (hd b : Tree) → IsShaped category.ForHeader hd → Proper w hd → Declares w hd → HeaderStated hd → Stated w b → Stated w (node kind.For i j (more hd (more b none)))
+    loop_stated i j (node kind.ForClause a c ps) b e proper dec s sb =
         plain_loop i j (node kind.ForClause a c ps) b
         (λ f. record {
           header = late_header w law loop_header (a_value ∷ a_statement ∷ []) f kind.ForClause a c ps (for_clause w) (clause_roles ps e.1 proper.2 s) refl;
           clause = ap (λ x. loop_form (Some x)) (holder_is w f f value kind.ForClause a c ps (for_clause w));
         }) sb
-    loop_stated i j (node kind.InitializedForClause a c ps) b e proper dec s sb t =
+    loop_stated i j (node kind.InitializedForClause a c ps) b e proper dec s sb =
         plain_loop i j (node kind.InitializedForClause a c ps) b
         (λ f. record {
           header = whole_header w law loop_header loop_roles f kind.InitializedForClause a c ps (initialized_for_clause w) (whole_roles ps e.1 proper.2 s) refl;
           clause = ap (λ x. loop_form (Some x)) (holder_is w f f value kind.InitializedForClause a c ps (initialized_for_clause w));
         }) sb
-    loop_stated i j (node kind.Range a c ps) b e proper dec s sb t = value_loop i j (node kind.Range a c ps) b (λ f. range_head f a c ps e.1 proper.2) sb t
-    loop_stated i j (node kind.AssigningRange a c ps) b e proper dec s sb t = value_loop i j (node kind.AssigningRange a c ps) b (λ f. assigning_tree f a c ps e.1 proper.2) sb t
-    loop_stated i j (node kind.DefiningRange a c ps) b e proper dec s sb t = value_loop i j (node kind.DefiningRange a c ps) b (λ f. defining_tree f a c ps e.1 proper.2 dec.1) sb t
-    loop_stated i j (node k a c ps) b e proper dec s sb t = plain_loop i j (node k a c ps) b (λ f. lone_header f (node k a c ps) (e.0, e.1, e.2) proper) sb
+    loop_stated i j (node kind.Range a c ps) b e proper dec s sb = value_loop i j (node kind.Range a c ps) b (λ f. range_head f a c ps e.1 proper.2) sb
+    loop_stated i j (node kind.AssigningRange a c ps) b e proper dec s sb = value_loop i j (node kind.AssigningRange a c ps) b (λ f. assigning_tree f a c ps e.1 proper.2) sb
+    loop_stated i j (node kind.DefiningRange a c ps) b e proper dec s sb = value_loop i j (node kind.DefiningRange a c ps) b (λ f. defining_tree f a c ps e.1 proper.2 dec.1) sb
+    loop_stated i j (node k a c ps) b e proper dec s sb = plain_loop i j (node k a c ps) b (λ f. lone_header f (node k a c ps) (e.0, e.1, e.2) proper) sb
 
     mutual
       pub statement_stated : (c : Category) (x : Tree) → IsShaped c x → Proper w x → Declares w x → states c ≡ true → Stated w x
@@ -395,10 +375,10 @@ module _ (w : Standins) where
       statement_stated c (node (kind.Declaration declaring.Constant) i j ps) e proper dec v = constants_stated w law i j ps e.1 dec.0 dec.1
       statement_stated c (node (kind.Declaration declaring.Type) i j ps) e proper dec v = types_stated w i j ps e.1 dec.0 dec.1
       statement_stated c (node kind.ExpressionStatement i j ps) e proper dec v = expression_stated (place_of c) i j ps e.1 proper.2
-      statement_stated c (node kind.Block i j ps) e proper dec v = record { kind = refl; reads = λ f g h st good fits tags. block_reads w f g h i j ps (all_stated ps (block_shape (place_of c) ps e.1) proper.2 dec.1) st good fits tags }
-      statement_stated c (node kind.Break i j none) e proper dec v = record { kind = refl; reads = λ f g h st good fits tags. break_reads w f g h i j st }
-      statement_stated c (node kind.Continue i j none) e proper dec v = record { kind = refl; reads = λ f g h st good fits tags. continue_reads w f g h i j st }
-      statement_stated c (node kind.Fallthrough i j none) e proper dec v = record { kind = refl; reads = λ f g h st good fits tags. fallthrough_reads w f g h i j st }
+      statement_stated c (node kind.Block i j ps) e proper dec v = record { kind = refl; reads = λ f g h st good fits tags steady. block_reads w f g h i j ps (all_stated ps (block_shape (place_of c) ps e.1) proper.2 dec.1) st good fits tags steady }
+      statement_stated c (node kind.Break i j none) e proper dec v = record { kind = refl; reads = λ f g h st good fits tags steady. break_reads w f g h i j st }
+      statement_stated c (node kind.Continue i j none) e proper dec v = record { kind = refl; reads = λ f g h st good fits tags steady. continue_reads w f g h i j st }
+      statement_stated c (node kind.Fallthrough i j none) e proper dec v = record { kind = refl; reads = λ f g h st good fits tags steady. fallthrough_reads w f g h i j st }
       statement_stated c (node kind.Break i j (more p ps)) e proper dec v = elim e.1 [ ]
       statement_stated c (node kind.Break i j (skip ps)) e proper dec v = elim e.1 [ ]
       statement_stated c (node kind.Continue i j (more p ps)) e proper dec v = elim e.1 [ ]
@@ -413,19 +393,19 @@ module _ (w : Standins) where
           let hs = header_stated category.IfHeader hd e.1.0 proper.2.0 dec.1.0 in
           let sb = statement_stated category.Block b e.1.1.0 proper.2.1.0 dec.1.1.0 refl in
           let el = else_stated es e.1.1.1 proper.2.1.1 dec.1.1.1 in
-          record { kind = refl; reads = λ f g h st good fits tags. if_reads w law f g h i j hd b es (if_header f hd e.1.0 proper.2.0 hs) sb el st good fits tags }
+          record { kind = refl; reads = λ f g h st good fits tags steady. if_reads w law f g h i j hd b es (if_header f hd e.1.0 proper.2.0 hs) sb el st good fits tags steady }
       statement_stated c (node kind.Switch i j none) e proper dec v = elim e.1 [ ]
       statement_stated c (node kind.Switch i j (skip cs)) e proper dec v =
-          let s = clauses_stated true cs (many_clauses (token.LeftBrace ∷ []) [] (token.RightBrace ∷ []) cs e.1) proper.2 dec.1 tt in
-          record { kind = refl; reads = λ f g h st good fits tags. bare_switch w f g h i j cs s st good fits tags }
+          let s = clauses_stated cs (many_clauses (token.LeftBrace ∷ []) [] (token.RightBrace ∷ []) cs e.1) proper.2 dec.1 in
+          record { kind = refl; reads = λ f g h st good fits tags steady. bare_switch w f g h i j cs s st good fits tags steady }
       statement_stated c (node kind.Switch i j (more hd cs)) e proper dec v =
           let hs = header_stated category.SwitchHeader hd e.1.0 proper.2.0 dec.1.0 in
-          let s = clauses_stated false cs (many_clauses (token.LeftBrace ∷ []) [] (token.RightBrace ∷ []) cs e.1.1) proper.2.1 dec.1.1 (rest_typeless true hd cs dec.0) in
+          let s = clauses_stated cs (many_clauses (token.LeftBrace ∷ []) [] (token.RightBrace ∷ []) cs e.1.1) proper.2.1 dec.1.1 in
           record {
             kind = refl;
-            reads = λ f g h st good fits tags.
+            reads = λ f g h st good fits tags steady.
                 let head = switch_head f hd e.1.0 proper.2.0 hs in
-                switch_reads w f g h i j hd cs head.header head.same s st law good fits tags;
+                switch_reads w f g h i j hd cs head.header head.same s st law good fits tags steady;
           }
       statement_stated c (node kind.For i j none) e proper dec v = elim e.1 [ ]
       statement_stated c (node kind.For i j (skip none)) e proper dec v = elim e.1 [ ]
@@ -434,14 +414,14 @@ module _ (w : Standins) where
       statement_stated c (node kind.For i j (skip (more b (skip ps)))) e proper dec v = elim e.1.1 [ ]
       statement_stated c (node kind.For i j (skip (more b none))) e proper dec v =
           let sb = statement_stated category.Block b e.1.0 proper.2.0 dec.1.0 refl in
-          record { kind = refl; reads = λ f g h st good fits tags. forever_reads w law f g h i j b sb st good fits tags }
+          record { kind = refl; reads = λ f g h st good fits tags steady. forever_reads w law f g h i j b sb st good fits tags steady }
       statement_stated c (node kind.For i j (more hd none)) e proper dec v = elim e.1.1 [ ]
       statement_stated c (node kind.For i j (more hd (skip ps))) e proper dec v = elim e.1.1 [ ]
       statement_stated c (node kind.For i j (more hd (more b (more x ps)))) e proper dec v = elim e.1.1.1 [ ]
       statement_stated c (node kind.For i j (more hd (more b (skip ps)))) e proper dec v = elim e.1.1.1 [ ]
       statement_stated c (node kind.For i j (more hd (more b none))) e proper dec v =
           let hs = header_stated category.ForHeader hd e.1.0 proper.2.0 dec.1.0 in
-          loop_stated i j hd b e.1.0 proper.2.0 dec.1.0 hs (statement_stated category.Block b e.1.1.0 proper.2.1.0 dec.1.1.0 refl) dec.0
+          loop_stated i j hd b e.1.0 proper.2.0 dec.1.0 hs (statement_stated category.Block b e.1.1.0 proper.2.1.0 dec.1.1.0 refl)
       statement_stated c (node k i j ps) e proper dec v = uncovered (within_statements c k v e.0)
 
       all_stated : (ps : Trees) → AreStatements ps → AllProper w ps → AllDeclare w ps → AllStated w ps
@@ -463,21 +443,18 @@ module _ (w : Standins) where
       else_stated (more (node kind.Else i j (more b none)) none) e proper dec = an_else i j b (statement_stated category.Branch b e.0.1.0 proper.0.2.0 dec.0.1.0 refl)
       else_stated (more (node k i j ps) none) e proper dec = impossible e.0.0
 
-      -- the statements of a header
-      clauses_stated : (b : Bool) (cs : Trees) → AreClauses cs → AllProper w cs → AllDeclare w cs → TypelessIf (not b) cs → AllClauses w b cs
-      clauses_stated b none e proper dec t = tt
-      clauses_stated b (skip cs) e proper dec t = elim e [ ]
-      clauses_stated b (more (node kind.Case i j none) cs) e proper dec t = elim e.0.1 [ ]
-      clauses_stated b (more (node kind.Case i j (skip ss)) cs) e proper dec t = elim e.0.1 [ ]
-      clauses_stated b (more (node kind.Case i j (more l ss)) cs) e proper dec t =
-          let ss' = all_stated ss (open_statements (token.Colon ∷ []) token.Semicolon ss e.0.1.1) proper.0.2.1 dec.0.1.1 in
-          (case_clause b i j l ss e.0.1.0 proper.0.2.0 ss' (first_typeless (not b) i j l ss cs t), clauses_stated b cs e.1 proper.1 dec.1 (rest_typeless (not b) (node kind.Case i j (more l ss)) cs t))
-      clauses_stated b (more (node kind.Default i j ss) cs) e proper dec t = (
-        default_clause w b i j ss (all_stated ss (open_statements (token.Default ∷ token.Colon ∷ []) token.Semicolon ss e.0.1) proper.0.2 dec.0.1),
-        clauses_stated b cs e.1 proper.1 dec.1 (rest_typeless (not b) (node kind.Default i j ss) cs t),
-      )
-      clauses_stated b (more (node k i j ps) cs) e proper dec t = impossible e.0.0
+      clauses_stated : (cs : Trees) → AreClauses cs → AllProper w cs → AllDeclare w cs → AllClauses w cs
+      clauses_stated none e proper dec = tt
+      clauses_stated (skip cs) e proper dec = elim e [ ]
+      clauses_stated (more (node kind.Case i j none) cs) e proper dec = elim e.0.1 [ ]
+      clauses_stated (more (node kind.Case i j (skip ss)) cs) e proper dec = elim e.0.1 [ ]
+      clauses_stated (more (node kind.Case i j (more l ss)) cs) e proper dec =
+          let ss' = all_stated ss (open_statements (token.Colon ∷ []) token.Semicolon ss e.0.1.1) proper.0.2.1 dec.0.1.1 in (case_clause i j l ss e.0.1.0 proper.0.2.0 ss', clauses_stated cs e.1 proper.1 dec.1)
+      clauses_stated (more (node kind.Default i j ss) cs) e proper dec =
+          (default_clause w i j ss (all_stated ss (open_statements (token.Default ∷ token.Colon ∷ []) token.Semicolon ss e.0.1) proper.0.2 dec.0.1), clauses_stated cs e.1 proper.1 dec.1)
+      clauses_stated (more (node k i j ps) cs) e proper dec = impossible e.0.0
 
+      -- the statements of a header
       header_stated : (c : Category) (x : Tree) → IsShaped c x → Proper w x → Declares w x → HeaderStated x
       header_stated c (node kind.InitializedCondition i j none) e proper dec = elim e.1 [ ]
       header_stated c (node kind.InitializedCondition i j (skip ps)) e proper dec = elim e.1 [ ]

@@ -18,7 +18,8 @@ use Rattle.go_stmts_defs.specs.Laying.{told, layout, form_by, type_number}
 use Rattle.go_stmts_defs.specs.Reading.{Found, Readings, read, all_read, reading, readings, beginning, entering, leaving, back, is_statement, is_new, closed, holding, held_faults, declares_sort, declares_name, declares_all}
 use Rattle.go_stmts_defs.specs.Reading.{with_parameter, with_parameters, entry_names, first_parts, signature_results, part_source, right_side, left_out, left_out_faults}
 use Rattle.go_stmts_defs.specs.Rules.{own_faults, built_by}
-use Rattle.go_stmts_variables.specs.Statements.{tree_in, found_in, frame_in, declares_type, is_typeless, are_typeless}
+use Rattle.go_stmts_variables.specs.Statements.{tree_in, found_in, frame_in}
+use Rattle.go_stmts_variables.specs.Steady.{declares_type, is_typeless, are_typeless}
 use Rattle.go_stmts_variables.proofs.Rows.{after_is, frame_behind}
 
 -- ---- tags
@@ -153,9 +154,3 @@ mutual
       ap (λ z. rights_of (frame_of z)) (after_is r (λ x gs t. readings t k h all (xs ++ Some x ∷ []) (fs ++ gs) ps))
       ∙ readings_rights (frame_in r) k h all (xs ++ Some (tree_in r) ∷ []) (fs ++ found_in r) ps both.1
       ∙ reading_rights (entering k xs f) (told k h all xs (kind_of p)) p both.0 ∙ entering_rights k xs f
-
-pub behind_rights : (f : Frame) (ps : Trees) → are_typeless ps ≡ true → rights_of (frame_behind f ps) ≡ rights_of f
-behind_rights f none e = refl
-behind_rights f (skip ps) e = behind_rights f ps e
-behind_rights f (more p ps) e =
-    let both = two_flags (is_typeless p) (are_typeless ps) e in behind_rights (frame_in (reading f value p)) ps both.1 ∙ reading_rights f value p both.0

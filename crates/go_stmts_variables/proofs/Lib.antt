@@ -13,6 +13,8 @@ pub mod Names
 pub mod Returns
 pub mod Rows
 pub mod Left
+pub mod Steady
+pub mod Switchless
 pub mod Truths
 pub mod Roles
 pub mod Splits
@@ -40,6 +42,7 @@ pub mod RangeNames
 pub mod Induction
 pub mod Law
 pub mod Untyped
+pub mod Unsteady
 pub mod Functions
 pub mod WorkedFunctions
 pub mod Unchanged

@@ -15,6 +15,7 @@ use Rattle.go_exprs_variables.specs.Variables.{Standins, all_with_variables, beg
 use Rattle.go_exprs_variables.proofs.Public.{all_of, new_part, news}
 use Rattle.go_stmts_variables.specs.Frames.{FramesStand}
 use Rattle.go_stmts_variables.specs.Statements.{tree_in, found_in, frame_in, Tagged, AllTagged}
+use Rattle.go_stmts_variables.specs.Steady.{Steady}
 use Rattle.go_stmts_variables.proofs.Branches.{RangedIf, AllStatedIf, condition_roles, condition_takes, second, condition_awaits, condition_behind, condition_tagged, condition_put, condition_holds, second_is, second_new}
 use Rattle.go_stmts_variables.proofs.Frames.{back_stands}
 use Rattle.go_stmts_variables.proofs.Headers.{Header, begun_plain, loop_new}
@@ -149,9 +150,9 @@ module _ (w : Standins) where
           ∙ append_assoc (news w hs) (news w fall.post) (Some (begun w false b') ∷ []) ∙ ap (λ z. news w hs ++ z) (sym (news_two w fall.post (Some b' ∷ []))) ∙ sym (news_two w hs ts)
 
       pub for_reads : no_rule_fails (found_in (reading f h (node kind.For i j (more hd (more b none))))) ≡ true → Fits w false (tree_in (reading f h (node kind.For i j (more hd (more b none)))))
-          → Tagged (tree_in (reading f h (node kind.For i j (more hd (more b none))))) → Reads w f g h (node kind.For i j (more hd (more b none)))
+          → Tagged (tree_in (reading f h (node kind.For i j (more hd (more b none))))) → Steady f h (node kind.For i j (more hd (more b none))) → Reads w f g h (node kind.For i j (more hd (more b none)))
       unfolding for_old
-      for_reads good fits tags =
+      for_reads good fits tags steady =
           let own = old_rules w f h kind.For i j (more hd (more b none)) refl for_old good in
           let all = old_fits w f h kind.For i j (more hd (more b none)) refl for_old own.1 fits in
           let S = row_behind f (more hd (more b none)) in
@@ -162,9 +163,9 @@ module _ (w : Standins) where
           let two = fits_two fall.post (tree_in (reading middle value b)) behind in
           let awaits = fall.awaits (condition_awaits w (rights_of S) hs ts fall.roles ranged rule all tagged) two.0 later.0 in
           let found = all_of (found_in (reading f value hd)) (row_found middle (more b none)) own.0 in
-          let hr = hf.read g st found.0 awaits in
+          let hr = hf.read g st found.0 awaits steady.1.0 in
           let values = fall.values hr.values in
-          let r = parts_read w f g (more hd (more b none)) ((λ g st good. (hf.read g st good awaits).reads), ((λ g st good. sb.reads middle g value st good two.1 later.1), tt)) st own.0 in
+          let r = parts_read w f g (more hd (more b none)) ((λ g st good. (hf.read g st good awaits steady.1.0).reads), ((λ g st good. sb.reads middle g value st good two.1 later.1 steady.1.1.0), tt)) st own.0 in
           let T = row_behind g new in
           node_reads w f g h kind.For i j (more hd (more b none)) for_old refl refl own.1
           (record {
@@ -202,12 +203,12 @@ module _ (w : Standins) where
       }
 
       pub forever_reads : no_rule_fails (found_in (reading f h (node kind.For i j (skip (more b none))))) ≡ true → Fits w false (tree_in (reading f h (node kind.For i j (skip (more b none)))))
-          → Tagged (tree_in (reading f h (node kind.For i j (skip (more b none))))) → Reads w f g h (node kind.For i j (skip (more b none)))
+          → Tagged (tree_in (reading f h (node kind.For i j (skip (more b none))))) → Steady f h (node kind.For i j (skip (more b none))) → Reads w f g h (node kind.For i j (skip (more b none)))
       unfolding forever_old
-      forever_reads good fits tags =
+      forever_reads good fits tags steady =
           let own = old_rules w f h kind.For i j (skip (more b none)) refl forever_old good in
           let all = old_fits w f h kind.For i j (skip (more b none)) refl forever_old own.1 fits in
-          let r = parts_read w f g (skip (more b none)) ((λ g st good. sb.reads f g value st good all.0 (old_tagged w f h kind.For i j (skip (more b none)) refl forever_old own.1 tags).1.0), tt) st own.0 in
+          let r = parts_read w f g (skip (more b none)) ((λ g st good. sb.reads f g value st good all.0 (old_tagged w f h kind.For i j (skip (more b none)) refl forever_old own.1 tags).1.0 steady.1.0), tt) st own.0 in
           let T = row_behind g (all_with_variables w (skip (more b none))) in
           node_reads w f g h kind.For i j (skip (more b none)) forever_old refl refl own.1
           (record {

@@ -15,6 +15,7 @@ use Rattle.go_exprs_rules.specs.declared.fault.TypeFault.{TypeFault}
 use Rattle.go_exprs_rules.specs.Scopes.{value, target}
 use Rattle.go_exprs_rules.specs.Settling.{Part, given}
 use Rattle.go_exprs_rules.specs.Tables.{Parts, is_held, held, all_held, is_judged, calls_in, made}
+use Rattle.go_stmts_defs.specs.Assigning.{takes}
 use Rattle.go_stmts_defs.specs.Frames.{Frame, rights_of}
 use Rattle.go_stmts_defs.specs.Laying.{loop_header, loop_form}
 use Rattle.go_stmts_defs.specs.Reading.{Found, all_read, list_node, holdings, all_held_faults, reading}
@@ -27,6 +28,7 @@ use Rattle.go_exprs_variables.proofs.Public.{All, all_new, all_of, calls_kept, e
 use Rattle.go_stmts_variables.specs.Frames.{FramesStand}
 use Rattle.go_stmts_variables.specs.Rules.{Targets, no_target, a_target}
 use Rattle.go_stmts_variables.specs.Statements.{tree_in, found_in, frame_in}
+use Rattle.go_stmts_variables.specs.Steady.{Keeps, type_taken}
 use Rattle.go_stmts_variables.proofs.Assignments.{AllClosed, targets_will, targets_closed, target_new, type_new, targets_put}
 use Rattle.go_stmts_variables.proofs.Expressions.{IsValuePart}
 use Rattle.go_stmts_variables.proofs.Frames.{back_stands}
@@ -91,15 +93,15 @@ module _ (w : Standins) where
         ap tree_in (old_closed w f value kind.Range a b (more q none) refl alone_old)
         ∙ sound_node w f value kind.Range a b (more q none) refl (row_behind f (more q none)) (form.Held kind.Range) (Some x ∷ []) (nothing_wrong (is_judged (Some x ∷ [])))
 
-    alone_reads : (g : Frame) → ExpressionsTyped → Proper w q → (i j : ℕ) → FramesStand w f g → no_rule_fails (found_in (reading f value (node kind.Range a b (more q none)))) ≡ true
-        → rules.range_assigned (rights_of f) i j [] x (rules.range_types (rights_of f) x) ≡ [] → Fits w false (given (range_take [] x) x)
-        → RangeRead w f g (node kind.Range a b (more q none)) [] x
+    alone_reads : (g : Frame) → ExpressionsTyped → Proper w q → (R : Rights) (i j : ℕ) → FramesStand w f g → no_rule_fails (found_in (reading f value (node kind.Range a b (more q none)))) ≡ true
+        → rules.range_assigned R i j [] x (rules.range_types R x) ≡ [] → Fits w false (given (range_take [] x) x) → Keeps (rights_of f) R (type_taken (takes (range_take [] x)))
+        → RangeRead w f g R (node kind.Range a b (more q none)) [] x
     unfolding alone_old
-    alone_reads g law proper i j st good rule fits =
+    alone_reads g law proper R i j st good rule fits keeps =
         let ps : Trees = more q none in
         let own = old_rules w f value kind.Range a b ps refl alone_old good in
         let found = all_of (found_in (reading f value q)) [] own.0 in
-        let xw = range_will w (rights_of f) i j [] x no_target rule fits in
+        let xw = range_will w R i j [] x no_target rule fits (rights_of f) keeps in
         let v = value_reads w law f g value p q shape refl st proper found.0 xw in
         let r = parts_read w f g ps ((λ g st good. (value_reads w law f g value p q shape refl st proper good xw).reads), tt) st own.0 in
         let new = all_with_variables w ps in
@@ -126,13 +128,14 @@ module _ (w : Standins) where
 
     pub range_alone : ExpressionsTyped → Proper w q → RangeHead w f (node kind.Range a b (more q none))
     range_alone law proper = record {
+      goes = refl;
       defines = false;
       targets = [];
       x = x;
       flat = ap (λ z. loop_header (Some z)) alone_is;
       form = ap (λ z. loop_form (Some z)) alone_is;
       same = λ r. no_target;
-      read = λ g i j st good rule fits ok tf. alone_reads g law proper i j st good rule fits;
+      read = λ g R i j st good rule fits keeps ok tf. alone_reads g law proper R i j st good rule fits keeps;
     }
 
   -- ---- with targets
@@ -184,20 +187,21 @@ module _ (w : Standins) where
         ∙ sound_node w f value kind.AssigningRange a b (more (node kind.Targets c d (more (node kind.ExpressionList e k qs) none)) (more q none)) refl (frame_in (reading f value q)) (form.Held kind.AssigningRange) (each ns ++ Some v ∷ [])
         (nothing_wrong (is_judged (each ns ++ Some v ∷ [])))
 
-    assigning_reads : (g : Frame) → ExpressionsTyped → AllProper w qs → Proper w q → (i j : ℕ) → FramesStand w f g → no_rule_fails (found_in (reading f value hd)) ≡ true
-        → rules.range_assigned (rights_of f) i j ns v (rules.range_types (rights_of f) v) ≡ [] → Fits w false (given (range_take ns v) v) → rules.each (not_a_target (rights_of f)) ns ≡ [] → All (Fits w false) ns → RangeRead w f g hd ns v
+    assigning_reads : (g : Frame) → ExpressionsTyped → AllProper w qs → Proper w q → (R : Rights) (i j : ℕ) → FramesStand w f g → no_rule_fails (found_in (reading f value hd)) ≡ true
+        → rules.range_assigned R i j ns v (rules.range_types R v) ≡ [] → Fits w false (given (range_take ns v) v) → Keeps (rights_of f) R (type_taken (takes (range_take ns v))) → rules.each (not_a_target R) ns ≡ []
+        → All (Fits w false) ns → RangeRead w f g R hd ns v
     unfolding assigning_old
-    assigning_reads g law pq px i j st good rule fits ok tf =
+    assigning_reads g law pq px R i j st good rule fits keeps ok tf =
         let ps : Trees = more (node kind.Targets c d (more (node kind.ExpressionList e k qs) none)) (more q none) in
         let own = old_rules w f value kind.AssigningRange a b ps refl assigning_old good in
         let found = all_of (targets_found f qs) (found_in (reading f value q)) own.0 in
         let left_found = sym (ap no_rule_fails (append-nil (all_held_faults f kind.ExpressionList target qs [] qs))) ∙ found.0 in
-        let l = list_reads w law f g target p qs left refl st pq left_found (targets_will w f g st p qs left ok tf) in
-        let u = value_reads w law f g value r q shape refl st px found.1 (range_will w (rights_of f) i j ns v (self_targets (rights_of f) ns) rule fits) in
+        let l = list_reads w law f g target p qs left refl st pq left_found (targets_will w f g st R p qs left ok tf) in
+        let u = value_reads w law f g value r q shape refl st px found.1 (range_will w R i j ns v (self_targets R ns) rule fits (rights_of f) keeps) in
         let new_qs = all_with_variables w qs in
         let new_q = with_variables w q in
         let v' = tree_in (reading g value new_q) in
-        let closed = targets_closed w f g st p qs left ok in
+        let closed = targets_closed w f g st R p qs left ok in
         record {
           reads = node_reads w f g value kind.AssigningRange a b ps assigning_old refl refl own.1
               (record {
@@ -217,16 +221,17 @@ module _ (w : Standins) where
               });
           value = u.value;
           puts = targets_put w ns l.values tf;
-          kept = kept_targets (rights_of f) ns l.values closed tf;
+          kept = kept_targets R ns l.values closed tf;
         }
 
     pub range_assigning : ExpressionsTyped → AllProper w qs → Proper w q → RangeHead w f (node kind.AssigningRange a b (more (node kind.Targets c d (more (node kind.ExpressionList e k qs) none)) (more q none)))
     range_assigning law pq px = record {
+      goes = refl;
       defines = false;
       targets = ns;
       x = v;
       flat = ap (λ z. loop_header (Some z)) assigning_is ∙ list_row (each ns ++ Some v ∷ []);
       form = ap (λ z. loop_form (Some z)) assigning_is ∙ ap (form.Range false) (front_count ns v);
       same = λ q. self_targets q ns;
-      read = λ g i j st good rule fits ok tf. assigning_reads g law pq px i j st good rule fits ok tf;
+      read = λ g R i j st good rule fits keeps ok tf. assigning_reads g law pq px R i j st good rule fits keeps ok tf;
     }

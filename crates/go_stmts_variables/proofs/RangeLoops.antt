@@ -1,9 +1,9 @@
 -- Loops over values with variables in them.
 use Rattle.std.proofs.Common.{◌≡◌, ◌∙◌, ℕ, suc, ◌-◌, Bool, true, false, List, [], ◌∷◌, ◌++◌, length, drop, Option, Some, None, refl, sym, ap, subst, append_assoc, arith}
 use Rattle.std.proofs.lemmas.Bool.Decides.{nat_tests}
-use Rattle.std.specs.Prelude.{if◌then◌else◌, nat_lt, is_some}
+use Rattle.std.specs.Prelude.{if◌then◌else◌, nat_lt, is_some, not}
 use Rattle.go_grammar.specs.declared.kind.Kind.TheVariants as kind
-use Rattle.go_grammar.specs.Trees.{Tree, Trees, node, none, more}
+use Rattle.go_grammar.specs.Trees.{Tree, Trees, node, none, more, kind_of}
 use Rattle.go_types.specs.Trees.{TypeTree}
 use Rattle.go_types.specs.Relations.{Rights}
 use Rattle.go_typed.specs.declared.form.Form.TheVariants as form
@@ -26,12 +26,13 @@ use Rattle.go_exprs_variables.specs.Variables as variables
 use Rattle.go_exprs_variables.proofs.Public.{All, all_new, all_of, both_none, default_suits, each, keeps_type, length_new, new_part, news, news_each}
 use Rattle.go_stmts_variables.specs.Frames.{FramesStand}
 use Rattle.go_stmts_variables.specs.Rules.{given_type, Targets, ranged_type}
-use Rattle.go_stmts_variables.specs.Statements.{tree_in, found_in, frame_in, Tagged, AllTagged, is_typeless}
+use Rattle.go_stmts_variables.specs.Statements.{tree_in, found_in, frame_in, Tagged, AllTagged}
+use Rattle.go_stmts_variables.specs.Steady.{Keeps, KeepsIf, is_clause, type_taken, number_type, range_type, Steady}
 use Rattle.go_stmts_variables.proofs.Assignments.{fits_front}
+use Rattle.go_stmts_variables.proofs.Basics.{undefaulted_any}
 use Rattle.go_stmts_variables.proofs.Expressions.{Will, will, IsValuePart}
 use Rattle.go_stmts_variables.proofs.Frames.{back_stands}
 use Rattle.go_stmts_variables.proofs.Headers.{begun_plain, loop_new}
-use Rattle.go_stmts_variables.proofs.Left.{reading_rights}
 use Rattle.go_stmts_variables.proofs.Loops.{value_form}
 use Rattle.go_stmts_variables.proofs.Nodes.{Reads, Old, old_rules, old_fits, old_tagged, rule_of, own_none, node_reads}
 use Rattle.go_stmts_variables.proofs.Puts.{Put, IsStatementForm, value_put, puts_rest, node_put}
@@ -39,7 +40,7 @@ use Rattle.go_stmts_variables.proofs.Ranges.{range_kept, target_kept, open_assig
 use Rattle.go_stmts_variables.proofs.Roles.{IsPlainRow, row_parts, row_found, row_behind, any_row, parts_read}
 use Rattle.go_stmts_variables.proofs.Rows.{news_two, reading_stated, statement_put, Stated}
 use Rattle.go_stmts_variables.proofs.Splits.{split_two}
-use Rattle.go_stmts_variables.proofs.Wills.{Gives, take_of, taking_of, will_given, will_default, operand_given, operand_default}
+use Rattle.go_stmts_variables.proofs.Wills.{Gives, take_of, taking_of, assignable_suits, kept_suits, will_as, will_default, operand_given, operand_default}
 
 -- ---- what the value of a range clause takes
 
@@ -66,6 +67,10 @@ operand_is ts x ys =
     by : (b : Bool) → (if b then type_or_default (number_target ts) else takes default) ≡ takes (if b then take_of (number_target ts) else default)
     by true = taking_of (number_target ts)
     by false = refl
+
+number_constant : (z : Stands) → is_open_number z ≡ true → is_constant z ≡ true
+number_constant (sort.OpenConstant c) e = refl
+number_constant z e = cc
 
 module _ (w : Standins) where
   range_form : (d : Bool) (n : ℕ) → IsStatementForm w (form.Range d n)
@@ -98,20 +103,26 @@ module _ (w : Standins) where
     fits_default : is_open_number (sort_of x) ≡ false → Fits w false (given default x)
     fits_default e = subst (λ b. Fits w false (given (if b then take_of (number_target ts) else default) x)) e fits
 
-    constant_will : Fits w false (given default x) → is_constant (sort_of x) ≡ true → (o : Option OpenKind) → open_kind (sort_of x) ≡ o → Will w rights x
-    constant_will d c None e = will_default w rights x (λ o. let never : false ≡ true = sym (ap is_some e) ∙ o in cc) d
-    constant_will d c (Some k) e = will (variables.takes (default_type k) k e (default_suits rights k) (λ n. let never : false ≡ true = sym n ∙ c in cc) (subst (λ o. Fits w false (defaulted o x)) e d))
+    -- by right sides by which the type that a number takes is the same
+    module _ (r : Rights) where
+      constant_will : Fits w false (given default x) → is_constant (sort_of x) ≡ true → (o : Option OpenKind) → open_kind (sort_of x) ≡ o → Will w r x
+      constant_will d c None e = will_default w r x (λ o. let never : false ≡ true = sym (ap is_some e) ∙ o in cc) d
+      constant_will d c (Some k) e = will (variables.takes (default_type k) k e (default_suits r k) (λ n. let never : false ≡ true = sym n ∙ c in cc) (subst (λ o. Fits w false (defaulted o x)) e d))
 
-    other_will : is_open_number (sort_of x) ≡ false → (c : Bool) → is_constant (sort_of x) ≡ c → Will w rights x
-    other_will n true c = constant_will (fits_default n) c (open_kind (sort_of x)) refl
-    other_will n false c = will_default w rights x (λ o. default_assigned rights i j ts ts x x same o c n rule) (fits_default n)
+      number_will : is_open_number (sort_of x) ≡ true → (o : Option TypeTree) → Keeps r rights (type_taken (takes (take_of o))) → Gives w rights o x → Will w r x
+      number_will e None k g = constant_will g.fits (number_constant (sort_of x) e) (open_kind (sort_of x)) refl
+      number_will e (Some t) k g = will_as w r t x (kept_suits w r rights t x k (assignable_suits w rights t x g.rule)) g.fits
 
-    pub range_will : Will w rights x
-    range_will = by (is_open_number (sort_of x)) refl
-      where
-        by : (b : Bool) → is_open_number (sort_of x) ≡ b → Will w rights x
-        by true e = will_given w rights (number_target ts) x (gives e)
-        by false e = other_will e (is_constant (sort_of x)) refl
+      other_will : is_open_number (sort_of x) ≡ false → (c : Bool) → is_constant (sort_of x) ≡ c → Will w r x
+      other_will n true c = constant_will (fits_default n) c (open_kind (sort_of x)) refl
+      other_will n false c = will_default w r x (λ o. undefaulted_any rights r x (default_assigned rights i j ts ts x x same o c n rule)) (fits_default n)
+
+      pub range_will : Keeps r rights (type_taken (takes (range_take ts x))) → Will w r x
+      range_will keeps = by (is_open_number (sort_of x)) refl
+        where
+          by : (b : Bool) → is_open_number (sort_of x) ≡ b → Will w r x
+          by true e = number_will e (number_target ts) (subst (λ b. Keeps r rights (type_taken (takes (if b then take_of (number_target ts) else default)))) e keeps) (gives e)
+          by false e = other_will e (is_constant (sort_of x)) refl
 
     pub range_operand : IsValuePart w x → Operand rights (ranged_type ts x) x (begun w false x)
     range_operand v = by (is_open_number (sort_of x)) refl
@@ -143,26 +154,28 @@ module _ (w : Standins) where
 
   -- ---- headers
 
-  -- what is read of a header that goes over the value x
-  pub record RangeRead (f g : Frame) (hd : Tree) (targets : List Part) (x : Part) : Type 0 where
+  -- what is read of a header that goes over the value x, and is judged by these right sides
+  pub record RangeRead (f g : Frame) (rights : Rights) (hd : Tree) (targets : List Part) (x : Part) : Type 0 where
     pub reads : Reads w f g value hd
     pub value : IsValuePart w x
     pub puts : All (Put w rests) targets
-    pub kept : Targets (rights_of f) targets (all_new w targets)
+    pub kept : Targets rights targets (all_new w targets)
 
   pub record RangeHead (f : Frame) (hd : Tree) : Type 0 where
+    pub goes : is_clause (kind_of hd) ≡ false
     pub defines : Bool
     pub targets : List Part
     pub x : Part
     pub flat : loop_header (Some (tree_in (reading f value hd))) ≡ each targets ++ Some x ∷ []
     pub form : loop_form (Some (tree_in (reading f value hd))) ≡ form.Range defines (length targets)
     pub same : (rights : Rights) → Targets rights targets targets
-    pub read : (g : Frame) (i j : ℕ) → FramesStand w f g → no_rule_fails (found_in (reading f value hd)) ≡ true → range_assigned (rights_of f) i j targets x (range_types (rights_of f) x) ≡ [] → Fits w false (given (range_take targets x) x)
-        → targets_failing (rights_of f) defines targets ≡ [] → All (Fits w false) targets → RangeRead f g hd targets x
+    pub read : (g : Frame) (rights : Rights) (i j : ℕ) → FramesStand w f g → no_rule_fails (found_in (reading f value hd)) ≡ true → range_assigned rights i j targets x (range_types rights x) ≡ []
+        → Fits w false (given (range_take targets x) x) → Keeps (rights_of f) rights (type_taken (takes (range_take targets x))) → targets_failing rights defines targets ≡ [] → All (Fits w false) targets
+        → RangeRead f g rights hd targets x
 
   -- ---- the loop
 
-  module _ (f g : Frame) (h : Hint) (i j : ℕ) (hd b : Tree) (head : RangeHead f hd) (sb : Stated w b) (typeless_head : is_typeless hd ≡ true) (typeless : is_typeless b ≡ true) (st : FramesStand w f g) where
+  module _ (f g : Frame) (h : Hint) (i j : ℕ) (hd b : Tree) (head : RangeHead f hd) (sb : Stated w b) (st : FramesStand w f g) where
     abbrev ps : Trees
     ps = more hd (more b none)
 
@@ -199,9 +212,9 @@ module _ (w : Standins) where
         ∙ split_two F (all_new w ts) (begun w false head.x ∷ begun w false b' ∷ [])
 
     pub range_reads : no_rule_fails (found_in (reading f h (node kind.For i j (more hd (more b none))))) ≡ true → Fits w false (tree_in (reading f h (node kind.For i j (more hd (more b none)))))
-        → Tagged (tree_in (reading f h (node kind.For i j (more hd (more b none))))) → Reads w f g h (node kind.For i j (more hd (more b none)))
+        → Tagged (tree_in (reading f h (node kind.For i j (more hd (more b none))))) → Steady f h (node kind.For i j (more hd (more b none))) → Reads w f g h (node kind.For i j (more hd (more b none)))
     unfolding range_old
-    range_reads good fits tags =
+    range_reads good fits tags steady =
         let d = head.defines in
         let x = head.x in
         let n = length ts in
@@ -209,19 +222,22 @@ module _ (w : Standins) where
         let k = range_take ts x in
         let ks : List Taking = rest n ++ takes k ∷ [] in
         let S = row_behind f ps in
-        let R = rights_of f in
-        let same : rights_of S ≡ R = reading_rights middle value b typeless ∙ reading_rights f value hd typeless_head in
+        let R = rights_of S in
         let own = old_rules w f h kind.For i j ps refl range_old good in
         let taking_is : taking S kind.For fm ys ≡ ks = ap (λ t. rest n ++ t ∷ []) (operand_is ts x (Some b' ∷ [])) in
         let all = subst (λ z. AllFit w false (row (all_given z ys))) taking_is (old_fits w f h kind.For i j ps refl range_old own.1 fits) in
         let tagged = front_tagged ts (takes k ∷ []) (Some x ∷ Some b' ∷ []) (subst (λ z. AllTagged (row (all_given z ys))) taking_is (old_tagged w f h kind.For i j ps refl range_old own.1 tags).1) in
         let two = fits_front w ts (takes k ∷ []) (Some x ∷ Some b' ∷ []) all in
         let fails : range_failing R i j d ts (x ∷ b' ∷ []) ≡ [] =
-        ap (λ q. range_failing q i j d ts (x ∷ b' ∷ [])) (sym same) ∙ sym (split_two (range_failing (rights_of S) i j d) ts (x ∷ b' ∷ [])) ∙ rule_of w f h kind.For i j ps refl S fm ys refl own.1 in
+        sym (split_two (range_failing R i j d) ts (x ∷ b' ∷ [])) ∙ rule_of w f h kind.For i j ps refl S fm ys refl own.1 in
         let both = both_none (targets_failing R d ts) (range_assigned R i j ts x (range_types R x)) fails in
         let found = all_of (found_in (reading f value hd)) (row_found middle (more b none)) own.0 in
-        let hr = head.read g i j st found.0 both.1 two.1.0 both.0 two.0 in
-        let r = parts_read w f g ps ((λ g st good. (head.read g i j st good both.1 two.1.0 both.0 two.0).reads), ((λ g st good. sb.reads middle g value st good two.1.1.0 tagged.1.0), tt)) st own.0 in
+        let takes_is : range_type (tree_in (reading f value hd)) ≡ type_taken (takes k) =
+        ap (λ z. number_type z (loop_header (Some (tree_in (reading f value hd))))) head.form ∙ ap (number_type fm) head.flat ∙ ap type_taken (operand_is ts x []) in
+        let steady_head = subst (λ b. KeepsIf (not b) (rights_of f) R (range_type (tree_in (reading f value hd)))) head.goes steady.0 in
+        let keeps = subst (Keeps (rights_of f) R) takes_is steady_head in
+        let hr = head.read g R i j st found.0 both.1 two.1.0 keeps both.0 two.0 in
+        let r = parts_read w f g ps ((λ g st good. (head.read g R i j st good both.1 two.1.0 keeps both.0 two.0).reads), ((λ g st good. sb.reads middle g value st good two.1.1.0 tagged.1.0 steady.1.1.0), tt)) st own.0 in
         let T = row_behind g (all_with_variables w ps) in
         let op = range_operand R i j ts x (head.same R) both.1 two.1.0 hr.value in
         let us = all_new w ts in
@@ -246,7 +262,7 @@ module _ (w : Standins) where
               ∙ append_assoc (news w (each ts)) (Some z ∷ []) (Some (begun w false b') ∷ []) ∙ sym (news_two w (each ts) (Some x ∷ Some b' ∷ []));
           form_is = ap first_loop_form r.parts ∙ form_same (Some hd') ∙ head.form;
           good = r.good;
-          rule = own_none w g h kind.For i j (all_with_variables w ps) refl T fm (news w ys) (ap (λ q. split_at n (range_failing q i j d) (news w ys)) (r.frame.rights ∙ same) ∙ split_new (range_failing R i j d) ∙ now);
+          rule = own_none w g h kind.For i j (all_with_variables w ps) refl T fm (news w ys) (ap (λ q. split_at n (range_failing q i j d) (news w ys)) r.frame.rights ∙ split_new (range_failing R i j d) ∙ now);
           node = ap (made fm i j sort.Nothing (news w ys)) given_now
               ∙ node_put w fm i j ks ys (range_form d n) (puts_rest w ts (takes k ∷ []) (Some x ∷ Some b' ∷ []) hr.puts (value_put w k x hr.value.ready two.1.0, (statement_put w b' (reading_stated middle value b sb.kind) two.1.1.0, tt)))
               ∙ ap (λ q. begun w false (made fm i j sort.Nothing ys (all_given q ys))) (sym taking_is);

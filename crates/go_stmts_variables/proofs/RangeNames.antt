@@ -7,6 +7,7 @@ use Rattle.go_grammar.specs.declared.kind.Place.{Place}
 use Rattle.go_grammar.specs.Grammar.{any}
 use Rattle.go_grammar.specs.Trees.{Tree, Trees, node, none, more}
 use Rattle.go_types.specs.Trees.{TypeTree}
+use Rattle.go_types.specs.Relations.{Rights}
 use Rattle.go_typed.specs.declared.form.Form.{Form}
 use Rattle.go_typed.specs.declared.form.Form.TheVariants as form
 use Rattle.go_typed.specs.Trees.{Label, typed, Typeds, sort_of, form_of, label_of, parts_of, list_of, row}
@@ -30,6 +31,7 @@ use Rattle.go_exprs_variables.proofs.Public.{All, all_new, all_of, calls_kept, e
 use Rattle.go_stmts_variables.specs.Frames.{FramesStand}
 use Rattle.go_stmts_variables.specs.Rules.{Targets}
 use Rattle.go_stmts_variables.specs.Statements.{tree_in, found_in, frame_in}
+use Rattle.go_stmts_variables.specs.Steady.{Keeps, type_taken}
 use Rattle.go_stmts_variables.proofs.Declared.{leaf_put, leaf_begun}
 use Rattle.go_stmts_variables.proofs.Defines.{name_faults, new_are_names, name_operands, taken_form}
 use Rattle.go_stmts_variables.proofs.Expressions.{IsValuePart}
@@ -40,7 +42,7 @@ use Rattle.go_stmts_variables.proofs.Names.{IsName, name_label, name_held, name_
 use Rattle.go_stmts_variables.proofs.Nodes.{Old, old_closed, old_rules, sound_node, node_reads}
 use Rattle.go_stmts_variables.proofs.Operates.{same_rights}
 use Rattle.go_stmts_variables.proofs.Puts.{Put, begun_as, varies_taken}
-use Rattle.go_stmts_variables.proofs.Ranges.{not_none, same_range_types, open_number_types}
+use Rattle.go_stmts_variables.proofs.Ranges.{same_range_types, open_number_types}
 use Rattle.go_stmts_variables.proofs.RangeHeads.{nothing_wrong, count_front, one_less, front_count, self_targets, unheld_one}
 use Rattle.go_stmts_variables.proofs.RangeLoops.{range_take, RangeHead, RangeRead, range_will}
 use Rattle.go_stmts_variables.proofs.Roles.{value_reads, varies_row, row_begun}
@@ -261,15 +263,15 @@ module _ (w : Standins) where
             let n = open_number_types (rights_of f) v m in
             first_name ns n.0 (range_types (rights_of f) v) n.2 n.1 (subst (λ b. Fits w false (given (if b then take_of (number_target ts) else default) v)) m fits)
 
-    defining_reads : (g : Frame) → ExpressionsTyped → Proper w q → (i j : ℕ) → FramesStand w f g → no_rule_fails (found_in (reading f value hd)) ≡ true
-        → range_assigned (rights_of f) i j ts v (range_types (rights_of f) v) ≡ [] → Fits w false (given (range_take ts v) v) → RangeRead w f g hd ts v
+    defining_reads : (g : Frame) → ExpressionsTyped → Proper w q → (Q : Rights) (i j : ℕ) → FramesStand w f g → no_rule_fails (found_in (reading f value hd)) ≡ true
+        → range_assigned Q i j ts v (range_types Q v) ≡ [] → Fits w false (given (range_take ts v) v) → Keeps (rights_of f) Q (type_taken (takes (range_take ts v))) → RangeRead w f g Q hd ts v
     unfolding defining_old
-    defining_reads g law px i j st good rule fits =
+    defining_reads g law px Q i j st good rule fits keeps =
         let R = rights_of f in
         let fm = form.Held kind.DefiningRange in
         let own = old_rules w f value kind.DefiningRange a b ps refl defining_old good in
         let found = all_of (names_found f qs) (found_in (reading f value q)) own.0 in
-        let u = value_reads w law f g value r q shape refl st px found.1 (range_will w R i j ts v (self_targets R ts) rule fits) in
+        let u = value_reads w law f g value r q shape refl st px found.1 (range_will w Q i j ts v (self_targets Q ts) rule fits R keeps) in
         let given_facts = all_given_names f g ks ns (elements_are (length ns) (range_types R v)) st (all_names w f qs named free) in
         let new_qs = all_with_variables w qs in
         let new_q = with_variables w q in
@@ -279,7 +281,7 @@ module _ (w : Standins) where
         let named_now = new_are_names w qs named in
         let names_now : names_of w g new_qs ≡ ns = same_names w f g qs st named free in
         let new_row : news w ys ≡ each ns ++ Some z ∷ [] = news_two w (each ns) (Some v ∷ []) ∙ ap (λ n. n ++ Some z ∷ []) (news_each w ns ∙ ap each (names_begun w f ns (all_names w f qs named free))) in
-        let types_now : range_types R z ≡ range_types R v = same_range_types R v z (operand_default w R v u.value (default_fits fits)) (not_none R i j ts v rule) in
+        let types_now : range_types R z ≡ range_types R v = same_range_types R v z (operand_default w R v u.value (default_fits fits)) in
         let rights_now : rights_of T ≡ R = u.reads.frame.rights ∙ same_rights w f r q shape in
         let taking_now : taking T kind.DefiningRange fm (news w ys) ≡ ks =
         ap (taking T kind.DefiningRange fm) new_row ∙ taking_by T z ∙ ap (λ q. elements_stand (length ns) (range_types q z)) rights_now ∙ ap (elements_stand (length ns)) types_now in
@@ -318,16 +320,17 @@ module _ (w : Standins) where
               });
           value = u.value;
           puts = given_puts ts given_facts;
-          kept = subst (Targets R ts) (sym (given_new ts given_facts)) (self_targets R ts);
+          kept = subst (Targets Q ts) (sym (given_new ts given_facts)) (self_targets Q ts);
         }
 
     pub range_defining : ExpressionsTyped → Proper w q → RangeHead w f (node kind.DefiningRange a b (more (node kind.NewNames c d (more (node kind.ExpressionList e k qs) none)) (more q none)))
     range_defining law px = record {
+      goes = refl;
       defines = true;
       targets = ts;
       x = v;
       flat = ap (λ z. loop_header (Some z)) defining_is ∙ list_row (each ts ++ Some v ∷ []);
       form = ap (λ z. loop_form (Some z)) defining_is ∙ ap (form.Range true) (front_count ts v);
       same = λ q. self_targets q ts;
-      read = λ g i j st good rule fits ok tf. defining_reads g law px i j st good rule fits;
+      read = λ g Q i j st good rule fits keeps ok tf. defining_reads g law px Q i j st good rule fits keeps;
     }

@@ -12,6 +12,7 @@ use Rattle.go_typed.specs.declared.sort.Untyped.TheVariants as untyped
 use Rattle.go_typed.specs.Trees as sort
 use Rattle.go_constants.specs.declared.values.Const.TheVariants as const
 use Rattle.go_exprs_rules.specs.declared.family.OpenKind.{OpenKind}
+use Rattle.go_exprs_rules.specs.declared.family.OpenKind.TheVariants as untyped_kind
 use Rattle.go_exprs_rules.specs.declared.fault.TypeFault.{TypeFault}
 use Rattle.go_exprs_rules.specs.Faults.{fault_at}
 use Rattle.go_exprs_rules.specs.Settling.{Part, at_part, undefaulted_by, undefaulted}
@@ -76,28 +77,34 @@ module _ (rights : Rights) where
   some_is : (o : Option TypeTree) (t u : TypeTree) → Some t ≡ o → o ≡ Some u → t ≡ u
   some_is o t u e f = cc
 
-  by_tests : (b d : Bool) (a c : Stands) → value_type c ≡ value_type a → (form_of_value rights c ≡ form_of_value rights a) ⊎ (form_of_value rights a ≡ None)
-      → ((if b then Some (int ∷ rune ∷ []) else (if d then number_types (value_type a) else element_types (element_of (form_of_value rights a)))) ≡ None → ⊥)
+  -- values of default types have no elements
+  default_elements : (k : OpenKind) → element_of (form_of_value rights (sort.Value (default_type k))) ≡ None
+  default_elements untyped_kind.Boolean = refl
+  default_elements untyped_kind.Integer = refl
+  default_elements untyped_kind.Rune = refl
+  default_elements untyped_kind.Text = refl
+
+  by_tests : (b d : Bool) (a c : Stands) → value_type c ≡ value_type a → element_of (form_of_value rights c) ≡ element_of (form_of_value rights a)
       → (if b then Some (int ∷ rune ∷ []) else (if d then number_types (value_type c) else element_types (element_of (form_of_value rights c)))) ≡
       (if b then Some (int ∷ rune ∷ []) else (if d then number_types (value_type a) else element_types (element_of (form_of_value rights a))))
-  by_tests true d a c e f n = refl
-  by_tests false true a c e f n = ap number_types e
-  by_tests false false a c e (inl f) n = ap (λ z. element_types (element_of z)) f
-  by_tests false false a c e (inr f) n = absurd (n (ap (λ z. element_types (element_of z)) f))
+  by_tests true d a c e f = refl
+  by_tests false true a c e f = ap number_types e
+  by_tests false false a c e f = ap element_types f
 
-  same_range : (u : Option TypeTree) (a c : Stands) → Stood rights u a c → u ≡ option_map default_type (open_kind a) → (range_in a ≡ None → ⊥) → range_in c ≡ range_in a
-  same_range u a c (as_before v z) e n = refl
-  same_range u a c (in_place v t z) e n = refl
-  same_range u a c (early t z k m f) e n =
+  same_range : (u : Option TypeTree) (a c : Stands) → Stood rights u a c → u ≡ option_map default_type (open_kind a) → range_in c ≡ range_in a
+  same_range u a c (as_before v z) e = refl
+  same_range u a c (in_place v t z) e = refl
+  same_range u a c (early t z k m f) e =
       let same : t ≡ default_type k = some_is (option_map default_type (open_kind z)) t (default_type k) e (ap (option_map default_type) m) in
       ap (λ b. if b then Some (int ∷ rune ∷ []) else (if is_whole rights (sort.Value t) then number_types (Some t) else element_types (element_of (form_of_value rights (sort.Value t)))))
       (text_kept rights (Some t) z (sort.Value t) (early t z k m f))
       ∙ ap (λ b. if is_text rights z then Some (int ∷ rune ∷ []) else (if b then number_types (Some t) else element_types (element_of (form_of_value rights (sort.Value t))))) (whole_kept rights (Some t) z (sort.Value t) (early t z k m f))
-      ∙ by_tests (is_text rights z) (is_whole rights z) z (sort.Value t) (ap Some same ∙ sym (open_value z k m)) (inr (open_form z k m)) n
+      ∙ by_tests (is_text rights z) (is_whole rights z) z (sort.Value t) (ap Some same ∙ sym (open_value z k m))
+      (ap (λ y. element_of (form_of_value rights (sort.Value y))) same ∙ default_elements k ∙ sym (ap element_of (open_form z k m)))
 
   -- what takes its default type has the values that it had
-  pub same_range_types : (x y : Part) → Operand rights (given_type None x) x y → (range_types rights x ≡ None → ⊥) → range_types rights y ≡ range_types rights x
-  same_range_types x y o n = same_range (given_type None x) (sort_of x) (sort_of y) o.stands refl n
+  pub same_range_types : (x y : Part) → Operand rights (given_type None x) x y → range_types rights y ≡ range_types rights x
+  same_range_types x y o = same_range (given_type None x) (sort_of x) (sort_of y) o.stands refl
 
   -- an untyped integer constant has numbers of its default type
   number_types_by : (z : Stands) → is_open_number z ≡ true → (k : OpenKind) × (open_kind z ≡ Some k) × (range_in z ≡ Some (default_type k ∷ int ∷ []))
@@ -109,9 +116,6 @@ module _ (rights : Rights) where
 
   pub open_number_types : (x : Part) → is_open_number (sort_of x) ≡ true → (k : OpenKind) × (open_kind (sort_of x) ≡ Some k) × (range_types rights x ≡ Some (default_type k ∷ int ∷ []))
   open_number_types x e = number_types_by (sort_of x) e
-
-  pub not_none : (i j : ℕ) (ts : List Part) (x : Part) → range_assigned rights i j ts x (range_types rights x) ≡ [] → range_types rights x ≡ None → ⊥
-  not_none i j ts x f e = no_place code.Operands x (sym (ap (range_assigned rights i j ts x) e) ∙ f)
 
   -- ---- what isn't an untyped integer constant
 
@@ -145,11 +149,8 @@ module _ (rights : Rights) where
     assigned_by (Some rs) n o e =
         ap (λ b. if b then numbers_unassigned rights i j us y rs else elements_unassigned rights y us rs) (whole_kept rights (given_type None x) (sort_of x) (sort_of y) o.stands) ∙ values_by (is_whole rights (sort_of x)) rs n o e
 
-    typed_range : Operand rights (given_type None x) x y → range_assigned rights i j ts x (range_types rights x) ≡ [] → range_types rights y ≡ range_types rights x
-    typed_range o e = same_range (given_type None x) (sort_of x) (sort_of y) o.stands refl (not_none i j ts x e)
-
     closed_range : is_open_number (sort_of x) ≡ false → Operand rights (given_type None x) x y → range_assigned rights i j ts x (range_types rights x) ≡ [] → range_assigned rights i j us y (range_types rights y) ≡ []
-    closed_range n o e = ap (range_assigned rights i j us y) (typed_range o e) ∙ assigned_by (range_types rights x) n o e
+    closed_range n o e = ap (range_assigned rights i j us y) (same_range_types x y o) ∙ assigned_by (range_types rights x) n o e
 
     -- ---- an untyped integer constant
 
@@ -260,8 +261,8 @@ module _ (rights : Rights) where
 
     ranged : (b : Bool) → is_open_number (sort_of x) ≡ b → Operand rights (if b then given_type (number_target ts) x else given_type None x) x y → range_assigned rights i j ts x (range_types rights x) ≡ []
         → (range_assigned rights i j us y (range_types rights y) ≡ []) × (number_target ts ≡ None → range_types rights y ≡ range_types rights x)
-    ranged true e o f = (open_range e o f, λ n. typed_range (subst (λ q. Operand rights (given_type q x) x y) n o) f)
-    ranged false e o f = (closed_range e o f, λ n. typed_range o f)
+    ranged true e o f = (open_range e o f, λ n. same_range_types x y (subst (λ q. Operand rights (given_type q x) x y) n o))
+    ranged false e o f = (closed_range e o f, λ n. same_range_types x y o)
 
 pub range_kept : RangeKept
 range_kept rights i j defines ts us x y xs ys g o e =

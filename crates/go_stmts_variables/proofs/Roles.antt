@@ -27,12 +27,13 @@ use Rattle.go_exprs_variables.specs.Variables.{Standins, with_variables, all_wit
 use Rattle.go_exprs_variables.proofs.Public.{all_of, begun_by, calls_kept, expression_operand, is_operand, news, not_wanted, of_all}
 use Rattle.go_stmts_variables.specs.Frames.{FramesStand}
 use Rattle.go_stmts_variables.specs.Statements.{tree_in, found_in, frame_in, Tagged}
+use Rattle.go_stmts_variables.specs.Steady.{Steady, PartsSteady}
 use Rattle.go_stmts_variables.proofs.Endings.{Calm}
 use Rattle.go_stmts_variables.proofs.Expressions.{asks, Will, IsValuePart, new_operand, operand_reading, plain_operand, value_typed}
 use Rattle.go_stmts_variables.proofs.Frames.{back_stands, scopes_stand}
 use Rattle.go_stmts_variables.proofs.Nodes.{Reads, Old, old_closed, old_rules, sound_node, node_reads}
 use Rattle.go_stmts_variables.proofs.Truths.{truths}
-use Rattle.go_stmts_variables.proofs.Rows.{after_is, IsStated, reading_stated, calls_put, Stated}
+use Rattle.go_stmts_variables.proofs.Rows.{after_is, IsStated, reading_stated, calls_put, RowSteady, row_steady, Stated}
 
 -- ---- rows of any parts
 
@@ -213,23 +214,24 @@ module _ (w : Standins) where
     pub row : AnyRow f g ps
     pub values : Values rs (row_parts f ps)
 
-  pub roles_read : ExpressionsTyped → (rs : List Role) (f g : Frame) (ps : Trees) → AreRoles rs ps → FramesStand w f g → no_rule_fails (row_found f ps) ≡ true → Awaits rs (row_parts f ps) → RolesRead rs f g ps
-  roles_read law [] f g none e st good a = record { row = record { parts = refl; good = refl; frame = st; calm = tt }; values = tt }
-  roles_read law [] f g (more p ps) e st good a = elim e [ ]
-  roles_read law [] f g (skip ps) e st good a = elim e [ ]
-  roles_read law (a_statement ∷ rs) f g none e st good a = elim e [ ]
-  roles_read law (a_value ∷ rs) f g none e st good a = elim e [ ]
-  roles_read law (a_statement ∷ rs) f g (skip ps) e st good a =
-      let r = roles_read law rs f g ps e st good a in
+  pub roles_read : ExpressionsTyped → (rs : List Role) (f g : Frame) (ps : Trees) → AreRoles rs ps → FramesStand w f g → no_rule_fails (row_found f ps) ≡ true → Awaits rs (row_parts f ps)
+      → RowSteady f ps → RolesRead rs f g ps
+  roles_read law [] f g none e st good a steady = record { row = record { parts = refl; good = refl; frame = st; calm = tt }; values = tt }
+  roles_read law [] f g (more p ps) e st good a steady = elim e [ ]
+  roles_read law [] f g (skip ps) e st good a steady = elim e [ ]
+  roles_read law (a_statement ∷ rs) f g none e st good a steady = elim e [ ]
+  roles_read law (a_value ∷ rs) f g none e st good a steady = elim e [ ]
+  roles_read law (a_statement ∷ rs) f g (skip ps) e st good a steady =
+      let r = roles_read law rs f g ps e st good a steady in
       record { row = record { parts = ap (λ zs. None ∷ zs) r.row.parts; good = r.row.good; frame = r.row.frame; calm = r.row.calm }; values = r.values }
-  roles_read law (a_value ∷ rs) f g (skip ps) e st good a =
-      let r = roles_read law rs f g ps e st good a in
+  roles_read law (a_value ∷ rs) f g (skip ps) e st good a steady =
+      let r = roles_read law rs f g ps e st good a steady in
       record { row = record { parts = ap (λ zs. None ∷ zs) r.row.parts; good = r.row.good; frame = r.row.frame; calm = r.row.calm }; values = r.values }
-  roles_read law (a_statement ∷ rs) f g (more p ps) e st good a =
+  roles_read law (a_statement ∷ rs) f g (more p ps) e st good a steady =
       let both = all_of (found_in (reading f value p)) (row_found (frame_in (reading f value p)) ps) good in
-      let one = e.0.reads f g value st both.0 a.0.0 a.0.1 in
+      let one = e.0.reads f g value st both.0 a.0.0 a.0.1 steady.0 in
       let q = with_variables w p in
-      let rest = roles_read law rs (frame_in (reading f value p)) (frame_in (reading g value q)) ps e.1 one.frame both.1 a.1 in
+      let rest = roles_read law rs (frame_in (reading f value p)) (frame_in (reading g value q)) ps e.1 one.frame both.1 a.1 steady.1 in
       record {
         row = record {
           parts = ap (λ x. Some x ∷ row_parts (frame_in (reading g value q)) (all_with_variables w ps)) one.tree ∙ ap (λ xs. Some (begun w false (tree_in (reading f value p))) ∷ xs) rest.row.parts;
@@ -239,12 +241,12 @@ module _ (w : Standins) where
         };
         values = rest.values;
       }
-  roles_read law (a_value ∷ rs) f g (more p ps) e st good a =
+  roles_read law (a_value ∷ rs) f g (more p ps) e st good a steady =
       let both = all_of (found_in (reading f value p)) (row_found (frame_in (reading f value p)) ps) good in
       let v = value_reads law f g value e.0.0 p e.0.1 refl st e.0.2 both.0 (a.0 f.around.rights) in
       let one = v.reads in
       let q = with_variables w p in
-      let rest = roles_read law rs (frame_in (reading f value p)) (frame_in (reading g value q)) ps e.1 one.frame both.1 a.1 in
+      let rest = roles_read law rs (frame_in (reading f value p)) (frame_in (reading g value q)) ps e.1 one.frame both.1 a.1 steady.1 in
       record {
         row = record {
           parts = ap (λ x. Some x ∷ row_parts (frame_in (reading g value q)) (all_with_variables w ps)) one.tree ∙ ap (λ xs. Some (begun w false (tree_in (reading f value p))) ∷ xs) rest.row.parts;
@@ -332,11 +334,12 @@ module _ (w : Standins) where
         ap tree_in (old_closed w f h k i j ps is.statement holder_old) ∙ sound_node w f h k i j ps is.statement (row_behind f ps) (form.Held k) (row_parts f ps) (is.rule (row_behind f ps) i j (row_parts f ps))
         ∙ ap (λ ks. made (form.Held k) i j sort.Nothing (row_parts f ps) (all_given ks (row_parts f ps))) (is.takes (row_behind f ps) (row_parts f ps))
 
-    pub holder_reads : ExpressionsTyped → (rs : List Role) → AreRoles rs ps → FramesStand w f g → no_rule_fails (found_in (reading f h (node k i j ps))) ≡ true → Awaits rs (row_parts f ps) → HeldReads rs f g h k i j ps
+    pub holder_reads : ExpressionsTyped → (rs : List Role) → AreRoles rs ps → FramesStand w f g → no_rule_fails (found_in (reading f h (node k i j ps))) ≡ true → Awaits rs (row_parts f ps)
+        → Steady f h (node k i j ps) → HeldReads rs f g h k i j ps
     unfolding holder_old
-    holder_reads law rs e st good a =
+    holder_reads law rs e st good a steady =
         let own = old_rules w f h k i j ps is.statement holder_old good in
-        let r = roles_read law rs f g ps e st own.0 a in
+        let r = roles_read law rs f g ps e st own.0 a (row_steady k h ps is.row.enters (λ xs n. is.row.tells h ps xs n) f [] ps (subst (λ s. PartsSteady s k h ps [] ps) (is.begins i f) steady.1)) in
         let ys = row_parts f ps in
         let new = all_with_variables w ps in
         let S = row_behind f ps in

@@ -19,12 +19,13 @@ use Rattle.clone_window.specs.Masses as masses
 use Rattle.go_stmts_defs.specs.Assigning.{rests}
 use Rattle.go_stmts_defs.specs.Frames.{Frame}
 use Rattle.go_stmts_defs.specs.Laying.{told, layout, form_by, loop_form, first_loop_form}
-use Rattle.go_stmts_defs.specs.Reading.{Found, Reading, read, Readings, all_read, after, reading, readings, beginning, entering, is_statement, holding, held_faults, closed}
+use Rattle.go_stmts_defs.specs.Reading.{Found, Reading, read, Readings, all_read, after, reading, readings, beginning, entering, left_out, is_statement, holding, held_faults, closed}
 use Rattle.go_stmts_defs.specs.Rules.{own_faults, built_by}
 use Rattle.go_exprs_variables.specs.Variables.{Standins, ends_at, may_be_constant, node_with, at_hole, put_over, put, all_put, with_variables, all_with_variables, begun, Fits, AllFit, no_rule_fails}
 use Rattle.go_exprs_variables.proofs.Public.{all_new, all_of, each, new_part, news, news_each, of_all}
 use Rattle.go_stmts_variables.specs.Frames.{FramesStand}
 use Rattle.go_stmts_variables.specs.Statements.{tree_in, found_in, frame_in, Tagged, AllTagged}
+use Rattle.go_stmts_variables.specs.Steady.{Steady, PartsSteady}
 use Rattle.go_stmts_variables.proofs.Endings.{AllCalm}
 use Rattle.go_stmts_variables.proofs.Frames.{back_stands}
 use Rattle.go_stmts_variables.proofs.Nodes.{Reads, Old, old_rules, old_fits, old_tagged, node_reads}
@@ -148,7 +149,21 @@ AreStated none = Unit {0}
 AreStated (more p ps) = (is_stated (kind_of p) ≡ true) × AreStated ps
 AreStated (skip ps) = ⊥
 
+-- each is steady where it begins
+abbrev pub RowSteady : Frame → Trees → Type 0
+RowSteady f none = Unit {0}
+RowSteady f (more p ps) = Steady f value p × RowSteady (frame_in (reading f value p)) ps
+RowSteady f (skip ps) = RowSteady f ps
+
 module _ (k : Kind) (h : Hint) (all : Trees) (enter : (xs : Parts) (s : Frame) → entering k xs s ≡ s) (tell : (xs : Parts) (n : Kind) → told k h all xs n ≡ value) where
+  pub row_steady : (f : Frame) (xs : Parts) (ps : Trees) → PartsSteady f k h all xs ps → RowSteady f ps
+  row_steady f xs none s = tt
+  row_steady f xs (skip ps) s = row_steady f (xs ++ left_out (entering k xs f) k ∷ []) ps (subst (λ z. PartsSteady z k h all (xs ++ left_out (entering k xs f) k ∷ []) ps) (enter xs f) s)
+  row_steady f xs (more p ps) s =
+      let one = subst (λ z. Steady z (told k h all xs (kind_of p)) p × PartsSteady (frame_in (reading z (told k h all xs (kind_of p)) p)) k h all (xs ++ Some (tree_in (reading z (told k h all xs (kind_of p)) p)) ∷ []) ps) (enter xs f) s in
+      let two = subst (λ z. Steady f z p × PartsSteady (frame_in (reading f z p)) k h all (xs ++ Some (tree_in (reading f z p)) ∷ []) ps) (tell xs (kind_of p)) one in
+      (two.0, row_steady (frame_in (reading f value p)) (xs ++ Some (tree_in (reading f value p)) ∷ []) ps two.1)
+
   pub row_reads : (f : Frame) (xs : Parts) (fs : Found) (ps : Trees) → AreStated ps → readings f k h all xs fs ps ≡ all_read (xs ++ each (statements_of f ps)) (fs ++ statement_faults f ps) (frame_behind f ps)
   row_reads f xs fs none e = ap (λ z. all_read z fs f) (sym (append-nil xs)) ∙ ap (λ z. all_read (xs ++ []) z f) (sym (append-nil fs))
   row_reads f xs fs (skip ps) e = elim e [ ]
@@ -184,12 +199,13 @@ module _ (w : Standins) where
 
   pub record Stated (p : Tree) : Type 0 where
     pub kind : is_stated (kind_of p) ≡ true
-    pub reads : (f g : Frame) (h : Hint) → FramesStand w f g → no_rule_fails (found_in (reading f h p)) ≡ true → Fits w false (tree_in (reading f h p)) → Tagged (tree_in (reading f h p)) → Reads w f g h p
+    pub reads : (f g : Frame) (h : Hint) → FramesStand w f g → no_rule_fails (found_in (reading f h p)) ≡ true → Fits w false (tree_in (reading f h p)) → Tagged (tree_in (reading f h p)) → Steady f h p
+        → Reads w f g h p
 
   -- a statement whose tags don't matter
   pub stated_by : (p : Tree) → is_stated (kind_of p) ≡ true
       → ((f g : Frame) (h : Hint) → FramesStand w f g → no_rule_fails (found_in (reading f h p)) ≡ true → Fits w false (tree_in (reading f h p)) → Reads w f g h p) → Stated p
-  stated_by p k r = record { kind = k; reads = λ f g h st good fits tags. r f g h st good fits }
+  stated_by p k r = record { kind = k; reads = λ f g h st good fits tags steady. r f g h st good fits }
 
   abbrev pub AllStated : Trees → Type 0
   AllStated none = Unit {0}
@@ -234,14 +250,14 @@ module _ (w : Standins) where
     pub calm : AllCalm w (row (each (statements_of f ps)))
 
   pub statements_read : (f g : Frame) (ps : Trees) → AllStated ps → FramesStand w f g → no_rule_fails (statement_faults f ps) ≡ true → AllFit w false (row (each (statements_of f ps)))
-      → AllTagged (row (each (statements_of f ps))) → RowReads f g ps
-  statements_read f g none s st good fits tags = record { trees = refl; good = refl; frame = st; calm = tt }
-  statements_read f g (skip ps) s st good fits tags = elim s [ ]
-  statements_read f g (more p ps) s st good fits tags =
+      → AllTagged (row (each (statements_of f ps))) → RowSteady f ps → RowReads f g ps
+  statements_read f g none s st good fits tags steady = record { trees = refl; good = refl; frame = st; calm = tt }
+  statements_read f g (skip ps) s st good fits tags steady = elim s [ ]
+  statements_read f g (more p ps) s st good fits tags steady =
       let both = all_of (found_in (reading f value p)) (statement_faults (frame_in (reading f value p)) ps) good in
-      let one = s.0.reads f g value st both.0 fits.0 tags.0 in
+      let one = s.0.reads f g value st both.0 fits.0 tags.0 steady.0 in
       let q = with_variables w p in
-      let rest = statements_read (frame_in (reading f value p)) (frame_in (reading g value q)) ps s.1 one.frame both.1 fits.1 tags.1 in
+      let rest = statements_read (frame_in (reading f value p)) (frame_in (reading g value q)) ps s.1 one.frame both.1 fits.1 tags.1 steady.1 in
       record {
         trees = ap (λ x. x ∷ statements_of (frame_in (reading g value q)) (all_with_variables w ps)) one.tree ∙ ap (λ xs. begun w false (tree_in (reading f value p)) ∷ xs) rest.trees;
         good = of_all (found_in (reading g value q)) (statement_faults (frame_in (reading g value q)) (all_with_variables w ps)) one.failing rest.good;
@@ -283,12 +299,12 @@ module _ (w : Standins) where
     }
 
     pub block_reads : no_rule_fails (found_in (reading f h (node kind.Block i j ps))) ≡ true → Fits w false (tree_in (reading f h (node kind.Block i j ps))) → Tagged (tree_in (reading f h (node kind.Block i j ps)))
-        → Reads w f g h (node kind.Block i j ps)
+        → Steady f h (node kind.Block i j ps) → Reads w f g h (node kind.Block i j ps)
     unfolding block_old
-    block_reads good fits tags =
+    block_reads good fits tags steady =
         let own = old_rules w f h kind.Block i j ps refl block_old good in
         let all = old_fits w f h kind.Block i j ps refl block_old own.1 fits in
-        let r = statements_read f g ps s st own.0 all (old_tagged w f h kind.Block i j ps refl block_old own.1 tags).1 in
+        let r = statements_read f g ps s st own.0 all (old_tagged w f h kind.Block i j ps refl block_old own.1 tags).1 (row_steady kind.Block h ps (λ xs s. refl) (λ xs n. refl) f [] ps steady.1) in
         node_reads w f g h kind.Block i j ps block_old refl refl own.1
         (record {
           parts = each (statements_of g new);
@@ -317,12 +333,12 @@ module _ (w : Standins) where
     }
 
     pub default_reads : no_rule_fails (found_in (reading f h (node kind.Default i j ps))) ≡ true → Fits w false (tree_in (reading f h (node kind.Default i j ps))) → Tagged (tree_in (reading f h (node kind.Default i j ps)))
-        → Reads w f g h (node kind.Default i j ps)
+        → Steady f h (node kind.Default i j ps) → Reads w f g h (node kind.Default i j ps)
     unfolding default_old
-    default_reads good fits tags =
+    default_reads good fits tags steady =
         let own = old_rules w f h kind.Default i j ps refl default_old good in
         let all = old_fits w f h kind.Default i j ps refl default_old own.1 fits in
-        let r = statements_read f g ps s st own.0 all (old_tagged w f h kind.Default i j ps refl default_old own.1 tags).1 in
+        let r = statements_read f g ps s st own.0 all (old_tagged w f h kind.Default i j ps refl default_old own.1 tags).1 (row_steady kind.Default h ps (λ xs s. refl) (λ xs n. refl) f [] ps steady.1) in
         node_reads w f g h kind.Default i j ps default_old refl refl own.1
         (record {
           parts = each (statements_of g new);

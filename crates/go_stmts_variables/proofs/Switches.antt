@@ -12,7 +12,7 @@ use Rattle.go_typed.specs.Trees as sort
 use Rattle.go_exprs_rules.specs.declared.fault.TypeFault.{TypeFault}
 use Rattle.go_exprs_rules.specs.declared.family.OpenKind.{OpenKind}
 use Rattle.go_exprs_rules.specs.Scopes.{Hint, value}
-use Rattle.go_exprs_rules.specs.Settling.{Part, default, given, defaulted, at_part, undefaulted_by, undefaulted}
+use Rattle.go_exprs_rules.specs.Settling.{Part, default, given, defaulted, at_part, undefaulted}
 use Rattle.go_exprs_rules.specs.Sorts.{Stands, is_nil, open_kind, own_type}
 use Rattle.go_exprs_rules.specs.Tables.{Parts, is_held}
 use Rattle.go_stmts_defs.specs.Assigning.{Taking, takes, rests}
@@ -25,7 +25,8 @@ use Rattle.go_exprs_variables.specs.Variables.{Standins, with_variables, all_wit
 use Rattle.go_exprs_variables.proofs.Public.{all_of, each, new_part, news, news_each, no_place, of_all}
 use Rattle.go_stmts_variables.specs.Frames.{FramesStand}
 use Rattle.go_stmts_variables.specs.Statements.{tree_in, found_in, frame_in, TagAt, Tagged, AllTagged}
-use Rattle.go_stmts_variables.proofs.Basics.{same_unrepresented}
+use Rattle.go_stmts_variables.specs.Steady.{ClausesKeep, Steady, PartsSteady}
+use Rattle.go_stmts_variables.proofs.Basics.{undefaulted_any}
 use Rattle.go_stmts_variables.proofs.Branches.{AllStatedIf, condition_roles, second}
 use Rattle.go_stmts_variables.proofs.Clauses.{AllClauses, are_clauses, clauses_read}
 use Rattle.go_stmts_variables.proofs.Conditions.{tag_kept}
@@ -37,8 +38,7 @@ use Rattle.go_stmts_variables.proofs.Nodes.{Reads, Old, old_rules, old_fits, old
 use Rattle.go_stmts_variables.proofs.Puts.{Puts, IsStatementForm, value_put, node_put}
 use Rattle.go_stmts_variables.proofs.Returns.{takes_known}
 use Rattle.go_stmts_variables.proofs.Roles.{Roles, Awaits, Values}
-use Rattle.go_stmts_variables.proofs.Rows.{after_is, AreStated, new_stated, statement_put, statements_of, statement_faults, frame_behind, statements_put}
-use Rattle.go_stmts_variables.proofs.SimpleTrees.{uncovered}
+use Rattle.go_stmts_variables.proofs.Rows.{after_is, AreStated, RowSteady, new_stated, statement_put, statements_of, statement_faults, frame_behind, statements_put}
 use Rattle.go_stmts_variables.proofs.Wills.{will_default, operand_default}
 
 -- ---- the rows of a switch: its header, and clauses behind it, which know the tag
@@ -77,14 +77,24 @@ module _ (h : Hint) (all : Trees) where
       ∙ later_reads (frame_in r) o (Some (tree_in r)) [] (fs ++ found_in r) ps e.1
       ∙ ap (λ z. all_read (o ∷ Some (tree_in r) ∷ ss) z (frame_behind (frame_in r) ps)) (append_assoc fs (found_in r) gs)
 
--- ---- default types
+  -- each is steady where it begins
+  later_steady : (f : Frame) (x y : Option Part) (xs : Parts) (ps : Trees) → AreStated ps → PartsSteady f kind.Switch h all (x ∷ y ∷ xs) ps → RowSteady f ps
+  later_steady f x y xs none e s = tt
+  later_steady f x y xs (skip ps) e s = elim e [ ]
+  later_steady f x y xs (more p ps) e s = (s.0, later_steady (frame_in (reading f value p)) x y (xs ++ Some (tree_in (reading f value p)) ∷ []) ps e.1 s.1)
 
-pub undefaulted_any : (r q : Rights) (x : Part) → undefaulted r x ≡ [] → undefaulted q x ≡ []
-undefaulted_any r q x e = by (open_kind (sort_of x)) e
-  where
-    by : (o : Option OpenKind) → undefaulted_by r o x ≡ [] → undefaulted_by q o x ≡ []
-    by None e = refl
-    by (Some k) e = same_unrepresented k q r x ∙ e
+  switch_steady : (f : Frame) (o : Option Part) (ps : Trees) → AreStated ps → PartsSteady f kind.Switch h all (o ∷ []) ps → RowSteady (tagged o f) ps
+  switch_steady f o none e s = tt
+  switch_steady f o (skip ps) e s = elim e [ ]
+  switch_steady f o (more p ps) e s = (s.0, later_steady (frame_in (reading (tagged o f) value p)) o (Some (tree_in (reading (tagged o f) value p))) [] ps e.1 s.1)
+
+-- a truth value is one by any right sides
+truths_keep : (f : Frame) (ps : Trees) → ClausesKeep (Some boolean) f ps
+truths_keep f none = tt
+truths_keep f (more p ps) = (refl, truths_keep (frame_in (reading f value p)) ps)
+truths_keep f (skip ps) = truths_keep f ps
+
+-- ---- default types
 
 no_nil : (b : Bool) (x : Part) (fs : List TypeFault) → (if b then at_part code.Operands x else fs) ≡ [] → fs ≡ []
 no_nil true x fs e = absurd (no_place code.Operands x e)
@@ -234,7 +244,7 @@ module _ (w : Standins) where
   -- ---- a switch with a header
 
   module _ (f g : Frame) (h : Hint) (i j : ℕ) (hd : Tree) (cs : Trees) (hf : Header w header_parts condition_roles f hd)
-      (same : tag_part (Some (tree_in (reading f value hd))) ≡ second (header_parts (Some (tree_in (reading f value hd))))) (s : AllClauses w false cs) (st : FramesStand w f g) where
+      (same : tag_part (Some (tree_in (reading f value hd))) ≡ second (header_parts (Some (tree_in (reading f value hd))))) (s : AllClauses w cs) (st : FramesStand w f g) where
     abbrev hd' : Part
     hd' = tree_in (reading f value hd)
 
@@ -257,7 +267,7 @@ module _ (w : Standins) where
       behind = switch_behind (Some hd') middle cs;
       form = form.Switch;
       laid = pr.first ∷ pr.tag ∷ each xs;
-      is = after_is (reading f value hd) (λ x gs t. readings t kind.Switch h (more hd cs) (Some x ∷ []) gs cs) ∙ switch_rows h (more hd cs) middle (Some hd') (found_in (reading f value hd)) cs (are_clauses w false cs s);
+      is = after_is (reading f value hd) (λ x gs t. readings t kind.Switch h (more hd cs) (Some x ∷ []) gs cs) ∙ switch_rows h (more hd cs) middle (Some hd') (found_in (reading f value hd)) cs (are_clauses w cs s);
       laid_is = ap (λ z. z ++ each xs) pr.is;
       form_is = refl;
     }
@@ -266,9 +276,9 @@ module _ (w : Standins) where
     tag_there = same ∙ ap second pr.is
 
     pub switch_reads : ExpressionsTyped → no_rule_fails (found_in (reading f h (node kind.Switch i j (more hd cs)))) ≡ true → Fits w false (tree_in (reading f h (node kind.Switch i j (more hd cs))))
-        → Tagged (tree_in (reading f h (node kind.Switch i j (more hd cs)))) → Reads w f g h (node kind.Switch i j (more hd cs))
+        → Tagged (tree_in (reading f h (node kind.Switch i j (more hd cs)))) → Steady f h (node kind.Switch i j (more hd cs)) → Reads w f g h (node kind.Switch i j (more hd cs))
     unfolding switch_old
-    switch_reads law good fits tags =
+    switch_reads law good fits tags steady =
         let ys : Parts = pr.first ∷ pr.tag ∷ each xs in
         let S = switch_behind (Some hd') middle cs in
         let R = rights_of S in
@@ -281,7 +291,7 @@ module _ (w : Standins) where
         let known = judged w tag_takes ys (takes_known w tag_takes ys tt) all in
         let rule : tag_failing R pr.tag ≡ [] = rule_of w f h kind.Switch i j (more hd cs) refl S form.Switch ys known own.1 in
         let found = all_of (found_in (reading f value hd)) (statement_faults F cs) own.0 in
-        let hr = hf.read g st found.0 (pr.awaits three.0 tagged_parts.0 (tag_wills R pr.tag rule three.1)) in
+        let hr = hf.read g st found.0 (pr.awaits three.0 tagged_parts.0 (tag_wills R pr.tag rule three.1)) steady.1.0 in
         let v = pr.values hr.values in
         let kept = tags_kept R pr.tag v three.1 rule in
         let new_hd = with_variables w hd in
@@ -294,7 +304,9 @@ module _ (w : Standins) where
         let stood : Stood (rights_of middle) None F.tag G.tag =
         subst (λ z. Stood (rights_of middle) None z G.tag) (sym tag_old) (subst (λ z. Stood (rights_of middle) None (tag_of pr.tag) z) (sym tag_now) (tag_moved R (rights_of middle) (tag_of pr.tag) (tag_of (new_part w pr.tag)) kept.1)) in
         let inner = with_tag_stands w middle middle' F.tag G.tag stood hr.reads.frame in
-        let rows = clauses_read w false F G cs type.0 (ap own_type tag_old ∙ type.1) (λ e. uncovered e) s inner found.1 three.2 tagged_parts.1 in
+        let has_type : own_type F.tag ≡ Some type.0 = ap own_type tag_old ∙ type.1 in
+        let keeps = subst (λ o. ClausesKeep o F cs) has_type steady.0 in
+        let rows = clauses_read w F G cs type.0 has_type keeps s inner found.1 three.2 tagged_parts.1 (switch_steady h (more hd cs) middle (Some hd') cs (are_clauses w cs s) steady.1.1) in
         let T = switch_behind (Some hd'') middle' new_cs in
         let behind : FramesStand w S T = switch_stands cs (Some hd') (Some hd'') middle middle' hr.reads.frame rows.frame in
         node_reads w f g h kind.Switch i j (more hd cs) switch_old refl refl own.1
@@ -303,20 +315,20 @@ module _ (w : Standins) where
           found = found_in (reading g value new_hd) ++ statement_faults G new_cs;
           behind = T;
           is = after_is (reading g value new_hd) (λ x gs t. readings t kind.Switch h (more new_hd new_cs) (Some x ∷ []) gs new_cs)
-              ∙ switch_rows h (more new_hd new_cs) middle' (Some hd'') (found_in (reading g value new_hd)) new_cs (new_stated w cs (are_clauses w false cs s));
+              ∙ switch_rows h (more new_hd new_cs) middle' (Some hd'') (found_in (reading g value new_hd)) new_cs (new_stated w cs (are_clauses w cs s));
           laid_is = ap (λ z. header_parts (Some z) ++ each (statements_of G new_cs)) hr.reads.tree ∙ ap (λ z. z ++ each (statements_of G new_cs)) (header_new w (Some hd') ∙ ap (news w) pr.is)
               ∙ ap (λ z. new_part w pr.first ∷ new_part w pr.tag ∷ z) (ap each rows.trees ∙ sym (news_each w xs));
           form_is = refl;
           good = of_all (found_in (reading g value new_hd)) (statement_faults G new_cs) hr.reads.failing rows.good;
           rule = own_none w g h kind.Switch i j (more new_hd new_cs) refl T form.Switch (news w ys) (ap (λ q. tag_failing q (new_part w pr.tag)) behind.rights ∙ kept.0);
-          node = node_put w form.Switch i j tag_takes ys switch_form (tag_puts pr.first pr.tag (each xs) pr.stated three.0 v three.1 (statements_put w F cs (are_clauses w false cs s) three.2));
+          node = node_put w form.Switch i j tag_takes ys switch_form (tag_puts pr.first pr.tag (each xs) pr.stated three.0 v three.1 (statements_put w F cs (are_clauses w cs s) three.2));
           frame = back_stands w f g S T st behind;
           calm = tag_calm pr.first pr.tag (each xs) rows.calm;
         })
 
   -- ---- a switch without one
 
-  module _ (f g : Frame) (h : Hint) (i j : ℕ) (cs : Trees) (s : AllClauses w true cs) (st : FramesStand w f g) where
+  module _ (f g : Frame) (h : Hint) (i j : ℕ) (cs : Trees) (s : AllClauses w cs) (st : FramesStand w f g) where
     abbrev B : Frame
     B = tagged None f
 
@@ -330,15 +342,15 @@ module _ (w : Standins) where
       behind = switch_behind None f cs;
       form = form.Switch;
       laid = None ∷ None ∷ each zs;
-      is = switch_rows h (skip cs) f None [] cs (are_clauses w true cs s);
+      is = switch_rows h (skip cs) f None [] cs (are_clauses w cs s);
       laid_is = refl;
       form_is = refl;
     }
 
     pub bare_switch : no_rule_fails (found_in (reading f h (node kind.Switch i j (skip cs)))) ≡ true → Fits w false (tree_in (reading f h (node kind.Switch i j (skip cs))))
-        → Tagged (tree_in (reading f h (node kind.Switch i j (skip cs)))) → Reads w f g h (node kind.Switch i j (skip cs))
+        → Tagged (tree_in (reading f h (node kind.Switch i j (skip cs)))) → Steady f h (node kind.Switch i j (skip cs)) → Reads w f g h (node kind.Switch i j (skip cs))
     unfolding bare_old
-    bare_switch good fits tags =
+    bare_switch good fits tags steady =
         let ys : Parts = None ∷ None ∷ each zs in
         let S = switch_behind None f cs in
         let own = old_rules w f h kind.Switch i j (skip cs) refl bare_old good in
@@ -347,7 +359,7 @@ module _ (w : Standins) where
         let new_cs = all_with_variables w cs in
         let C = tagged None g in
         let inner = with_tag_stands w f g (sort.Value boolean) (sort.Value boolean) (as_before None (sort.Value boolean)) st in
-        let rows = clauses_read w true B C cs boolean refl (λ e. refl) s inner own.0 all tagged_parts in
+        let rows = clauses_read w B C cs boolean refl (truths_keep B cs) s inner own.0 all tagged_parts (switch_steady h (skip cs) f None cs (are_clauses w cs s) steady.1) in
         let T = switch_behind None g new_cs in
         let behind : FramesStand w S T = switch_stands cs None None f g st rows.frame in
         node_reads w f g h kind.Switch i j (skip cs) bare_old refl refl own.1
@@ -355,12 +367,12 @@ module _ (w : Standins) where
           parts = None ∷ each (statements_of C new_cs);
           found = statement_faults C new_cs;
           behind = T;
-          is = switch_rows h (skip new_cs) g None [] new_cs (new_stated w cs (are_clauses w true cs s));
+          is = switch_rows h (skip new_cs) g None [] new_cs (new_stated w cs (are_clauses w cs s));
           laid_is = ap (λ z. None ∷ None ∷ z) (ap each rows.trees ∙ sym (news_each w zs));
           form_is = refl;
           good = rows.good;
           rule = own_none w g h kind.Switch i j (skip new_cs) refl T form.Switch (news w ys) refl;
-          node = node_put w form.Switch i j tag_takes ys switch_form (tag_puts None None (each zs) tt tt tt tt (statements_put w B cs (are_clauses w true cs s) all));
+          node = node_put w form.Switch i j tag_takes ys switch_form (tag_puts None None (each zs) tt tt tt tt (statements_put w B cs (are_clauses w cs s) all));
           frame = back_stands w f g S T st behind;
           calm = tag_calm None None (each zs) rows.calm;
         })

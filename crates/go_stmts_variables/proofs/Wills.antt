@@ -9,7 +9,7 @@ use Rattle.go_typed.specs.Trees.{sort_of, row}
 use Rattle.go_typed.specs.Trees as sort
 use Rattle.go_exprs_rules.specs.declared.family.OpenKind.{OpenKind}
 use Rattle.go_exprs_rules.specs.Settling.{Part, settled, Take, default, as_type, given, defaulted, at_part, unrepresented, undefaulted_by, undefaulted, untyped_unassignable, unassignable_by, unassignable}
-use Rattle.go_exprs_rules.specs.Sorts.{Stands, is_open, is_nil, takes_type, open_kind, kind_of_untyped, kind_of_const, default_type, suits}
+use Rattle.go_exprs_rules.specs.Sorts.{Stands, is_family, family_of_open, family_of_type, is_open, is_nil, takes_type, open_kind, kind_of_untyped, kind_of_const, default_type, suits}
 use Rattle.go_stmts_defs.specs.Assigning.{Wanted, takes, type_or_default, called_results, whole_results, unassigned, all_unassigned, assignment_by, assignment_failing, values_take}
 use Rattle.go_stmts_defs.specs.Rules.{all_given}
 use Rattle.go_exprs_variables.specs.Operands.{Operand}
@@ -17,6 +17,8 @@ use Rattle.go_exprs_variables.specs.Variables.{Standins, begun, Fits, AllFit, Wi
 use Rattle.go_exprs_variables.specs.Variables as variables
 use Rattle.go_exprs_variables.proofs.Public.{All, Defaulting, Fitting, all_new, both_none, closed_default, closed_so, default_operand, default_suits, each, keeps_type, no_place, open_default, open_so, operand, passes}
 use Rattle.go_stmts_variables.specs.Rules.{given_type, AllGiven, none_given, spare_given, next_given}
+use Rattle.go_stmts_variables.specs.Steady.{Keeps}
+use Rattle.go_stmts_variables.proofs.Basics.{kept_unrepresented}
 use Rattle.go_stmts_variables.proofs.Expressions.{Will, will, nil_will, IsValuePart, ready_any}
 use Rattle.go_stmts_variables.proofs.Values.{counted}
 
@@ -146,3 +148,9 @@ module _ (w : Standins) (rights : Rights) where
       by None m =
           let c = counted (length ts == length xs) (all_unassigned rights ts xs) i j (sym (ap (assignment_by rights i j ts xs) m) ∙ e) in
           each_gives ts xs (equal_lengths (length ts) (length xs) c.0) c.1 fits
+
+module _ (w : Standins) where
+  -- So it is by right sides by which the type is the same.
+  pub kept_suits : (r q : Rights) (t : TypeTree) (x : Part) → Keeps r q (Some t) → Suits w q t x → Suits w r t x
+  kept_suits r q t x e f k m =
+      let both = f k m in (ap (λ o. is_family (family_of_open k) (family_of_type o)) (sym e) ∙ both.0, sym (kept_unrepresented r q t e x) ∙ both.1)

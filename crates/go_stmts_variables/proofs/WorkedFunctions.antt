@@ -30,7 +30,7 @@ use Rattle.go_stmts_defs.specs.Sentences.{one, two, block}
 use Rattle.go_exprs_variables.specs.Variables.{put}
 use Rattle.go_exprs_variables.specs.WorkedExpressions.{Expression, int8, bytes}
 use Rattle.go_stmts_variables.specs.WorkedFunctions as worked
-use Rattle.go_stmts_variables.specs.WorkedFunctions.{WorkedFunctions, IsFunction, VariedFunction, variable_at, typed_function}
+use Rattle.go_stmts_variables.specs.WorkedFunctions.{WorkedFunctions, IsFunction, VariedBy, VariedFunction, variable_at, typed_function, typed_with_type}
 use Rattle.go_stmts_variables.proofs.Functions.{function_at, function_typed}
 
 case_before : IsFunction worked.case_before
@@ -44,6 +44,18 @@ case_after = record { lexes = lexes_by_test 0 worked.case_after.pieces refl; kin
 case : VariedFunction (variable_at 14 15 1 int) worked.case_before worked.case_after
 unfolding sooner answers is_assignable is_digit_of letter_base encode_utf8
 case = record { before = case_before; after = case_after; tree = refl; good = refl; typed = refl }
+
+declaring_before : IsFunction worked.declaring_before
+unfolding width span begun_by is_white is_letter is_digit is_in_word is_in_run is_exponent is_power is_sign is_x is_b is_o is_digit_of letter_base goes operators punctuation outside_operators keywords general_category value_in general_category_rows encode_utf8
+declaring_before = record { lexes = lexes_by_test 0 worked.declaring_before.pieces refl; kinds = refl; words = refl; tree = refl }
+
+declaring_after : IsFunction worked.declaring_after
+unfolding width span begun_by is_white is_letter is_digit is_in_word is_in_run is_exponent is_power is_sign is_x is_b is_o is_digit_of letter_base goes operators punctuation outside_operators keywords general_category value_in general_category_rows encode_utf8
+declaring_after = record { lexes = lexes_by_test 0 worked.declaring_after.pieces refl; kinds = refl; words = refl; tree = refl }
+
+declaring : VariedBy typed_with_type (variable_at 15 16 1 int) worked.declaring_before worked.declaring_after
+unfolding sooner answers is_assignable is_digit_of letter_base encode_utf8
+declaring = record { before = declaring_before; after = declaring_after; tree = refl; good = refl; typed = refl }
 
 definition_before : IsFunction worked.definition_before
 unfolding width span begun_by is_white is_letter is_digit is_in_word is_in_run is_exponent is_power is_sign is_x is_b is_o is_digit_of letter_base goes operators punctuation outside_operators keywords general_category value_in general_category_rows encode_utf8
@@ -255,6 +267,7 @@ bytes_of_text = record {
 pub worked_functions : WorkedFunctions
 worked_functions = record {
   case = case;
+  declaring = declaring;
   definition = definition;
   shift = shift;
   compared_shifts = compared_shifts;

@@ -4,3 +4,7 @@ pub mod Statements
 pub mod Untyped
 pub mod WorkedFunctions
 pub mod Asked
+pub mod Steady
+pub mod Law
+pub mod Unsteady
+pub mod Switchless

@@ -1,15 +1,16 @@
 -- Worked functions: the text of one, lexed and parsed, the text with the name of a variable in place of a constant, and what is typed of both.
 --
 -- The variable is a parameter, which nothing else names.
-use Rattle.std.specs.Prelude.{◌≡◌, ℕ, true, false, nat_eq, if◌then◌else◌, [], ◌∷◌, map, codes, Option, Some, None, is_some, Result, Ok, Err}
+use Rattle.std.specs.Prelude.{◌≡◌, ℕ, true, false, nat_eq, if◌then◌else◌, [], ◌∷◌, ◌++◌, map, codes, Option, Some, None, is_some, Result, Ok, Err}
 use Rattle.std.specs.Option.{option_map}
 use Rattle.go_grammar.specs.declared.kind.Arithmetic.TheVariants as arithmetic
 use Rattle.go_grammar.specs.declared.kind.Category.TheVariants as category
 use Rattle.go_grammar.specs.declared.kind.Comparison.TheVariants as comparison
 use Rattle.go_grammar.specs.declared.kind.Kind.TheVariants as kind
 use Rattle.go_grammar.specs.declared.kind.Operator.TheVariants as operator
+use Rattle.go_grammar.specs.declared.kind.Sort.TheVariants as declaring
 use Rattle.go_grammar.specs.Reader.{read}
-use Rattle.go_grammar.specs.Trees.{node, none, more, skip}
+use Rattle.go_grammar.specs.Trees.{Tree, node, none, more, skip}
 use Rattle.go_tokens.specs.declared.token.TokenKind.TheVariants as token
 use Rattle.go_tokens.specs.Lexing.{join, tokens, Lexes}
 use Rattle.go_tokens.specs.Tokens.{kinds}
@@ -46,14 +47,21 @@ tree_said (Err e) = None
 abbrev pub typed_function : Expression → Option Part
 typed_function e = tree_said (body_answer (expressions.scope_of e.words) 0 2 (λ n. n) e.tree)
 
+-- The same of a function of three locals, the last of which is a type, the first one behind the right sides around it.
+abbrev pub typed_with_type : Expression → Option Part
+typed_with_type e = tree_said (body_answer (record (expressions.scope_of e.words) { rights = expressions.rights ++ None ∷ [] }) 0 3 (λ n. 5) e.tree)
+
 -- With a variable in place of the constant the function is the new one, no rule fails, and what is typed is what was typed, with the
 -- variable in it.
-pub record VariedFunction (w : Standins) (old new : Expression) : Type 0 where
+pub record VariedBy (typed_of : Expression → Option Part) (w : Standins) (old new : Expression) : Type 0 where
   pub before : IsFunction old
   pub after : IsFunction new
   pub tree : with_variables w old.tree ≡ new.tree
-  pub good : is_some (typed_function new) ≡ true
-  pub typed : typed_function new ≡ option_map (put w false) (typed_function old)
+  pub good : is_some (typed_of new) ≡ true
+  pub typed : typed_of new ≡ option_map (put w false) (typed_of old)
+
+abbrev pub VariedFunction : Standins → Expression → Expression → Type 0
+VariedFunction w old new = VariedBy typed_function w old new
 
 -- ---- the functions
 
@@ -104,6 +112,76 @@ case_after = record {
       (node kind.Parameters 2 9 (more (node kind.Parameter 3 5 (two (name 3) (name 4))) (more (node kind.Parameter 6 8 (two (name 6) (name 7))) none)))
       (skip none)))
       (block 9 18 (more (node kind.Switch 10 17 (two (name 11) (node kind.Case 13 16 (one (node kind.ExpressionList 14 15 (one (name 14))))))) none)));
+}
+
+-- func f(n int, p int) int { switch n { case 1: type T int; return int(T(n)) }; return n }
+abbrev pub converted : Tree
+converted = node kind.Call 22 29 (two (name 22) (node kind.Call 24 28 (two (name 24) (name 26))))
+
+abbrev pub typed_clause : Tree → Tree
+typed_clause x =
+    node kind.FunctionDeclaration 0 34 (two
+    (node kind.Signature 2 10 (more
+    (node kind.Parameters 2 9 (more (node kind.Parameter 3 5 (two (name 3) (name 4))) (more (node kind.Parameter 6 8 (two (name 6) (name 7))) none)))
+    (more (name 9) none)))
+    (block 10 34 (two
+    (node kind.Switch 11 30 (two (name 12) (node kind.Case 14 29 (more (node kind.ExpressionList 15 16 (one x)) (two
+    (node (kind.Declaration declaring.Type) 17 20 (one (node (kind.Specification declaring.Type) 18 20 (one (name 19)))))
+    (node kind.Return 21 29 (one (node kind.ExpressionList 22 29 (one converted)))))))))
+    (node kind.Return 31 33 (one (node kind.ExpressionList 32 33 (one (name 32))))))))
+
+abbrev pub declaring_before : Expression
+declaring_before = record {
+  pieces =
+      codes "func" ∷ blank ∷ codes "f" ∷ codes "(" ∷ codes "n" ∷ blank ∷ codes "int" ∷ codes "," ∷ blank ∷ codes "p" ∷ blank ∷ codes "int" ∷
+      codes ")" ∷ blank ∷ codes "int" ∷ blank ∷ codes "{" ∷ blank ∷ codes "switch" ∷ blank ∷ codes "n" ∷ blank ∷ codes "{" ∷ blank ∷ codes "case" ∷ blank ∷
+      codes "1" ∷ codes ":" ∷ blank ∷ codes "type" ∷ blank ∷ codes "T" ∷ blank ∷ codes "int" ∷ codes ";" ∷ blank ∷ codes "return" ∷ blank ∷ codes "int" ∷
+      codes "(" ∷ codes "T" ∷ codes "(" ∷ codes "n" ∷ codes ")" ∷ codes ")" ∷ blank ∷ codes "}" ∷ codes ";" ∷ blank ∷ codes "return" ∷ blank ∷ codes "n" ∷
+      blank ∷ codes "}" ∷ [];
+  kinds =
+      token.Func ∷ token.Identifier ∷ token.LeftParenthesis ∷ token.Identifier ∷ token.Identifier ∷ token.Comma ∷ token.Identifier ∷
+      token.Identifier ∷ token.RightParenthesis ∷ token.Identifier ∷ token.LeftBrace ∷ token.Switch ∷ token.Identifier ∷ token.LeftBrace ∷ token.Case ∷
+      token.Integer ∷ token.Colon ∷ token.Type ∷ token.Identifier ∷ token.Identifier ∷ token.Semicolon ∷ token.Return ∷ token.Identifier ∷
+      token.LeftParenthesis ∷ token.Identifier ∷ token.LeftParenthesis ∷ token.Identifier ∷ token.RightParenthesis ∷ token.RightParenthesis ∷
+      token.RightBrace ∷ token.Semicolon ∷ token.Return ∷ token.Identifier ∷ token.RightBrace ∷ token.Semicolon ∷ [];
+  words =
+      word (codes "func") ∷ word (codes "f") ∷ word (codes "(") ∷ named (codes "n") (local 0) ∷
+      named (codes "int") (Some (object.Predeclared predeclared.Int)) ∷ word (codes ",") ∷ named (codes "p") (local 1) ∷
+      named (codes "int") (Some (object.Predeclared predeclared.Int)) ∷ word (codes ")") ∷
+      named (codes "int") (Some (object.Predeclared predeclared.Int)) ∷ word (codes "{") ∷ word (codes "switch") ∷ named (codes "n") (local 0) ∷
+      word (codes "{") ∷ word (codes "case") ∷ word (codes "1") ∷ word (codes ":") ∷ word (codes "type") ∷ named (codes "T") (local 2) ∷
+      named (codes "int") (Some (object.Predeclared predeclared.Int)) ∷ word (codes ";") ∷ word (codes "return") ∷
+      named (codes "int") (Some (object.Predeclared predeclared.Int)) ∷ word (codes "(") ∷ named (codes "T") (local 2) ∷ word (codes "(") ∷
+      named (codes "n") (local 0) ∷ word (codes ")") ∷ word (codes ")") ∷ word (codes "}") ∷ word (codes ";") ∷ word (codes "return") ∷
+      named (codes "n") (local 0) ∷ word (codes "}") ∷ [];
+  tree = typed_clause (number 15);
+}
+
+abbrev pub declaring_after : Expression
+declaring_after = record {
+  pieces =
+      codes "func" ∷ blank ∷ codes "f" ∷ codes "(" ∷ codes "n" ∷ blank ∷ codes "int" ∷ codes "," ∷ blank ∷ codes "p" ∷ blank ∷ codes "int" ∷
+      codes ")" ∷ blank ∷ codes "int" ∷ blank ∷ codes "{" ∷ blank ∷ codes "switch" ∷ blank ∷ codes "n" ∷ blank ∷ codes "{" ∷ blank ∷ codes "case" ∷ blank ∷
+      codes "p" ∷ codes ":" ∷ blank ∷ codes "type" ∷ blank ∷ codes "T" ∷ blank ∷ codes "int" ∷ codes ";" ∷ blank ∷ codes "return" ∷ blank ∷ codes "int" ∷
+      codes "(" ∷ codes "T" ∷ codes "(" ∷ codes "n" ∷ codes ")" ∷ codes ")" ∷ blank ∷ codes "}" ∷ codes ";" ∷ blank ∷ codes "return" ∷ blank ∷ codes "n" ∷
+      blank ∷ codes "}" ∷ [];
+  kinds =
+      token.Func ∷ token.Identifier ∷ token.LeftParenthesis ∷ token.Identifier ∷ token.Identifier ∷ token.Comma ∷ token.Identifier ∷
+      token.Identifier ∷ token.RightParenthesis ∷ token.Identifier ∷ token.LeftBrace ∷ token.Switch ∷ token.Identifier ∷ token.LeftBrace ∷ token.Case ∷
+      token.Identifier ∷ token.Colon ∷ token.Type ∷ token.Identifier ∷ token.Identifier ∷ token.Semicolon ∷ token.Return ∷ token.Identifier ∷
+      token.LeftParenthesis ∷ token.Identifier ∷ token.LeftParenthesis ∷ token.Identifier ∷ token.RightParenthesis ∷ token.RightParenthesis ∷
+      token.RightBrace ∷ token.Semicolon ∷ token.Return ∷ token.Identifier ∷ token.RightBrace ∷ token.Semicolon ∷ [];
+  words =
+      word (codes "func") ∷ word (codes "f") ∷ word (codes "(") ∷ named (codes "n") (local 0) ∷
+      named (codes "int") (Some (object.Predeclared predeclared.Int)) ∷ word (codes ",") ∷ named (codes "p") (local 1) ∷
+      named (codes "int") (Some (object.Predeclared predeclared.Int)) ∷ word (codes ")") ∷
+      named (codes "int") (Some (object.Predeclared predeclared.Int)) ∷ word (codes "{") ∷ word (codes "switch") ∷ named (codes "n") (local 0) ∷
+      word (codes "{") ∷ word (codes "case") ∷ named (codes "p") (local 1) ∷ word (codes ":") ∷ word (codes "type") ∷ named (codes "T") (local 2) ∷
+      named (codes "int") (Some (object.Predeclared predeclared.Int)) ∷ word (codes ";") ∷ word (codes "return") ∷
+      named (codes "int") (Some (object.Predeclared predeclared.Int)) ∷ word (codes "(") ∷ named (codes "T") (local 2) ∷ word (codes "(") ∷
+      named (codes "n") (local 0) ∷ word (codes ")") ∷ word (codes ")") ∷ word (codes "}") ∷ word (codes ";") ∷ word (codes "return") ∷
+      named (codes "n") (local 0) ∷ word (codes "}") ∷ [];
+  tree = typed_clause (name 15);
 }
 
 -- func f(p int) int { x := 1; return x }
@@ -456,6 +534,8 @@ bytes_of_text_after = record {
 pub record WorkedFunctions : Type 0 where
   -- a value of a case becomes a variable of the tag's type
   pub case : VariedFunction (variable_at 14 15 1 int) case_before case_after
+  -- so it does in a clause that declares a type
+  pub declaring : VariedBy typed_with_type (variable_at 15 16 1 int) declaring_before declaring_after
   -- `x := 1` takes the default type
   pub definition : VariedFunction (variable_at 10 11 0 int) definition_before definition_after
   -- the left operand of a shift takes the type of the result

@@ -12,7 +12,9 @@
 //!   what clauses know changes at the tag alone;
 //! - cases (`case_failing`): a value of a case is compared in the type of the tag, which it takes; cases that are equal constants are
 //!   accepted, so none becomes wrong. Where a tag has no type, as `fmt.Println` has none, nothing judges a case, so constants in it may be
-//!   out of range until a variable stands beside them: so tags are asked to have types (`Tagged`, with the example `tags_need_types`);
+//!   out of range until a variable stands beside them: so tags are asked to have types (`Tagged`, with the example `tags_need_types`). Cases are
+//!   read in front of their statements and judged behind them: so types that are declared are asked to leave those of tags as they are
+//!   (`Steady`, with the example `tags_need_steady_types`);
 //! - values that are given to variables (`assignment_failing`), in assignments, declarations and returns: the variable has the type that
 //!   the constant took;
 //! - short variable declarations and declarations of variables (`names_take`): `x := 1` takes the default type, which is that of the

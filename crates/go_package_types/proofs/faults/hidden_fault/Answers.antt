@@ -9,7 +9,7 @@ use Rattle.go_declarations.specs.Views.{specification_view}
 use Rattle.go_package_rounds.specs.World.{package_in, outlines_in, specifications_in}
 use Rattle.go_package_rounds.proofs.Public.{element}
 use Rattle.go_package_types.proofs.Faulty.{tells_more, fits_grown, known_grown}
-use Rattle.go_package_types.proofs.Hidden.{hidden_behind, none_behind}
+use Rattle.go_package_types.proofs.Unblocked.{hidden_behind, none_behind}
 use Rattle.go_package_types.proofs.faults.hidden_fault.Goals as goal
 
 pub note_hidden-requires-clause-fits : goal.note_hidden-requires-clause-fits

@@ -11,7 +11,7 @@ use Rattle.go_declarations.specs.Views.{specification_view}
 use Rattle.go_package_rounds.specs.World.{package_in, outlines_in}
 use Rattle.go_package_rounds.proofs.Public.{seen_at}
 use Rattle.go_package_types.specs.Places.{stands}
-use Rattle.go_package_types.proofs.Hidden.{each_hidden, whole_is}
+use Rattle.go_package_types.proofs.Unblocked.{each_hidden, whole_is}
 use Rattle.go_package_types.proofs.Noted.{noted}
 use Rattle.go_package_types.proofs.faults.note_hidden.Goals as goal
 

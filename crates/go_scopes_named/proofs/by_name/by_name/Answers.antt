@@ -1,9 +1,14 @@
-use Rattle.std.proofs.Common.{◌≡◌, ◌∙◌, sym, subst, map}
+use Rattle.std.proofs.Common.{◌≡◌, ◌∙◌, ap, sym, subst, map}
 use Rattle.go_scopes_events.specs.Scopes.{locals_of, AreNested}
 use Rattle.go_scopes_named.specs.Named.{KnowsNamed}
 use Rattle.go_scopes_lookup.specs.Sorted.{all_of}
 use Rattle.go_scopes_lookup.specs.Views.{entry_view, meaning_view}
 use Rattle.go_scopes_named.proofs.by_name.by_name.Goals as goal
+
+pub locals-requires : goal.locals-requires
+locals-requires c = λ n.
+    let all : all_of c.in_ok-sorted.sorted ≡ map entry_view c.args.entries.now = c.in_ok-sorted.ensures.all ∙ c.in_ok-meanings.ensures in
+    subst (λ ms. AreNested (locals_of n ms)) (sym (ap (map meaning_view) c.deref.ensures.value ∙ all)) (c.requires.nested n)
 
 pub returns-clause-named : goal.returns-clause-named
 returns-clause-named c =

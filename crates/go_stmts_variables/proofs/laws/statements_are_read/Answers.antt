@@ -3,4 +3,4 @@ use Rattle.go_stmts_variables.proofs.Law.{statements_read}
 use Rattle.go_stmts_variables.proofs.laws.statements_are_read.Goals as goal
 
 pub returns : goal.returns
-returns c w s t h x shape st proper dec good fits tags = statements_read expressions_are_typed w s t h x shape st proper dec good fits tags
+returns c w s t h x shape st proper dec good fits tags steady = statements_read expressions_are_typed w s t h x shape st proper dec good fits tags steady
