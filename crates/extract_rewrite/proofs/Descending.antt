@@ -8,6 +8,7 @@ use Rattle.go_base.specs.Package.{most_bytes, total_bytes}
 use Rattle.edit_apply.specs.declared.edits.Edit.{Edit}
 use Rattle.edit_apply.specs.Applied.{IsInRange, Descends, AreApplicable, applied}
 use Rattle.extract_rewrite.specs.Apart.{AreApart, AllApart}
+use Rattle.extract_rewrite.specs.Ready.{CanBeDone}
 use Rattle.extract_rewrite.specs.Order.{begins_before, begin_together, put_in, put_all, by_place, from_the_end}
 
 -- ---- what holds of each edit
@@ -30,7 +31,7 @@ all_more : {P Q : Edit → Type 0} → ((e : Edit) → P e → Q e) → (ds : Li
 all_more f [] h = tt
 all_more f (d ∷ ds) h = (f d h.0, all_more f ds h.1)
 
-turned : (e d : Edit) → AreApart e d → AreApart d e
+pub turned : (e d : Edit) → AreApart e d → AreApart d e
 turned e d h s = elim (h (sym s)) [ inl a ↦ inr a | inr b ↦ inl b ]
 
 apart_put : (ds : List Edit) (e : Edit) → AllByRecursion (AreApart e) ds → AllApart ds → AllApart (put_in ds e)
@@ -144,9 +145,8 @@ module _ (files : List FileText) where
   pub placed_follow : (es : List Edit) → AllByRecursion (IsInRange files) es → AllApart es → Follow (by_place es)
   placed_follow es r a = follow (by_place es) (placed_in_range es r) (apart_placed es [] tt (from_nothing es) a) (rises_placed es [] tt)
 
+  pub can_be_done : (es : List Edit) → AllByRecursion (IsInRange files) es → AllApart es → CanBeDone files (from_the_end es)
+  can_be_done es r a = record { ranges = all_reversed (IsInRange files) (by_place es) (placed_in_range es r); descends = descends (by_place es) (placed_follow es r a) }
+
   pub edits_apply : (es : List Edit) → AllByRecursion (IsInRange files) es → AllApart es → total_bytes (applied files (from_the_end es)) ≤ most_bytes → AreApplicable files (from_the_end es)
-  edits_apply es r a small = record {
-    ranges = all_reversed (IsInRange files) (by_place es) (placed_in_range es r);
-    descends = descends (by_place es) (placed_follow es r a);
-    small = small;
-  }
+  edits_apply es r a small = let done = can_be_done es r a in record { ranges = done.ranges; descends = done.descends; small = small }

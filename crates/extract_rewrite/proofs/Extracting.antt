@@ -6,15 +6,16 @@ use Rattle.std.specs.Option.{option_map}
 use Rattle.std.proofs.lemmas.Bool.Decides.{nat_tests}
 use Rattle.std.proofs.lemmas.List.{length-map}
 use Rattle.go_base.specs.declared.bytes.FileText.{FileText}
-use Rattle.go_base.specs.Package.{most_bytes, total_bytes}
+use Rattle.go_base.specs.Package.{IsPackage, most_bytes, total_bytes}
 use Rattle.go_typed.specs.declared.window.Window.{Window}
 use Rattle.go_types.specs.Tables.{type_of}
+use Rattle.go_types.specs.Trees.{TypeTree}
 use Rattle.go_typed.specs.Contents.{FuncContent, content, func_content}
 use Rattle.go_typed.specs.Packages.{PackageView}
-use Rattle.go_package_defs.specs.Checked.{texts_of}
+use Rattle.go_package_defs.specs.Checked.{IsCheckedPackage, texts_of}
 use Rattle.edit_apply.specs.declared.edits.Edit.{Edit}
 use Rattle.edit_apply.specs.Applied.{AreApplicable, applied}
-use Rattle.param_choose.specs.Members.{member_over}
+use Rattle.param_choose.specs.Members.{Member, member_over, template_of}
 use Rattle.escape_check.specs.declared.report.Refusal.{Refusal as FoundRefusal}
 use Rattle.escape_check.specs.Refusals.{refused}
 use Rattle.escape_check.specs.Shown.{refusal_view}
@@ -25,7 +26,7 @@ use Rattle.extract_rewrite.specs.Counts.{counts}
 use Rattle.extract_rewrite.specs.Edits.{edits}
 use Rattle.extract_rewrite.specs.Limits.{IsWithinLimits, PassesLimits}
 use Rattle.extract_rewrite.specs.Reading.{Judges}
-use Rattle.extract_rewrite.specs.Ready.{CanBeDone}
+use Rattle.extract_rewrite.specs.Ready.{CanBeDone, EditsCanBeDone}
 use Rattle.extract_rewrite.specs.Shown.{extracted_shown}
 
 -- ---- a template
@@ -68,6 +69,18 @@ module _ (p : PackageView) (texts : List FileText) (name : List ℕ) (ws : List 
 
   nothing : (r : Option FoundRefusal) → option_map refusal_view r ≡ refused (content p) name ws → r ≡ None → refused (content p) name ws ≡ None
   nothing r e is = sym e ∙ ap (option_map refusal_view) is
+
+  -- the edits may be done one after the other
+  pub done : EditsCanBeDone → IsCheckedPackage p → IsPackage texts → (r : Option FoundRefusal) (x : Extracted) → option_map refusal_view r ≡ refused (content p) name ws → r ≡ None
+      → extraction_of (content p) name ws ≡ Some (extracted_shown x) → CanBeDone texts x.edits
+  done law h package r x e is made = by_template (template_of (content p) ws) refl made
+    where
+      by_template : (o : Option (Member TypeTree)) → template_of (content p) ws ≡ o → extraction_by (content p) name ws o ≡ Some (extracted_shown x) → CanBeDone texts x.edits
+      by_template None there k = absurd cc
+      by_template (Some t) there k =
+          let made_edits : edits (content p) name ws ≡ x.edits = cc in
+          let small : total_bytes (texts_of p) ≤ most_bytes = subst (λ ts. total_bytes ts ≤ most_bytes) (sym same) package.small in
+          subst (CanBeDone texts) made_edits (subst (λ ts. CanBeDone ts (edits (content p) name ws)) same (law p name ws t h small there (nothing r e is)))
 
   pub extracted : (r : Option FoundRefusal) (x : Extracted) → option_map refusal_view r ≡ refused (content p) name ws → r ≡ None → extraction_of (content p) name ws ≡ Some (extracted_shown x)
       → Judges true (applied texts x.edits) → IsExtraction (content p) name ws (extracted_shown x)

@@ -7,7 +7,8 @@ pub mod Taken
 pub mod Examples
 pub mod Calling
 pub mod Limited
-pub mod InOrder
+pub mod Standing
+pub mod Done
 pub mod Sizes
 pub mod CheckedFiles
 pub mod FilesRead

@@ -31,13 +31,13 @@ from_at [] at end h j lt = absurd (omega (arith, lt))
 from_at (t ∷ ts) at end h zero lt = h.0
 from_at (t ∷ ts) at end h (suc j) lt = let rest = from_at ts t.span.end end h.2 j (omega (arith, lt)) in omega (arith, h.0, h.1, rest)
 
-before : (ts : List Token) (at end : ℕ) → AreOrdered at (map span_of ts) end → (i j : ℕ) → i < j → j < length ts → end_in (slice_get ts i) ≤ start_in (slice_get ts j)
+pub before : (ts : List Token) (at end : ℕ) → AreOrdered at (map span_of ts) end → (i j : ℕ) → i < j → j < length ts → end_in (slice_get ts i) ≤ start_in (slice_get ts j)
 before [] at end h i j lt in_list = absurd (omega (arith, in_list))
 before (t ∷ ts) at end h i zero lt in_list = absurd (omega (arith, lt))
 before (t ∷ ts) at end h zero (suc j) lt in_list = from_at ts t.span.end end h.2 j (omega (arith, in_list))
 before (t ∷ ts) at end h (suc i) (suc j) lt in_list = before ts t.span.end end h.2 i j (omega (arith, lt)) (omega (arith, in_list))
 
-forward : (ts : List Token) (at end : ℕ) → AreOrdered at (map span_of ts) end → (i : ℕ) → i < length ts → start_in (slice_get ts i) ≤ end_in (slice_get ts i)
+pub forward : (ts : List Token) (at end : ℕ) → AreOrdered at (map span_of ts) end → (i : ℕ) → i < length ts → start_in (slice_get ts i) ≤ end_in (slice_get ts i)
 forward [] at end h i in_list = absurd (omega (arith, in_list))
 forward (t ∷ ts) at end h zero in_list = h.1
 forward (t ∷ ts) at end h (suc i) in_list = forward ts t.span.end end h.2 i (omega (arith, in_list))
@@ -73,14 +73,14 @@ module _ {T : Type 0} where
   ]
 
   -- the bytes of a member's window, by its file
-  shown : (s : Sources) (file : FileTree) (m : Member T) → slice_get s.files (file_of s m) ≡ Some file → window_bytes s m ≡ units.bytes_of (file_of s m) file.tokens (m.first + m.from) (m.first + m.upto)
+  pub shown : (s : Sources) (file : FileTree) (m : Member T) → slice_get s.files (file_of s m) ≡ Some file → window_bytes s m ≡ units.bytes_of (file_of s m) file.tokens (m.first + m.from) (m.first + m.upto)
   shown s file m there = ap (bytes_in (window_place s m)) there
 
-  ranges : (s : Sources) (file : FileTree) (m n : Member T) → m.first ≡ n.first → m.window.func ≡ n.window.func → StandsIn s file m → StandsIn s file n → tokens.AreApart m n →
+  pub ranges : (s : Sources) (file : FileTree) (m n : Member T) → m.first ≡ n.first → m.window.func ≡ n.window.func → StandsIn s file m → StandsIn s file n → tokens.AreApart m n →
       ((window_bytes s m).end ≤ (window_bytes s n).start) ⊎ ((window_bytes s n).end ≤ (window_bytes s m).start)
   ranges s file m n first same a b apart =
       let l = file.tokens in
-      let order = a.ordered.tokens in
+      let order = a.ordered in
       let own = shown s file m a.there in
       let other = shown s file n b.there in
       let p = a.some in

@@ -1,31 +1,29 @@
--- Whether edits may be done one after the other, as the program tests it.
-use Rattle.std.specs.Prelude.{ℕ, ◌-◌, Bool, true, false, ◌&&◌, ◌||◌, nat_eq, nat_le, nat_lt, List, [], ◌∷◌, length, sum_by, Option, Some, None, slice_get}
+-- Edits that may be done one after the other.
+use Rattle.std.specs.Prelude.{◌≡◌, ℕ, ◌-◌, ◌≤◌, List, length, sum_by, Some, None}
 use Rattle.std.specs.List.{AllByRecursion}
 use Rattle.go_base.specs.declared.bytes.FileText.{FileText}
+use Rattle.go_base.specs.Package.{most_bytes, total_bytes}
+use Rattle.go_types.specs.Trees.{TypeTree}
+use Rattle.go_typed.specs.declared.window.Window.{Window}
+use Rattle.go_typed.specs.Contents.{content}
+use Rattle.go_typed.specs.Packages.{PackageView}
+use Rattle.go_package_defs.specs.Checked.{IsCheckedPackage, texts_of}
 use Rattle.edit_apply.specs.declared.edits.Edit.{Edit}
 use Rattle.edit_apply.specs.Applied.{IsInRange, Descends}
-
--- there is a file, and it has so many bytes
-abbrev pub reaches : Option FileText → ℕ → Bool
-reaches None n = false
-reaches (Some f) n = nat_le n (length f.bytes)
-
-abbrev pub is_in_range : List FileText → Edit → Bool
-is_in_range files e = nat_le e.start e.end && reaches (slice_get files e.file) e.end
-
--- it is an edit of an earlier file, or of the same one and ends at a place or before
-abbrev pub ends_before : ℕ → ℕ → Edit → Bool
-ends_before file start e = nat_lt e.file file || (nat_eq e.file file && nat_le e.end start)
-
--- each one lies in its file, and in front of the one before it
-abbrev pub steps_down : List FileText → ℕ → ℕ → List Edit → Bool
-steps_down files file start [] = true
-steps_down files file start (e ∷ es) = is_in_range files e && ends_before file start e && steps_down files e.file e.start es
+use Rattle.param_choose.specs.Members.{Member, template_of}
+use Rattle.escape_check.specs.Refusals.{refused}
+use Rattle.extract_rewrite.specs.Edits.{edits}
 
 -- The edits lie in their files, and those of one file go from its end to its start and don't overlap.
 pub record CanBeDone (files : List FileText) (es : List Edit) : Type 0 where
   pub ranges : AllByRecursion (IsInRange files) es
   pub descends : Descends es
+
+-- The edits that take windows of a package that type-checks out into a function may be done one after the other, where no code from 3
+-- to 16 applies to the windows.
+abbrev pub EditsCanBeDone : Type 0
+EditsCanBeDone = (p : PackageView) (name : List ℕ) (ws : List Window) (t : Member TypeTree) → IsCheckedPackage p → total_bytes (texts_of p) ≤ most_bytes → template_of (content p) ws ≡ Some t → refused (content p) name ws ≡ None
+    → CanBeDone (texts_of p) (edits (content p) name ws)
 
 -- how many bytes the texts of edits have, and their ranges
 abbrev pub added_bytes : List Edit → ℕ

@@ -1,7 +1,7 @@
 -- Windows of one function, in bytes.
-use Rattle.std.specs.Prelude.{◌≡◌, ℕ, ◌+◌, ◌<◌, ◌≤◌, List, [], ◌∷◌, length, Some, None, slice_get}
+use Rattle.std.specs.Prelude.{◌≡◌, ℕ, ◌+◌, ◌<◌, ◌≤◌, List, [], ◌∷◌, length, map, Some, None, slice_get}
 use Rattle.std.specs.List.{AllByRecursion}
-use Rattle.go_tokens.specs.Tokens.{IsTokenList}
+use Rattle.go_tokens.specs.Tokens.{AreOrdered, span_of}
 use Rattle.go_tree.specs.File.{FileTree}
 use Rattle.go_types.specs.Trees.{TypeTree}
 use Rattle.go_typed.specs.declared.window.Window.{Window}
@@ -12,12 +12,12 @@ use Rattle.escape_check.specs.Refusals.{refused}
 use Rattle.extract_rewrite.specs.Apart.{AreApart}
 use Rattle.extract_rewrite.specs.Edits.{window_edit}
 
--- A member has tokens, and they are tokens of this file, which is that of its function.
+-- A member has tokens, and they are tokens of this file, which is that of its function; those of the file stand in order in its text.
 pub record StandsIn {T : Type 0} (s : Sources) (file : FileTree) (m : Member T) : Type 0 where
   pub some : m.from < m.upto
   pub there : slice_get s.files (file_of s m) ≡ Some file
   pub tokens : m.first + m.upto ≤ length file.tokens.tokens
-  pub ordered : IsTokenList file.tokens
+  pub ordered : AreOrdered 0 (map span_of file.tokens.tokens) (length file.tokens.text)
 
 -- each two of a list, in their order
 abbrev pub EachTwo : {A : Type 0} → (A → A → Type 0) → List A → Type 0

@@ -9,13 +9,12 @@ ghost use Rattle.edit_apply.specs.Applied.{AreApplicable};
 ghost use Rattle.extract_rewrite.specs.Answers.{IsExtraction, IsRefused, limit_refusal};
 ghost use Rattle.escape_check.specs.Shown.{refusal_view};
 ghost use Rattle.extract_rewrite.specs.Extraction.{extraction_of};
-ghost use Rattle.extract_rewrite.specs.Ready.{CanBeDone};
 ghost use Rattle.extract_rewrite.specs.Shown.{AreItsTexts, extract_refusal, extracted_shown};
 
 use crate::error::ExtractError;
 use crate::extracted::{Extracted, taken_out};
+use crate::laws::edits_can_be_done;
 use crate::limits::keeps_limits;
-use crate::ready::can_be_done;
 use edit_apply::Texts;
 use escape_check::refusal::refusal;
 use escape_check::report::Refusal;
@@ -49,21 +48,22 @@ pub fn extract(
     if let Some(refused) = refusal(alloc, checked, members, name)? {
         return Err(ExtractError::Refused(refused));
     }
-    let extracted = allowed(alloc, checked, texts, members, name)?;
-    if keeps_limits(alloc, checked, texts, extracted.edits.as_slice())? {
+    edits_can_be_done();
+    let extracted = unlimited(alloc, checked, texts, members, name)?;
+    if keeps_limits(alloc, checked, texts.all(), extracted.edits.as_slice())? {
         Ok(extracted)
     } else {
         Err(ExtractError::Refused(limit_refusal()))
     }
 }
 
-/// The same of windows to which no lesser code applies, where nothing is asked of the limits.
+/// The same where nothing is asked of the windows and of the limits.
 ///
 /// # Errors
 ///
-/// Want of memory; also where the ranges of windows overlap although no code applies to them.
+/// Want of memory.
 #[tactic(auto, using(crate::proofs::Extracting::template_there))]
-fn allowed(
+fn unlimited(
     alloc: Global,
     checked: &Checked,
     texts: &Texts,
@@ -73,17 +73,11 @@ fn allowed(
     requires texts { AreItsTexts checked.now texts.now }
     requires some { 1 ≤ length members.now }
     requires functions { AllByRecursion (λ w. w.func < length checked.now.functions) members.now }
-    ensures made { IfOk result (λ x. extraction_of (content checked.now) name.now members.now ≡ Some (extracted_shown x)) }
-    ensures done { IfOk result (λ x. CanBeDone texts.now x.edits) }
+    ensures { IfOk result (λ x. extraction_of (content checked.now) name.now members.now ≡ Some (extracted_shown x)) }
 {
-    let extracted = match taken_out(alloc, checked, texts, members, name)? {
-        Some(extracted) => extracted,
+    match taken_out(alloc, checked, texts, members, name)? {
+        Some(extracted) => Ok(extracted),
         None => unreachable!(),
-    };
-    if can_be_done(texts.all(), extracted.edits.as_slice()) {
-        Ok(extracted)
-    } else {
-        Err(Memory)
     }
 }
 

@@ -10,11 +10,13 @@ ghost use Rattle.extract_rewrite.specs.Apart.{AllApart};
 ghost use Rattle.extract_rewrite.specs.Examples.{Examples};
 ghost use Rattle.extract_rewrite.specs.Limits.{AreApartFromOthers};
 ghost use Rattle.extract_rewrite.specs.Order.{from_the_end};
+ghost use Rattle.extract_rewrite.specs.Ready.{EditsCanBeDone};
 ghost use Rattle.extract_rewrite.specs.Renewed.{OtherBytesStay};
 ghost use Rattle.extract_rewrite.specs.Sites.{CallsStandAtWindows, NewFunctionsStand};
 ghost use Rattle.extract_rewrite.specs.Windows.{WindowsOfFunctionsAreApart};
 
 use escape_check::laws::unrefused_windows_are_apart;
+use go_function_places::laws::functions_have_places;
 use go_grammar::laws::one_tree_of_a_file;
 use go_print_laws::laws::{calls_stand, functions_stand};
 use go_tokens::laws::one_lexing;
@@ -25,6 +27,15 @@ pub fn edits_apply()
     ensures { (files : List FileText) (es : List Edit) → AllByRecursion (IsInRange files) es → AllApart es
         → total_bytes (applied files (from_the_end es)) ≤ most_bytes → AreApplicable files (from_the_end es) }
 {}
+
+/// The edits that take windows of a package that type-checks out into a function may be done one after the other, where no lesser code
+/// applies to the windows: they lie in their files and don't overlap.
+pub fn edits_can_be_done()
+    ensures { EditsCanBeDone }
+{
+    functions_have_places();
+    unrefused_windows_are_apart();
+}
 
 /// A file has the same bytes behind edits of ranges that don't overlap as before, but for the ranges, in place of which the texts
 /// stand.

@@ -13,5 +13,4 @@ pub mod laws;
 mod limits;
 pub mod order;
 mod reading;
-mod ready;
 mod size;

@@ -23,14 +23,14 @@ use std::alloc::Global;
 pub(crate) fn keeps_limits(
     alloc: Global,
     checked: &Checked,
-    texts: &Texts,
+    before: &[FileText],
     edits: &[Edit],
 ) -> Result<bool, Memory>
-    requires read { AreRead 0 texts.now checked.now.files }
-    requires edits { CanBeDone texts.now edits.now }
-    ensures { IfOk result (λ b. Judges b (applied texts.now edits.now)) }
+    requires package { IsPackage before.now }
+    requires read { AreRead 0 before.now checked.now.files }
+    requires edits { CanBeDone before.now edits.now }
+    ensures { IfOk result (λ b. Judges b (applied before.now edits.now)) }
 {
-    let before = texts.all();
     if is_too_large(before, edits)? {
         return Ok(false);
     }

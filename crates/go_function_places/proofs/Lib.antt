@@ -1,0 +1,7 @@
+mod Derived
+mod Good
+mod Typings
+mod Readings
+mod Functions
+mod Files
+mod Places
