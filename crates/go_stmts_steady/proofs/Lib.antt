@@ -1,0 +1,4 @@
+mod Local
+mod Swapping
+mod Fixed
+mod Steadying
