@@ -24,7 +24,7 @@ use Rattle.go_exprs_rules.specs.Scopes.{Needed, Hint, value, several, type_place
 use Rattle.go_exprs_rules.specs.Settling.{Part}
 use Rattle.go_exprs_rules.specs.Sorts.{Stands, own_type, open_kind, default_type, retyped}
 use Rattle.go_exprs_rules.specs.Tables.{Parts}
-use Rattle.go_stmts_defs.specs.Assigning.{takes, type_or_default}
+use Rattle.go_stmts_defs.specs.Assigning.{type_or_default}
 use Rattle.go_stmts_defs.specs.Frames.{Frame, Locals, placed}
 use Rattle.go_stmts_defs.specs.Laying.{told, alone_or_value, behind_names, specification_told, first_then, loop_form, loop_header}
 use Rattle.go_stmts_defs.specs.Reading.{opened, tag_in, tag_of, last_of_list, tag_behind}

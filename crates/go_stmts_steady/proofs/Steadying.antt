@@ -20,7 +20,7 @@ use Rattle.go_renumbering.specs.Frames.{RenamedFrames, RenamedReadings}
 use Rattle.go_renumbering.specs.Renumbered.{part_renamed, hint_renamed}
 use Rattle.go_stmts_variables.specs.Statements.{tree_in, frame_in}
 use Rattle.go_stmts_variables.specs.Steady.{Keeps, KeepsIf, ClausesKeep, range_type, SteadyAt, Steady, PartsSteady, declares_type, is_typeless, are_typeless, goes_over}
-use Rattle.go_stmts_steady.specs.Ordered.{Numbers, next, next_at, behind, behind_all, Follows, FollowsAt, HeadTypeless, HeadAt, Ordered, AllOrdered, below, OrderedAreSteady}
+use Rattle.go_stmts_steady.specs.Ordered.{Numbers, next, next_at, behind, behind_all, Follows, FollowsAt, HeadTypeless, HeadAt, Ordered, AllOrdered, OrderedAreSteady}
 use Rattle.go_stmts_steady.proofs.Fixed.{Fixed, avoiding, to_renamed, from_renamed, known_fixed, placed_fixed, told_fixed, tag_fixed, own_fixed, range_fixed, same_underlying}
 use Rattle.go_stmts_steady.proofs.Local.{From, Kept, Alike, alike_self, alike_kept, with_types, moved, NodeAgrees, Agrees, AllAgree, NoFunction, beginning_kept, reading_moves}
 use Rattle.go_stmts_steady.proofs.Swapping.{swap, swap_low, avoid_low, hint_stays}
