@@ -2,3 +2,4 @@ mod Local
 mod Swapping
 mod Fixed
 mod Steadying
+mod Asked

@@ -1,10 +1,11 @@
 //! Laws of statements whose declared types have numbers in order. The functions do nothing: their contracts are the laws.
 
+ghost use Rattle.go_stmts_steady.specs.Asked.{OrderIsMet};
 ghost use Rattle.go_stmts_steady.specs.Ordered.{OrderedAreSteady};
 ghost use Rattle.go_stmts_steady.specs.Read.{OrderedStatementsRead, OrderedBodiesRead};
 
 use go_renumbering::laws::renumbered_statements_are_read_the_same;
-use go_stmts_variables::laws::{bodies_are_read, statements_are_read};
+use go_stmts_variables::laws::{asked_is_met, bodies_are_read, statements_are_read};
 
 /// Where the types that a statement declares have numbers in order, behind those of all types that are known in front of it, they leave the
 /// types of tags as they are.
@@ -28,4 +29,13 @@ pub fn ordered_bodies_are_read()
 {
     renumbered_statements_are_read_the_same();
     bodies_are_read();
+}
+
+/// All that the law on ordered bodies asks holds of a body whose clause declares a type, in front of which five types are known.
+pub fn order_is_met()
+    ensures { OrderIsMet }
+{
+    renumbered_statements_are_read_the_same();
+    bodies_are_read();
+    asked_is_met();
 }
