@@ -1,23 +1,20 @@
 -- Statements in which switches and loops declare no types are steady.
-use Rattle.std.proofs.Common.{◌≡◌, ◌∙◌, ℕ, Bool, true, false, List, ◌∷◌, ◌++◌, [], Option, Some, None, refl, sym, ap}
-use Rattle.std.specs.Prelude.{◌&&◌, not}
+use Rattle.std.proofs.Common.{◌≡◌, ◌∙◌, Bool, true, false, ◌∷◌, ◌++◌, [], Option, Some, None, refl, ap}
+use Rattle.std.specs.Prelude.{◌&&◌}
 use Rattle.go_grammar.specs.declared.kind.Kind.{Kind}
 use Rattle.go_grammar.specs.declared.kind.Kind.TheVariants as kind
 use Rattle.go_grammar.specs.Trees.{Tree, node, Trees, none, more, skip, kind_of}
 use Rattle.go_types.specs.Trees.{TypeTree}
 use Rattle.go_types.specs.Relations.{Rights}
 use Rattle.go_types_relations.specs.Tests.{underlying_of}
-use Rattle.go_typed.specs.declared.form.Form.TheVariants as form
-use Rattle.go_typed.specs.Trees.{typed, sort_of, form_of}
 use Rattle.go_exprs_rules.specs.Scopes.{Hint, value}
-use Rattle.go_exprs_rules.specs.Settling.{Part}
 use Rattle.go_exprs_rules.specs.Sorts.{own_type}
 use Rattle.go_exprs_rules.specs.Tables.{Parts}
 use Rattle.go_stmts_defs.specs.Frames.{Frame, rights_of}
 use Rattle.go_stmts_defs.specs.Laying.{told}
 use Rattle.go_stmts_defs.specs.Reading.{reading, beginning, entering, in_switch, left_out, tag_behind}
 use Rattle.go_stmts_variables.specs.Statements.{tree_in, frame_in}
-use Rattle.go_stmts_variables.specs.Steady.{Keeps, KeepsIf, ClausesKeep, range_type, SteadyAt, Steady, PartsSteady, is_typeless, are_typeless, goes_over, TypelessIf, HeadTypeless, Typeless, AllTypeless, TypelessAreSteady}
+use Rattle.go_stmts_variables.specs.Steady.{Keeps, KeepsIf, ClausesKeep, range_type, SteadyAt, PartsSteady, is_typeless, are_typeless, goes_over, TypelessIf, HeadTypeless, AllTypeless, TypelessAreSteady}
 use Rattle.go_stmts_variables.proofs.Left.{reading_rights}
 
 same_keeps : (r q : Rights) (t : Option TypeTree) → q ≡ r → Keeps r q t

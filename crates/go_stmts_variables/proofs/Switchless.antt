@@ -1,5 +1,5 @@
 -- What is read of a statement without a switch has none, and so no tags without types.
-use Rattle.std.proofs.Common.{◌≡◌, ◌∙◌, ℕ, zero, suc, Bool, true, false, List, [], ◌∷◌, ◌++◌, take, map, Option, Some, None, refl, sym, ap, subst}
+use Rattle.std.proofs.Common.{◌≡◌, ℕ, zero, suc, Bool, true, false, List, [], ◌∷◌, ◌++◌, take, map, Option, Some, None, refl, sym, subst}
 use Rattle.std.specs.Prelude.{◌-◌, ◌&&◌, not, if◌then◌else◌}
 use Rattle.go_grammar.specs.declared.kind.Kind.{Kind}
 use Rattle.go_grammar.specs.declared.kind.Kind.TheVariants as kind
@@ -23,7 +23,7 @@ use Rattle.go_exprs_rules.specs.Tables as tables
 use Rattle.go_exprs_rules.specs.Typing.{typing, typings}
 use Rattle.go_stmts_defs.specs.Assigning.{Taking, takes, stands}
 use Rattle.go_stmts_defs.specs.Frames.{Frame, Locals, declared_type, scope_of}
-use Rattle.go_stmts_defs.specs.Laying.{told, new_or_known, new_form, new_name, type_name, is_values, typed_or_not, specification_parts, names_count, specified_names, all_names, is_group, specifications, header_parts, if_parts, loop_header, for_parts, without_absent, layout, loop_form, first_loop_form}
+use Rattle.go_stmts_defs.specs.Laying.{told, new_or_known, new_form, new_name, is_values, typed_or_not, specification_parts, names_count, specified_names, all_names, is_group, specifications, header_parts, if_parts, loop_header, for_parts, without_absent, layout, loop_form, first_loop_form}
 use Rattle.go_stmts_defs.specs.Laying as laying
 use Rattle.go_stmts_defs.specs.Reading.{Found, Readings, read, all_read, reading, readings, beginning, entering, is_statement, is_list, is_declared_name, list_node, name_node, holding, holdings, held_faults, repeated, left_out, left_out_faults, closed}
 use Rattle.go_stmts_defs.specs.Rules.{own_faults, taking, given_part, all_given, built_by}

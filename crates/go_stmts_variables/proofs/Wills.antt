@@ -13,7 +13,7 @@ use Rattle.go_exprs_rules.specs.Sorts.{Stands, is_family, family_of_open, family
 use Rattle.go_stmts_defs.specs.Assigning.{Wanted, takes, type_or_default, called_results, whole_results, unassigned, all_unassigned, assignment_by, assignment_failing, values_take}
 use Rattle.go_stmts_defs.specs.Rules.{all_given}
 use Rattle.go_exprs_variables.specs.Operands.{Operand}
-use Rattle.go_exprs_variables.specs.Variables.{Standins, begun, Fits, AllFit, WillFit}
+use Rattle.go_exprs_variables.specs.Variables.{Standins, begun, Fits, AllFit}
 use Rattle.go_exprs_variables.specs.Variables as variables
 use Rattle.go_exprs_variables.proofs.Public.{All, Defaulting, Fitting, all_new, both_none, closed_default, closed_so, default_operand, default_suits, each, keeps_type, no_place, open_default, open_so, operand, passes}
 use Rattle.go_stmts_variables.specs.Rules.{given_type, AllGiven, none_given, spare_given, next_given}

@@ -1,0 +1,5 @@
+mod Local
+mod Swapping
+mod Fixed
+mod Steadying
+mod Asked
