@@ -22,10 +22,12 @@ mod News
 mod TypeEvents
 mod CallEvents
 mod CallSites
+mod SiteRuns
 mod CopiedContexts
 mod CopiedEvents
 mod CopyTelling
 mod SignatureEvents
+mod ParameterEvents
 mod PrintedCopies
 mod DerivedCopies
 mod Changed

@@ -1,8 +1,9 @@
 -- Calls in the place of all runs of a function: what is asked of what they name and declare.
-use Rattle.std.specs.Prelude.{◌≡◌, ℕ, ◌+◌, Bool, true, false, List, [], length, Some, slice_get}
+use Rattle.std.specs.Prelude.{◌≡◌, ℕ, ◌+◌, Bool, true, false, List, [], ◌∷◌, length, Some, slice_get}
 use Rattle.go_tokens.specs.declared.token.TokenKind.{TokenKind}
-use Rattle.go_grammar.specs.Trees.{Trees}
+use Rattle.go_grammar.specs.Trees.{Tree, Trees}
 use Rattle.go_rewriting.specs.Places.{Patch}
+use Rattle.go_rewriting.specs.Sites.{Site, items, site_range}
 use Rattle.go_tree.specs.declared.context.Context.{Context}
 use Rattle.go_tree.specs.declared.context.Entity.TheVariants as entity
 use Rattle.go_tree.specs.declared.context.Manner.TheVariants as manner
@@ -27,6 +28,11 @@ use Rattle.extract_names_derived.specs.Patches.{EachRun}
 abbrev pub CallInPlace : List TokenKind → List Gap → (Gap → Call) → ℕ → Trees → Type 0
 CallInPlace us gaps calls from ps = (g : Gap) → Among g gaps → g.from ≡ from
     → (ps ≡ call_trees (moved_by gaps g.from) (calls g)) × DeriveWithin us (moved_by gaps g.from) (moved_by gaps g.from + length g.texts) ps
+
+-- So it is at the end of each path that leads to a run.
+abbrev pub CallsAtSites : List TokenKind → List Gap → (Gap → Call) → Tree → List Site → Type 0
+CallsAtSites us gaps calls t [] = Unit {0}
+CallsAtSites us gaps calls t (x ∷ xs) = ((f n : ℕ) (new : Trees) → x.change ≡ items f n new → CallInPlace us gaps calls (site_range t x).from new) × CallsAtSites us gaps calls t xs
 
 -- No field stands twice in a type that is written down with the call, wherever its statements stand.
 abbrev pub MembersOnce : Alone → List Gap → (Gap → Call) → Gap → Type 0

@@ -15,13 +15,13 @@ use Rattle.go_print_laws.specs.Headers.{Header}
 use Rattle.go_scopes_bodies.specs.Faults.{second_members_by}
 use Rattle.go_scopes_bodies.specs.Listed.{told_list}
 use Rattle.go_scopes_bodies.specs.Meant.{Outer}
-use Rattle.extract_names.specs.Copies.{Replaced, Free, Copy, IsIn, IsKept, AllCopied, ParameterStands, UsedInCopy, NamesLocal, NamesFree, NamesOuter, is_around}
+use Rattle.extract_names.specs.Copies.{Replaced, Free, Copy, IsIn, IsKept, AllCopied, UsedInCopy, NamesLocal, NamesFree, NamesOuter, is_around}
 use Rattle.extract_names.specs.Gaps.{Among}
 use Rattle.extract_names.specs.Pieces.{told_before}
 use Rattle.extract_names.specs.Sites.{found_as, IsNamed}
 use Rattle.extract_names_derived.specs.Copied.{CopyStands, copy_pieces}
 use Rattle.extract_names_derived.specs.Copies.{SplitsAt, PlacesRun}
-use Rattle.extract_names_derived.specs.Signatures.{SignatureStands, ReturnStands}
+use Rattle.extract_names_derived.specs.Signatures.{parameter_tokens, SignatureStands, ReturnStands}
 
 -- what the copied run tells of the old function
 abbrev pub copied_run : (a new : Alone) (c : Copy) (s : SplitsAt a c) → CopyStands a new c s → List Event
@@ -42,7 +42,9 @@ pub record IsPrintedCopy (a : Alone) (outer : Outer) (c : Copy) (new : Alone) (s
   pub members_once : second_members_by (own_text new) [] x.split.head ≡ []
   pub named : (h : Replaced) → Among h c.holes → Among h.parameter c.parameters
   pub fresh : (h : Replaced) → Among h c.holes → (d : Declaration) → Among (event.Declaration d) (copied_run a new c s x) → own_text new h.parameter ≡ own_text a d.name → ⊥
-  pub parameters : (u : ℕ) → Among u c.parameters → ParameterStands new x.split.head u
+  -- Its parameters are those of the signature, and none is blank.
+  pub listed : (u : ℕ) → Among u c.parameters → Among u (parameter_tokens 3 header.parameters header.types)
+  pub some : (u : ℕ) → Among u c.parameters → is_blank (own_text new u) ≡ false
   pub distinct : (u w : ℕ) → Among u c.parameters → Among w c.parameters → own_text new u ≡ own_text new w → u ≡ w
   pub free : (f : Free) → Among f c.free → f.old < c.from
   pub once : (f g : Free) → Among f c.free → Among g c.free → f.old ≡ g.old → f ≡ g

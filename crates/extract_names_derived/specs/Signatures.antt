@@ -34,6 +34,17 @@ NamesParameters P N i (n ∷ ns) (more t ts) = P i × NamesType N (suc i) t × N
 abbrev pub NamesSignature : (ℕ → Type 0) → (ℕ → Type 0) → ℕ → Header → Type 0
 NamesSignature P N i h = NamesParameters P N (suc i) h.parameters h.types × NamesResults N (suc (parameters_end (suc i) h.parameters h.types)) h.results
 
+-- the tokens of these parameters
+abbrev pub further_tokens : ℕ → List (List ℕ) → TypeRow → List ℕ
+further_tokens i [] ts = []
+further_tokens i (n ∷ ns) none = []
+further_tokens i (n ∷ ns) (more t ts) = suc i ∷ further_tokens (last (type_tree (suc (suc i)) t)) ns ts
+
+abbrev pub parameter_tokens : ℕ → List (List ℕ) → TypeRow → List ℕ
+parameter_tokens i [] ts = []
+parameter_tokens i (n ∷ ns) none = []
+parameter_tokens i (n ∷ ns) (more t ts) = i ∷ further_tokens (last (type_tree (suc i) t)) ns ts
+
 -- The name means where no local does what may be named anywhere.
 abbrev pub NamesOutside : Alone → Outer → ℕ → Type 0
 NamesOutside new outer i = (o : Object) × (outer (own_text new i) ≡ Some o) × IsPlain (outside o)

@@ -9,7 +9,7 @@ ghost use Rattle.go_grammar.specs.Rules.{Items, item};
 ghost use Rattle.go_grammar.specs.Trees.{Tree, Trees, kind_of, more, node, none, onto};
 ghost use Rattle.go_rewriting.specs.Places.{Ascending, Change, Patch, changed, places, range};
 ghost use Rattle.go_rewriting.specs.Replacing.{Run};
-ghost use Rattle.go_rewriting.specs.Sites.{Site, site_ranges};
+ghost use Rattle.go_rewriting.specs.Sites.{Site, patch_of, site_ranges};
 ghost use Rattle.go_tree.specs.Contexts.{file_context};
 ghost use Rattle.go_tree.specs.declared.event.Event.{Event};
 ghost use Rattle.go_heads.specs.Functions.{Alone, AreRead, Function, all_functions, function_alone};
@@ -25,7 +25,7 @@ ghost use Rattle.go_print_laws.specs.Headers.{Header};
 ghost use Rattle.go_scopes_bodies.specs.Listed.{told_list};
 ghost use Rattle.extract_names_derived.specs.Bodies.{BodySplits};
 ghost use Rattle.extract_names_derived.specs.Calls.{CallStands};
-ghost use Rattle.extract_names_derived.specs.CallSites.{CallsAsked};
+ghost use Rattle.extract_names_derived.specs.CallSites.{CallInPlace, CallsAtSites, CallsAsked};
 ghost use Rattle.extract_names_derived.specs.Copied.{CopyStands, CopyTold};
 ghost use Rattle.extract_names_derived.specs.Copies.{SplitsAt, IsTaken, PlacesRun, RunPlaced};
 ghost use Rattle.extract_names_derived.specs.Examples.{Examples};
@@ -108,6 +108,12 @@ pub fn statements_make_sites()
 {
     lists_tell_each_statement();
 }
+
+/// Where the statements of calls stand in place of runs that paths lead to, they do in place of each run of the one patch (Go specification:
+/// Statement lists).
+pub fn calls_stand_at_sites()
+    ensures { (us : List TokenKind) (gaps : List Gap) (calls : Gap → Call) (t : Tree) (xs : List Site) → ReplaceRuns t xs → CallsAtSites us gaps calls t xs → EachRun (CallInPlace us gaps calls) t (patch_of xs) }
+{}
 
 /// So a derived function with calls in the place of runs is a site, where each name of a call says what it has to, the locals of a run that
 /// are named elsewhere are the variables that its call declares, and variables stay used (Go specification: Blocks, Calls).
