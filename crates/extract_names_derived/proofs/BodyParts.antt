@@ -43,8 +43,8 @@ named_declaration k i j ps false lt = tt
 module _ (i b j : ℕ) (y : Bool) (k : ℕ) (at : b ≤ k) where
   named_event : (x : Event) → EventLies i i b block.Package 0 (body_scope y b j) x → NamedBefore k x
   named_event (event.Declaration d) l = omega (arith, l.name.1, at)
-  named_event (event.Use u) l = omega (arith, l.name.1, at)
-  named_event (event.Member m g x) l = tt
+  named_event (event.Use u) l = (omega (arith, l.name.1, at), l.initial)
+  named_event (event.Member m g x) l = omega (arith, l.0.1, at)
   named_event (event.Import x) l = tt
   named_event (event.Bodiless x z) l = tt
   named_event (event.Statement x z) l = tt
@@ -67,6 +67,11 @@ module _ (tells : Tells) (both : TellsBoth) (a : Alone) (i j k e : ℕ) (xs ys :
       let one : events bc body ≡ told_list c false xs ++ told_list c false ys = (tells bc k e (onto xs ys) (fit_statements kind.Block k (onto xs ys) refl fit.1.3.2.1)).block ∙ both c false xs ys in
       let order : v ≤ k = laid.1.2.0 in
       record {
+        first_token = i;
+        last_token = j;
+        signature = node kind.Signature u v ss;
+        tree = same;
+        head_told = refl;
         head = own ++ sig;
         context = c;
         told =
@@ -89,6 +94,10 @@ module _ (tells : Tells) (both : TellsBoth) (a : Alone) (i j k e : ℕ) (xs ys :
         initial = refl;
         breaks = refl;
         continues = refl;
+        column = refl;
+        listed = refl;
+        last = refl;
+        falls = refl;
       }
 
   pub body_splits : (ts : List TokenKind) (s : Tree) → a.tree ≡ node kind.FunctionDeclaration i j (more s (more body none)) → IsDerivedFunction ts a → BodySplits a k e xs ys

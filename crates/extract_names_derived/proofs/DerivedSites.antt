@@ -92,7 +92,7 @@ above_moves (g ∷ gs) i j f lt = by (nat_le j g.from)
     by true = lt
     by false = omega (arith, far)
 
-name_kept : (gs : List Gap) (i j : ℕ) → ((g : Gap) → Among g gs → suc (suc i) < g.from) → i < j → KeepsName (moved_by gs) kind.FunctionDeclaration i j
+pub name_kept : (gs : List Gap) (i j : ℕ) → ((g : Gap) → Among g gs → suc (suc i) < g.from) → i < j → KeepsName (moved_by gs) kind.FunctionDeclaration i j
 name_kept gs i j f lt =
     let at : moved_by gs i ≡ i = front_stays gs i (λ g m. omega (arith, f g m)) in
     let next : moved_by gs (suc i) ≡ suc i = front_stays gs (suc i) (λ g m. omega (arith, f g m)) in

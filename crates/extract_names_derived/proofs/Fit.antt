@@ -57,6 +57,10 @@ abbrev pub is_file : Kind → Bool
 is_file kind.File = true
 is_file k = false
 
+abbrev pub is_if : Kind → Bool
+is_if kind.If = true
+is_if k = false
+
 abbrev pub holds_specifications : Kind → Bool
 holds_specifications (kind.Declaration s) = true
 holds_specifications (kind.Group s) = true
@@ -76,7 +80,7 @@ may_hold k kind.Values = is_specification k
 may_hold k kind.TypedValues = is_specification k
 may_hold k kind.Block = leads_to_lists k
 may_hold k kind.If = leads_to_lists k
-may_hold k kind.Else = leads_to_lists k
+may_hold k kind.Else = is_if k
 may_hold k kind.Switch = leads_to_lists k
 may_hold k kind.Case = leads_to_lists k
 may_hold k kind.Default = leads_to_lists k
@@ -191,7 +195,7 @@ suits k (category.Specification s) = holds_specifications k
 suits k category.ConstantRest = is_specification k
 suits k category.VariableRest = is_specification k
 suits k category.Block = leads_to_lists k
-suits k category.Else = leads_to_lists k
+suits k category.Else = is_if k
 suits k category.Branch = leads_to_lists k
 suits k category.Clause = leads_to_lists k
 suits k category.Statement = leads_to_lists k
@@ -274,7 +278,7 @@ if_in k (category.LiteralType place.Free) e h = absurd (true_false false h refl)
 if_in k (category.LiteralType place.Header) e h = absurd (true_false false h refl)
 if_in k c e h = absurd (true_false false h refl)
 
-else_in : (k : Kind) (c : Category) → suits k c ≡ true → within c kind.Else ≡ true → leads_to_lists k ≡ true
+else_in : (k : Kind) (c : Category) → suits k c ≡ true → within c kind.Else ≡ true → is_if k ≡ true
 else_in k category.Else e h = e
 else_in k (category.Expression l p) e h = absurd (true_false (nat_le (rank l) 0) h (above_none l))
 else_in k (category.LiteralType place.Free) e h = absurd (true_false false h refl)

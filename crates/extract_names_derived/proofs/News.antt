@@ -133,7 +133,7 @@ module _ (us : List TokenKind) (v : ℕ → ℕ) (g : Gap) (old news : List Even
 -- ---- in a rewritten function
 
 -- A gap ends in front of what its run ends in front of.
-gap_in_front : (gs : List Gap) (i j e : ℕ) → Ascending i (ranges gs) j → (g : Gap) → Among g gs → g.upto ≤ e → moved_by gs g.from + length g.texts ≤ moved_by gs e
+pub gap_in_front : (gs : List Gap) (i j e : ℕ) → Ascending i (ranges gs) j → (g : Gap) → Among g gs → g.upto ≤ e → moved_by gs g.from + length g.texts ≤ moved_by gs e
 gap_in_front [] i j e h g a le = absurd a
 gap_in_front (x ∷ gs) i j e h g (inl s) le =
     subst (λ (z : Gap). z.upto ≤ e → moved_by (x ∷ gs) z.from + length z.texts ≤ moved_by (x ∷ gs) e) (sym s)

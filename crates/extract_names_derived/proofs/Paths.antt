@@ -12,7 +12,7 @@ use Rattle.go_scopes_events.proofs.Public.{is_top, true_false}
 use Rattle.go_scopes_bodies.specs.Listed.{AreStatements, holds_statements}
 use Rattle.extract_names.specs.Pieces.{leads_to_lists}
 use Rattle.extract_names_derived.specs.Patches.{InLists, InParts, InCase, InList, in_front, ReplaceRuns}
-use Rattle.extract_names_derived.proofs.Fit.{may_hold, IsFit, AreFit, CaseFits, part_inner}
+use Rattle.extract_names_derived.proofs.Fit.{is_if, may_hold, IsFit, AreFit, CaseFits, part_inner}
 
 -- The parts of the kind are no functions.
 abbrev pub Holds : Kind → Type 0
@@ -91,11 +91,15 @@ local_in k i j ps n new q h f e m s l = absurd (true_false false h refl)
 
 -- ---- on the way
 
+if_leads : (k : Kind) → is_if k ≡ true → leads_to_lists k ≡ true
+if_leads kind.If e = refl
+if_leads k e = absurd (true_false false e refl)
+
 part_leads : (k l : Kind) → may_hold k l ≡ true → is_top l ≡ false → leads_to_lists l ≡ true → leads_to_lists k ≡ true
 part_leads k kind.FunctionDeclaration e top h = absurd (true_false true refl top)
 part_leads k kind.Block e top h = e
 part_leads k kind.If e top h = e
-part_leads k kind.Else e top h = e
+part_leads k kind.Else e top h = if_leads k e
 part_leads k kind.Switch e top h = e
 part_leads k kind.Case e top h = e
 part_leads k kind.Default e top h = e

@@ -111,7 +111,7 @@ module _ (tells : Tells) (c : Copy) (v : ℕ → ℕ) (i j : ℕ) (ps : Trees) (
   body_sides (put s) l w = absurd l
   body_sides (inside qs) l w = (
     statement_side c false body_context.listed k e,
-    sides_list c v false (list_context body_context k e) false kind.Block k bs qs (suc k) (suc k) e refl refl (body_calm [] i j k e ps named x bs tt tt) (omega arith) refl
+    sides_list c v false (list_context body_context k e) false kind.Block k bs qs (suc k) (suc k) e refl refl refl (refl, refl, refl, refl) (body_calm [] i j k e ps named x bs tt tt) (omega arith) refl
         (lie_front kind.Block k k e bs laid.0 laid.1 fit.1) fit.0 fit.1 l w,
   )
 

@@ -49,6 +49,7 @@ pub record Calm (all : List Gap) (z : ℕ) (c : Context) : Type 0 where
   pub source : c.source ≡ None
   pub group : c.group ≡ None
   pub parameters : c.parameters ≡ None
+  pub constant : c.constant ≡ false
   pub initial : c.initial ≡ false
 
 pub calm_lies : (m a b z : ℕ) (all : List Gap) (c : Context) → Calm all z c → ContextLies m a b c.block c.end None z c
@@ -77,6 +78,7 @@ calm_less all y z c le h = record {
   source = h.source;
   group = h.group;
   parameters = h.parameters;
+  constant = h.constant;
   initial = h.initial;
 }
 
@@ -93,6 +95,7 @@ calm_falls all z c x h = record {
   group = h.group;
   parameters =
       h.parameters;
+  constant = h.constant;
   initial = h.initial;
 }
 
@@ -108,6 +111,7 @@ calm_list all z c i j a e h = record {
   source = h.source;
   group = h.group;
   parameters = h.parameters;
+  constant = h.constant;
   initial = h.initial;
 }
 
@@ -186,6 +190,7 @@ calm_pass all z c p e h = record {
       (parts p) e ∙ h.source;
   group = h.group;
   parameters = h.parameters;
+  constant = h.constant;
   initial = h.initial;
 }
 
@@ -204,6 +209,7 @@ module _ (all : List Gap) (c : Context) (i j : ℕ) (ps : Trees) (named : Bool) 
         (parts p) o ∙ h.source;
     group = h.group;
     parameters = h.parameters;
+    constant = h.constant;
     initial = h.initial;
   }
   enter_calm kind.If e top a b le o h = record {
@@ -218,6 +224,7 @@ module _ (all : List Gap) (c : Context) (i j : ℕ) (ps : Trees) (named : Bool) 
         (parts p) o ∙ h.source;
     group = h.group;
     parameters = h.parameters;
+    constant = h.constant;
     initial = h.initial;
   }
   enter_calm kind.Else e top a b le o h = record {
@@ -232,6 +239,7 @@ module _ (all : List Gap) (c : Context) (i j : ℕ) (ps : Trees) (named : Bool) 
     source = source_other c.source (kind_of p) (first p) (parts p) o ∙ h.source;
     group = h.group;
     parameters = h.parameters;
+    constant = h.constant;
     initial = h.initial;
   }
   enter_calm kind.Switch e top a b le o h = record {
@@ -246,6 +254,7 @@ module _ (all : List Gap) (c : Context) (i j : ℕ) (ps : Trees) (named : Bool) 
         (parts p) o ∙ h.source;
     group = h.group;
     parameters = h.parameters;
+    constant = h.constant;
     initial = h.initial;
   }
   enter_calm kind.Case e top a b le o h = record {
@@ -260,6 +269,7 @@ module _ (all : List Gap) (c : Context) (i j : ℕ) (ps : Trees) (named : Bool) 
         (parts p) o ∙ h.source;
     group = h.group;
     parameters = h.parameters;
+    constant = h.constant;
     initial = h.initial;
   }
   enter_calm kind.Default e top a b le o h = record {
@@ -274,6 +284,7 @@ module _ (all : List Gap) (c : Context) (i j : ℕ) (ps : Trees) (named : Bool) 
         (parts p) o ∙ h.source;
     group = h.group;
     parameters = h.parameters;
+    constant = h.constant;
     initial = h.initial;
   }
   enter_calm kind.For e top a b le o h = record {
@@ -288,6 +299,7 @@ module _ (all : List Gap) (c : Context) (i j : ℕ) (ps : Trees) (named : Bool) 
         (parts p) o ∙ h.source;
     group = h.group;
     parameters = h.parameters;
+    constant = h.constant;
     initial = h.initial;
   }
   enter_calm k e top a b le o h = absurd (true_false false e refl)

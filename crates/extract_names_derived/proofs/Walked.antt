@@ -288,6 +288,7 @@ module _ (P : ℕ → Trees → Type 0) where
               source = h.source;
               group = h.group;
               parameters = h.parameters;
+              constant = h.constant;
               initial = h.initial;
               each = run_told all g c b n k i x j p ps lead top h l t il.0 (omega (arith, from)) (omega (arith, upto));
             },

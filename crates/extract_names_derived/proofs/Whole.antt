@@ -107,7 +107,7 @@ signature_stays all i j ps named x a b ss laid fit plain le hi f =
 
 pub body_calm : (all : List Gap) (i j a b : ℕ) (ps : Trees) (named x : Bool) (bs : Trees) → AtEdge all a → AtEdge all b
     → Calm all b (list_context (enter (file_context 0) kind.FunctionDeclaration i j ps named 1 (node kind.Block a b bs) x) a b)
-body_calm all i j a b ps named x bs ea eb = record { local = refl; block = ea; end = eb; behind = omega arith; role = refl; site = refl; specification = refl; source = refl; group = refl; parameters = refl; initial = refl }
+body_calm all i j a b ps named x bs ea eb = record { local = refl; block = ea; end = eb; behind = omega arith; role = refl; site = refl; specification = refl; source = refl; group = refl; parameters = refl; constant = refl; initial = refl }
 
 module _ (tells : Tells) (all : List Gap) (v : ℕ → ℕ) (i j : ℕ) (ps : Trees) (named x : Bool) (a b : ℕ) (bs : Trees) where
   abbrev body_context : Context

@@ -1,29 +1,36 @@
 -- A run of statements in a derived function, by its tokens.
 use Rattle.std.specs.Prelude.{◌≡◌, ℕ, suc, ◌<◌, ◌≤◌, ◌⊎◌, Bool, true, false, List, [], ◌∷◌, ◌++◌, length, take, drop, None}
 use Rattle.go_grammar.specs.Trees.{Trees}
-use Rattle.go_rewriting.specs.Places.{Ascending}
+use Rattle.go_rewriting.specs.Places.{Patches, Ascending}
 use Rattle.go_rewriting.specs.Replacing.{moved}
 use Rattle.go_tree.specs.declared.context.Block.TheVariants as block
 use Rattle.go_tree.specs.declared.context.Context.{Context}
 use Rattle.go_tree.specs.declared.context.Role.TheVariants as role
 use Rattle.go_tree.specs.declared.event.Event.{Event}
 use Rattle.go_tree.specs.declared.context.Entity.TheVariants as entity
+use Rattle.go_tree.specs.declared.context.Manner.TheVariants as manner
 use Rattle.go_tree.specs.declared.event.Declaration.{Declaration}
 use Rattle.go_tree.specs.declared.event.Event.TheVariants as event
 use Rattle.go_tree.specs.Declarations.{is_reused_of, is_new}
+use Rattle.go_tree.specs.Units.{is_blank}
 use Rattle.go_heads.specs.Bodies.{function_events}
 use Rattle.go_heads.specs.Functions.{Alone}
 use Rattle.go_heads.specs.Names.{own_text, own_names}
 use Rattle.go_scopes_bodies.specs.Faults.{second_members_by}
 use Rattle.go_scopes_bodies.specs.Meant.{Outer}
 use Rattle.go_scopes_bodies.specs.Listed.{told_list}
-use Rattle.extract_names.specs.Copies.{Replaced, Free, Copy, IsIn, IsKept, IsEdge, told_copied, DeclarationCopied, EventCopied, AllCopied, StandsInFront, StandsBehind, HeadTells, TailTells, ParameterStands, InSignature}
+use Rattle.extract_names.specs.Copies.{Replaced, Free, Copy, IsIn, IsKept, IsEdge, told_copied, EventCopied, AllCopied, StandsInFront, StandsBehind, HeadTells, TailTells, ParameterStands, InSignature}
 use Rattle.extract_names.specs.Copies.{InReturn, UsedInCopy, NamesLocal}
 use Rattle.extract_names.specs.Copies.{NamesFree, NamesOuter, is_around}
 use Rattle.extract_names.specs.Gaps.{Gap, Among, moved_by, ranges}
 use Rattle.extract_names.specs.Pieces.{Piece, told_before}
-use Rattle.extract_names.specs.Sites.{EachEvent, specification_at, found_as}
+use Rattle.extract_names.specs.Sites.{EachEvent, specification_at, found_as, IsNamed}
+use Rattle.extract_names_derived.specs.Holes.{HolesInList, HolesTell}
 use Rattle.extract_names_derived.specs.Texts.{with_gaps}
+
+-- Behind a name of the block that begins at the token o a name of another block is in scope later.
+abbrev pub InSteps : ℕ → List Event → Type 0
+InSteps o es = (d e : Declaration) → Among (event.Declaration d) es → Among (event.Declaration e) es → d.block ≡ block.Local o → (e.block ≡ block.Local o → ⊥) → d.name < e.name → d.scope.from < e.scope.from
 
 -- A run tells what its statements tell, in the list of a block of a function.
 pub record RunTold (c : Copy) (run : List Event) : Type 0 where
@@ -41,7 +48,16 @@ pub record RunTold (c : Copy) (run : List Event) : Type 0 where
   pub source : context.source ≡ None
   pub group : context.group ≡ None
   pub parameters : context.parameters ≡ None
+  pub constant : context.constant ≡ false
   pub initial : context.initial ≡ false
+  -- Behind a name that the list declares one of an inner block is in scope later.
+  pub steps : InSteps around run
+  -- In a block that stands for the one around it, a copy of the run tells the same, with names in place of expressions.
+  pub replaced : c.around ≡ around → (x : Context) → x.role ≡ context.role → x.parameters ≡ None → (f : Bool) (qs : Patches) → HolesInList c.place statements qs → HolesTell c x f statements qs
+  pub column : context.column ≡ 0
+  pub listed : context.listed ≡ true
+  pub last : context.followed ≡ false
+  pub falls : context.falls ≡ false
   -- Where no hole is replaced, each name of the run is copied.
   pub copied : c.around ≡ around → c.end ≡ context.end → c.holes ≡ [] → EachEvent (EventCopied c) run
 
@@ -105,15 +121,14 @@ pub record IsTaken (a : Alone) (outer : Outer) (c : Copy) (new : Alone) (s : Spl
   pub signature : EachEvent (InSignature new outer c) head
   pub members_once : second_members_by (own_text new) [] head ≡ []
   pub returns : EachEvent (InReturn a new c (told_before pieces)) tail
-  pub steps : (d e : Declaration) → DeclarationCopied c d → DeclarationCopied c e → Among (event.Declaration d) (function_events a) → Among (event.Declaration e) (function_events a) → d.name < e.name
-      → is_around c d.block ≡ true → is_around c e.block ≡ false → d.scope.from < e.scope.from
   pub parameters : (u : ℕ) → Among u c.parameters → ParameterStands new head u
   pub distinct : (u w : ℕ) → Among u c.parameters → Among w c.parameters → own_text new u ≡ own_text new w → u ≡ w
   pub free : (f : Free) → Among f c.free → f.old < c.from
   pub once : (f g : Free) → Among f c.free → Among g c.free → f.old ≡ g.old → f ≡ g
-  pub names : (t : ℕ) → IsKept c t → NamesLocal a outer c t ⊎ (NamesFree a outer c new t ⊎ NamesOuter a outer c new t)
+  pub names : (t : ℕ) → IsKept c t → IsNamed t (told_before pieces) → NamesLocal a outer c t ⊎ (NamesFree a outer c new t ⊎ NamesOuter a outer c new t)
   pub apart : (d : Declaration) → Among (event.Declaration d) (function_events a) → IsIn c d.name → is_around c d.block ≡ true → is_new (own_names a) (found_as a d) ≡ true
       → (u : ℕ) → Among u c.parameters → own_text new u ≡ own_text a d.name → ⊥
-  pub reuses : (d x : Declaration) → Among (event.Declaration d) (function_events a) → Among (event.Declaration x) s.before → IsIn c d.name → is_reused_of (found_as a d) (found_as a x) ≡ true
+  pub reuses : (d x : Declaration) → Among (event.Declaration d) (function_events a) → Among (event.Declaration x) s.before → IsIn c d.name → d.manner ≡ manner.Defined → is_blank (own_text a d.name) ≡ false
+      → is_reused_of (found_as a d) (found_as a x) ≡ true
       → (is_around c d.block ≡ true) × (u : ℕ) × Among u c.parameters × (own_text new u ≡ own_text a d.name)
   pub used : (d : Declaration) → Among (event.Declaration d) (told_before pieces) → is_new (own_names a) (found_as a d) ≡ true → d.entity ≡ entity.Variable → UsedInCopy a outer c new (told_before pieces) tail d

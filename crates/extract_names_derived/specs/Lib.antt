@@ -3,6 +3,12 @@ pub mod Texts
 pub mod Functions
 pub mod Sites
 pub mod Copies
+pub mod Holes
 pub mod News
+pub mod Calls
+pub mod CallSites
 pub mod Examples
 pub mod Bodies
+pub mod Copied
+pub mod Signatures
+pub mod PrintedCopies

@@ -23,7 +23,7 @@ use Rattle.go_scopes_bodies.specs.Faults.{second_members_by}
 use Rattle.go_scopes_bodies.specs.Listed.{AreStatements}
 use Rattle.go_scopes_bodies.specs.Meant.{Meant, Outer, outside}
 use Rattle.extract_names.specs.Gaps.{Redeclared, Gap, moved_by, Among, IsInRun, Stays}
-use Rattle.extract_names.specs.Sites.{declared_at, found_as, EachEvent, IsPlain, DeclaresAgain, IsDeclared, NamedThere, Says, DeclaredStill, UsedThere}
+use Rattle.extract_names.specs.Sites.{declared_at, found_as, EachEvent, IsPlain, DeclaresAgain, IsDeclared, NamedThere, Says, DeclaredStill, DeclaredAgainIn, UsedThere}
 use Rattle.extract_names_derived.specs.Patches.{EachRun}
 use Rattle.extract_names_derived.specs.Sites.{RunStands}
 
@@ -67,10 +67,10 @@ pub record IsAskedFor (us : List TokenKind) (a : Alone) (outer : Outer) (gaps : 
   -- A local of a run that is named elsewhere is declared in its gap. No local is declared there twice, and no token twice.
   pub needed : (g : Gap) → Among g gaps → (d : ℕ) → IsInRun g d → (o : Meant) → declared_at a d ≡ Some o → NamedThere a outer gaps o → (z : Redeclared) × Among z g.declared × (z.old ≡ d)
   pub once : (g : Gap) → Among g gaps → (y z : Redeclared) → Among y g.declared → Among z g.declared → (y.old ≡ z.old) ⊎ (y.token ≡ z.token) → y ≡ z
-  -- Where a name that stays before `:=` is a variable of a run, one that the gap declares is such a variable.
+  -- Where a name that stays before `:=` is a variable of a run, it is one that stays or that its gap declares.
   pub reuses : (g : Gap) → Among g gaps → (d x : Declaration) → Among (event.Declaration d) (function_events a) → Among (event.Declaration x) (function_events a)
-      → Stays gaps d.name → IsInRun g x.name → d.manner ≡ manner.Defined → is_reused_of (found_as a d) (found_as a x) ≡ true
-      → (w : Declaration) × (z : Redeclared) × Among (event.Declaration w) (function_events a) × Among z g.declared × (w.name ≡ z.old) × (is_reused_of (found_as a d) (found_as a w) ≡ true)
+      → Stays gaps d.name → IsInRun g x.name → d.manner ≡ manner.Defined → is_blank (own_text a d.name) ≡ false → is_reused_of (found_as a d) (found_as a x) ≡ true
+      → (w : Declaration) × Among (event.Declaration w) (function_events a) × (is_reused_of (found_as a d) (found_as a w) ≡ true) × DeclaredAgainIn gaps w.name
   -- Each variable that is declared still is used.
   pub used : (d : Declaration) → Among (event.Declaration d) (function_events a) → is_new (own_names a) (found_as a d) ≡ true → d.entity ≡ entity.Variable → DeclaredStill gaps d.name → UsedThere a outer gaps new d.name
 

@@ -1,6 +1,6 @@
 //! Laws, for the crates above. The functions do nothing: their contracts are the laws.
 
-ghost use Rattle.std.specs.Prelude.{◌≡◌, ℕ, ◌+◌, ◌≤◌, List, [], ◌∷◌, length, Some, slice_get};
+ghost use Rattle.std.specs.Prelude.{◌≡◌, ℕ, false, ◌+◌, ◌≤◌, List, [], ◌∷◌, length, Some, slice_get};
 ghost use Rattle.go_tokens.specs.declared.token.TokenKind.{TokenKind};
 ghost use Rattle.go_grammar.specs.declared.kind.Category.TheVariants as category;
 ghost use Rattle.go_grammar.specs.declared.kind.Kind.TheVariants as kind;
@@ -9,7 +9,7 @@ ghost use Rattle.go_grammar.specs.Rules.{Items, item};
 ghost use Rattle.go_grammar.specs.Trees.{Tree, Trees, kind_of, more, node, none, onto};
 ghost use Rattle.go_rewriting.specs.Places.{Ascending, Change, Patch, changed, places, range};
 ghost use Rattle.go_rewriting.specs.Replacing.{Run};
-ghost use Rattle.go_rewriting.specs.Sites.{Site, site_ranges};
+ghost use Rattle.go_rewriting.specs.Sites.{Site, patch_of, site_ranges};
 ghost use Rattle.go_tree.specs.Contexts.{file_context};
 ghost use Rattle.go_tree.specs.declared.event.Event.{Event};
 ghost use Rattle.go_heads.specs.Functions.{Alone, AreRead, Function, all_functions, function_alone};
@@ -20,12 +20,20 @@ ghost use Rattle.extract_names.specs.Copies.{Copy, IsCopy};
 ghost use Rattle.extract_names.specs.Gaps.{Gap, moved_by};
 ghost use Rattle.extract_names.specs.Pieces.{pieces};
 ghost use Rattle.extract_names.specs.Sites.{GapTells, IsSite};
+ghost use Rattle.go_print_laws.specs.Calls.{Call};
+ghost use Rattle.go_print_laws.specs.Headers.{Header};
+ghost use Rattle.go_scopes_bodies.specs.Listed.{told_list};
 ghost use Rattle.extract_names_derived.specs.Bodies.{BodySplits};
+ghost use Rattle.extract_names_derived.specs.Calls.{CallStands};
+ghost use Rattle.extract_names_derived.specs.CallSites.{CallInPlace, CallsAtSites, CallsAsked};
+ghost use Rattle.extract_names_derived.specs.Copied.{CopyStands, CopyTold};
 ghost use Rattle.extract_names_derived.specs.Copies.{SplitsAt, IsTaken, PlacesRun, RunPlaced};
 ghost use Rattle.extract_names_derived.specs.Examples.{Examples};
 ghost use Rattle.extract_names_derived.specs.Functions.{IsDerivedFunction, own_kinds};
 ghost use Rattle.extract_names_derived.specs.News.{AreNewStatements, IsAskedFor, StatementsAsked};
 ghost use Rattle.extract_names_derived.specs.Patches.{EachRun, InLists, ReplaceRuns, PatchesRuns};
+ghost use Rattle.extract_names_derived.specs.PrintedCopies.{IsPrintedCopy};
+ghost use Rattle.extract_names_derived.specs.Signatures.{SignatureStands, SignatureTells, ReturnStands, ReturnTells};
 ghost use Rattle.extract_names_derived.specs.Sites.{AllTell, IsRewritten, IsChosen, IsChangedFunction, RewritesBySites, RunStands, TellsInPlace};
 
 use extract_names::laws::replaced_runs_tell;
@@ -63,7 +71,8 @@ pub fn runs_are_statements()
 /// Gaps tell what they have to where the statements of each one do in its place. This is asked in the list of any block of a function in which
 /// what the run declares is in scope up to the end of the run or of the block (Go specification: Blocks, Statement lists).
 pub fn gaps_tell_one_by_one()
-    ensures { (ts us : List TokenKind) (a : Alone) (gaps : List Gap) (new : Alone) → (h : IsRewritten ts us a gaps new) → EachRun (TellsInPlace a new gaps) a.tree h.patch → AllTell a new gaps gaps (pieces (moved_by gaps) (file_context 0) a.tree h.patch) }
+    ensures { (ts us : List TokenKind) (a : Alone) (gaps : List Gap) (new : Alone) → (h : IsRewritten ts us a gaps new) → EachRun (TellsInPlace a new gaps) a.tree h.patch
+        → AllTell a new gaps gaps (pieces (moved_by gaps) (file_context 0) a.tree h.patch) }
 {
     lists_tell_each_statement();
 }
@@ -71,7 +80,15 @@ pub fn gaps_tell_one_by_one()
 /// Derived statements that have the tokens of a gap tell what the gap has to, where each name that they look up has to mean something, and
 /// what they declare is a variable of the run again (Go specification: Blocks, Declarations and scope).
 pub fn statements_tell_their_gap()
-    ensures { (us : List TokenKind) (v : ℕ → ℕ) (g : Gap) (old news : List Event) (x : RunStands v g old news) (a new : Alone) → v g.from + length g.texts ≤ v x.context.end → StatementsAsked us a new v g old news x → GapTells a new v g old news }
+    ensures { (us : List TokenKind) (v : ℕ → ℕ) (g : Gap) (old news : List Event) (x : RunStands v g old news) (a new : Alone) → v g.from + length g.texts ≤ v x.context.end → StatementsAsked us a new v g old news x
+        → GapTells a new v g old news }
+{}
+
+/// The statements of a call, with the variables that are declared in front of it, tell what is asked where they stand in the place of a run:
+/// the names of types mean what no local is, those of the function, the arguments and the results mean what may be named anywhere, and each
+/// declared variable is one of the run again (Go specification: Calls, Assignment statements, Variable declarations).
+pub fn calls_are_asked_for()
+    ensures { (us : List TokenKind) (v : ℕ → ℕ) (g : Gap) (old news : List Event) (x : RunStands v g old news) (a new : Alone) (call : Call) → CallStands us a new v g old news x call → StatementsAsked us a new v g old news x }
 {}
 
 /// A derived function with statements in the place of runs is a site: what stays and what is replaced stand apart, blocks and scopes begin
@@ -90,6 +107,21 @@ pub fn statements_make_sites()
     ensures { (ts us : List TokenKind) (a : Alone) (outer : Outer) (gaps : List Gap) (new : Alone) → (h : IsRewritten ts us a gaps new) → IsAskedFor us a outer gaps new h.patch → IsSite a outer gaps new }
 {
     lists_tell_each_statement();
+}
+
+/// Where the statements of calls stand in place of runs that paths lead to, they do in place of each run of the one patch (Go specification:
+/// Statement lists).
+pub fn calls_stand_at_sites()
+    ensures { (us : List TokenKind) (gaps : List Gap) (calls : Gap → Call) (t : Tree) (xs : List Site) → ReplaceRuns t xs → CallsAtSites us gaps calls t xs → EachRun (CallInPlace us gaps calls) t (patch_of xs) }
+{}
+
+/// So a derived function with calls in the place of runs is a site, where each name of a call says what it has to, the locals of a run that
+/// are named elsewhere are the variables that its call declares, and variables stay used (Go specification: Blocks, Calls).
+pub fn calls_make_sites()
+    ensures { (ts us : List TokenKind) (a : Alone) (outer : Outer) (gaps : List Gap) (new : Alone) → (h : IsRewritten ts us a gaps new) → (calls : Gap → Call) → CallsAsked us a outer gaps new h.patch calls → IsSite a outer gaps new }
+{
+    lists_tell_each_statement();
+    replaced_runs_tell();
 }
 
 /// What a derived function tells of names falls in three parts: what stands in front of a run of its statements, what the run tells, and what
@@ -112,6 +144,35 @@ pub fn copies_are_derived()
     lists_tell_each_statement();
 }
 
+/// A function whose body has the statements of a run of another one, with names in place of some expressions, tells in its body what the run
+/// tells, at other tokens, and of each such name that it is looked up; and then what the statements behind them tell. Where no expression is
+/// replaced, all that the run tells is copied (Go specification: Statement lists, Operands).
+pub fn copied_runs_tell_in_bodies()
+    ensures { (a new : Alone) (c : Copy) (s : SplitsAt a c) → (x : CopyStands a new c s) → CopyTold a new c s x }
+{}
+
+/// The printed signature of a function declares it and its parameters, and names types, which mean what no local is (Go specification:
+/// Function declarations).
+pub fn printed_signatures_tell()
+    ensures { (new : Alone) (outer : Outer) (c : Copy) (e : ℕ) (xs ys : Trees) (split : BodySplits new c.body e xs ys) (h : Header) → SignatureStands new outer c e xs ys split h → SignatureTells new outer c e xs ys split }
+{}
+
+/// The printed return behind a copied run names parameters, and what the list of the run declares (Go specification: Return statements).
+pub fn printed_returns_tell()
+    ensures { (a new : Alone) (c : Copy) (run : List Event) (e : ℕ) (xs ys : Trees) (split : BodySplits new c.body e xs ys) (i : ℕ) (names : List (List ℕ)) → ReturnStands a new c run e xs ys split i names
+        → ReturnTells a new c run (told_list split.context false ys) }
+{}
+
+/// So a derived function with the printed signature and return around a copied run is such a copy. What is left to ask depends on the choice:
+/// which names its parameters have, what the names of the run mean, and that variables are used (Go specification: Function declarations,
+/// Blocks).
+pub fn printed_copies_are_derived()
+    ensures { (ts us : List TokenKind) (a : Alone) (outer : Outer) (c : Copy) (new : Alone) → IsDerivedFunction ts a → IsDerivedFunction us new → (s : SplitsAt a c) (x : CopyStands a new c s) → IsPrintedCopy a outer c new s x
+        → IsCopy a outer c new }
+{
+    lists_tell_each_statement();
+}
+
 /// Where a function has the texts of a run of another one, with one token in the place of each hole, the tokens of the run keep their order
 /// and their texts, and in the place of a hole stands the text of its parameter.
 pub fn copied_runs_are_placed()
@@ -121,7 +182,8 @@ pub fn copied_runs_are_placed()
 /// A derived function whose body has statements and others behind them tells what stands in front of the body, what the first statements
 /// tell, and what the others tell (Go specification: Function declarations, Statement lists).
 pub fn bodies_split_functions()
-    ensures { (ts : List TokenKind) (a : Alone) (i j k e : ℕ) (s : Tree) (xs ys : Trees) → a.tree ≡ node kind.FunctionDeclaration i j (more s (more (node kind.Block k e (onto xs ys)) none)) → IsDerivedFunction ts a → BodySplits a k e xs ys }
+    ensures { (ts : List TokenKind) (a : Alone) (i j k e : ℕ) (s : Tree) (xs ys : Trees) → a.tree ≡ node kind.FunctionDeclaration i j (more s (more (node kind.Block k e (onto xs ys)) none)) → IsDerivedFunction ts a
+        → BodySplits a k e xs ys }
 {
     lists_tell_each_statement();
     lists_tell_one_behind_the_other();
