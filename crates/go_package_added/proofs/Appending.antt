@@ -1,17 +1,15 @@
 -- A package to a file of which a function is appended declares one function more.
-use Rattle.std.proofs.Common.{◌≡◌, ◌∙◌, ℕ, zero, suc, ◌+◌, ◌<◌, ◌≤◌, Bool, true, false, ◌&&◌, List, [], ◌∷◌, ◌++◌, length, map, Option, Some, None, refl, sym, ap, subst, length-append, arith}
-use Rattle.std.specs.Prelude.{if◌then◌else◌, nat_eq, slice_get, codes, Ok}
+use Rattle.std.proofs.Common.{◌≡◌, ◌∙◌, ℕ, zero, suc, ◌<◌, ◌≤◌, Bool, true, false, ◌&&◌, List, [], ◌∷◌, ◌++◌, length, map, Option, Some, refl, sym, ap, subst, length-append, arith}
+use Rattle.std.specs.Prelude.{if◌then◌else◌, nat_eq, slice_get, codes}
 use Rattle.std.specs.List.{AllByRecursion}
-use Rattle.std.proofs.lemmas.Bool.{eqb-true}
 use Rattle.go_tokens.specs.Spellings.{same_text}
-use Rattle.go_tokens.specs.Tokens.{TokenList, kinds}
+use Rattle.go_tokens.specs.Tokens.{kinds}
 use Rattle.go_grammar.specs.declared.kind.Category.TheVariants as category
 use Rattle.go_grammar.specs.declared.kind.Kind.TheVariants as kind
 use Rattle.go_grammar.specs.Grammar.{IsFile}
-use Rattle.go_grammar.specs.Trees.{Tree, node, Trees, none, more}
+use Rattle.go_grammar.specs.Trees.{node, none, more}
 use Rattle.go_rewriting.specs.Places.{with_declaration}
 use Rattle.go_scopes_events.proofs.Public.{derives_laid}
-use Rattle.go_tree.specs.declared.context.Entity.{Entity}
 use Rattle.go_tree.specs.declared.context.Entity.TheVariants as entity
 use Rattle.go_tree.specs.declared.object.Declared.{Declared}
 use Rattle.go_tree.specs.declared.object.Object.{Object}
@@ -23,7 +21,7 @@ use Rattle.go_tree.specs.Uses.{uses, declared_by, declared_in_package, object_of
 use Rattle.go_tree.specs.Units.{word}
 use Rattle.go_exprs_rules.specs.Sorts.{Stands as Sort}
 use Rattle.go_exprs_elsewhere.specs.Elsewhere.{referent_moved}
-use Rattle.go_package_defs.specs.Answer.{Environment, is_main, is_main_package, specifications, answer_by, package_answer}
+use Rattle.go_package_defs.specs.Answer.{is_main, is_main_package, specifications}
 use Rattle.go_package_defs.specs.Declarations.{Specification, declarations}
 use Rattle.go_package_defs.specs.Knowledge.{Outline, outlines, declaring, outline_by, referent_at}
 use Rattle.go_package_defs.specs.Sources.{Source, Package, unit_of, text_at, tokens_there, needed_at, rounds}

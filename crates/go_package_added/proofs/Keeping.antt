@@ -1,5 +1,5 @@
 -- What the law on names asks of the files of a package to which a function is appended.
-use Rattle.std.proofs.Common.{◌≡◌, ◌∙◌, ℕ, suc, ◌≤◌, false, List, [], ◌∷◌, ◌++◌, length, map, None, refl, sym, ap, subst}
+use Rattle.std.proofs.Common.{◌≡◌, ◌∙◌, ℕ, suc, ◌≤◌, false, List, [], ◌∷◌, ◌++◌, length, map, refl, sym, ap, subst}
 use Rattle.std.specs.List.{AllByRecursion}
 use Rattle.go_tokens.specs.Tokens.{TokenList, kinds}
 use Rattle.go_tokens.specs.declared.token.TokenKind.{TokenKind}
@@ -8,7 +8,6 @@ use Rattle.go_grammar.specs.declared.kind.Kind.TheVariants as kind
 use Rattle.go_grammar.specs.Grammar.{IsFile, Derives}
 use Rattle.go_grammar.specs.Trees.{Tree, Trees, node}
 use Rattle.go_rewriting.specs.Places.{with_declaration}
-use Rattle.go_tree.specs.Faults.{reported}
 use Rattle.go_tree.specs.Units.{Unit, word, is_blank}
 use Rattle.go_heads_added.specs.Added.{NoneSays}
 use Rattle.go_heads_added.specs.Appended.{HasNames, IsFront, IsParsed, empty_function}

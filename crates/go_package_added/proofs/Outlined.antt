@@ -1,27 +1,23 @@
 -- The outlines of a package to a file of which a function is appended, and the numbers of its objects.
-use Rattle.std.proofs.Common.{◌≡◌, ◌∙◌, ℕ, zero, suc, ◌+◌, ◌<◌, ◌≤◌, inl, inr, ◌⊎◌, Bool, true, false, ◌&&◌, List, [], ◌∷◌, ◌++◌, length, map, Option, Some, None, refl, sym, ap, arith}
-use Rattle.std.specs.Prelude.{if◌then◌else◌, nat_eq, nat_lt, max, codes}
+use Rattle.std.proofs.Common.{◌≡◌, ◌∙◌, ℕ, zero, suc, ◌<◌, ◌≤◌, inl, inr, Bool, true, false, List, [], ◌∷◌, ◌++◌, length, map, Option, Some, None, refl, sym, ap, arith}
+use Rattle.std.specs.Prelude.{if◌then◌else◌, nat_eq, nat_lt, max}
 use Rattle.std.specs.Option.{option_map}
 use Rattle.std.specs.List.{AllByRecursion}
 use Rattle.std.proofs.lemmas.Bool.Decides.{nat_tests}
-use Rattle.go_tokens.specs.Spellings.{same_text}
 use Rattle.go_grammar.specs.Trees.{Tree}
-use Rattle.go_tree.specs.declared.context.Entity.{Entity}
-use Rattle.go_tree.specs.declared.context.Entity.TheVariants as entity
 use Rattle.go_tree.specs.declared.object.Declared.{Declared}
 use Rattle.go_tree.specs.declared.object.Object.{Object}
 use Rattle.go_tree.specs.declared.object.Object.TheVariants as object
 use Rattle.go_tree.specs.Uses.{object_of}
 use Rattle.go_package_alike.specs.Scopes.{AllTokens}
-use Rattle.go_package_defs.specs.Answer.{is_main, is_main_package}
 use Rattle.go_package_defs.specs.Declarations.{Specification}
-use Rattle.go_package_defs.specs.Knowledge.{Outline, outlines, place_of, following, column_of, found_or, declaring, outline_by, no_specification}
+use Rattle.go_package_defs.specs.Knowledge.{outlines, place_of, following, column_of, found_or, declaring, outline_by, no_specification}
 use Rattle.go_package_defs.specs.Sources.{Package, text_at, number_in, number_before, number_at, needed_at}
-use Rattle.go_package_defs.specs.Verdicts.{first_name, needed_columns, needed_by_all, numbers_of}
-use Rattle.go_heads_added.specs.Added.{Gap, beyond, shifted, Stands, longer_declared}
+use Rattle.go_package_defs.specs.Verdicts.{first_name, needed_columns, numbers_of}
+use Rattle.go_heads_added.specs.Added.{Gap, beyond, shifted, Stands}
 use Rattle.go_package_added.specs.Appended.{IsClosed}
-use Rattle.go_package_added.specs.OneMore.{inserted, all_beyond, outline_beyond, IsKept, MaybeReadAt}
-use Rattle.go_package_added.proofs.Specified.{IsBelow, MaybeBelow, StandsBelow, IsPlaced, below_tokens, all_of_them}
+use Rattle.go_package_added.specs.OneMore.{inserted, all_beyond, IsKept, MaybeReadAt}
+use Rattle.go_package_added.proofs.Specified.{IsBelow, MaybeBelow, IsPlaced, below_tokens, all_of_them}
 
 -- Each token but those from the token n of the file k on says the same, and names the same object by its new number; what it declares needs
 -- the same.
