@@ -6,7 +6,7 @@ use Rattle.go_package_added.proofs.laws.appended_functions_have_their_answer.Goa
 
 pub returns : goal.returns
 returns c k ss us h faultless none =
-    let keeps = keeps_names c.appended_functions_keep_the_package.ensures k ss us h faultless none in
+    let keeps = keeps_names k ss us h faultless none c.appended_functions_keep_the_package.ensures in
     record {
       keeps = keeps;
       answer = λ closed other s sig x e.
