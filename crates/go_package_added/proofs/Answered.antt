@@ -19,9 +19,9 @@ use Rattle.go_package_defs.specs.Verdicts.{known, own_faults, value_state, state
 use Rattle.go_exprs_rules.specs.TypeNodes.{part_type}
 use Rattle.go_heads_added.specs.Added.{Gap, beyond}
 use Rattle.go_package_added.specs.OneMore.{inserted, all_beyond, outline_beyond, IsKept, IsOneMore, IsSignature, Settles, function_state, with_function}
-use Rattle.go_package_added.proofs.Inserted.{in_beyond, any_beyond, map_inserted, length_inserted}
+use Rattle.go_package_added.proofs.Inserted.{in_beyond, any_beyond, map_inserted, length_inserted, mapped_count}
 use Rattle.go_package_added.proofs.Judged.{IsTypedAnew, expressions_anew, rule_anew}
-use Rattle.go_package_added.proofs.Scopes.{MovesTyped, KeepsWords, FollowsTokens, mapped_count, scopes_anew, rights_same, state_beyond, outline_there, passes_beyond}
+use Rattle.go_package_added.proofs.Scopes.{MovesTyped, KeepsWords, FollowsTokens, scopes_anew, rights_same, state_beyond, outline_there, passes_beyond}
 use Rattle.go_package_added.proofs.Rounds.{in_front, behind_it, function_known, known_with, long_enough}
 
 -- ---- lists of failures

@@ -33,6 +33,7 @@ use Rattle.go_heads_added.proofs.Public.{clause_behind}
 use Rattle.go_package_settled.specs.Read.{IsFaultless}
 use Rattle.go_package_added.specs.Appended.{IsAppended, AreClosed, IsClosed, function_name, function_specification, package_in, outlines_in, found_in}
 use Rattle.go_package_added.specs.OneMore.{inserted, all_beyond, outline_beyond, IsOneMore, IsSignature, IsSignatureBefore, MaybeReadAt, function_moves}
+use Rattle.go_package_added.proofs.Inserted.{front_of, mapped_count, rest_of}
 use Rattle.go_package_added.proofs.Needing.{needed_kept}
 use Rattle.go_package_added.proofs.Numbered.{referents_beyond}
 use Rattle.go_package_added.proofs.Outlined.{KeepsTokens, all_kept, outlines_kept, declaring_skips, not_here, function_declared, put_in}
@@ -43,14 +44,6 @@ use Rattle.go_package_added.proofs.Specified.{IsPlaced, AreBelow, laid_below, fr
 element_there : {A : Type 0} (P : A → Type 0) (xs : List A) (y : A) (ys : List A) → AllByRecursion P (xs ++ y ∷ ys) → P y
 element_there P [] y ys h = h.0
 element_there P (x ∷ xs) y ys h = element_there P xs y ys h.1
-
-front_of : {A : Type 0} (P : A → Type 0) (xs ys : List A) → AllByRecursion P (xs ++ ys) → AllByRecursion P xs
-front_of P [] ys h = tt
-front_of P (x ∷ xs) ys h = (h.0, front_of P xs ys h.1)
-
-rest_of : {A : Type 0} (P : A → Type 0) (xs ys : List A) → AllByRecursion P (xs ++ ys) → AllByRecursion P ys
-rest_of P [] ys h = h
-rest_of P (x ∷ xs) ys h = rest_of P xs ys h.1
 
 each_of : {A : Type 0} (P : A → Type 0) → ((x : A) → P x) → (xs : List A) → AllByRecursion P xs
 each_of P f [] = tt
@@ -63,10 +56,6 @@ both_each P Q R f (x ∷ xs) h g = (f x h.0 g.0, both_each P Q R f xs h.1 g.1)
 map_twice : {A B C : Type 0} (f : B → C) (h : A → B) (xs : List A) → map (λ x. f (h x)) xs ≡ map f (map h xs)
 map_twice f h [] = refl
 map_twice f h (x ∷ xs) = ap (λ l. f (h x) ∷ l) (map_twice f h xs)
-
-map_count : {A B : Type 0} (f : A → B) (xs : List A) → length (map f xs) ≡ length xs
-map_count f [] = refl
-map_count f (x ∷ xs) = ap suc (map_count f xs)
 
 -- ---- tokens
 
@@ -194,8 +183,8 @@ module _ (k : ℕ) (ss us : List Source) (h : IsAppended k ss us) (keeps : Keeps
       let y = ap length keeps.declared.were in
       let b = length-append (map to first) (keeps.declared.function ∷ map to second) in
       let c = length-append first second in
-      let d = map_count to first in
-      let e = map_count to second in
+      let d = mapped_count to first in
+      let e = mapped_count to second in
       omega (arith, x, y, b, c, d, e)
 
   two_more : rounds q ≡ suc (suc (rounds p))

@@ -22,6 +22,7 @@ use Rattle.go_heads_added.specs.Kept.{KeepsPackage}
 use Rattle.go_package_defs.specs.Sources.{Source, unit_of}
 use Rattle.go_package_settled.specs.Read.{IsFaultless}
 use Rattle.go_package_added.specs.Appended.{FitsNames, IsAppended, function_name, function_tree}
+use Rattle.go_package_added.proofs.Inserted.{front_of, map_both, mapped_count, rest_of}
 use Rattle.go_package_added.proofs.Named.{have_names}
 
 abbrev pub KeepsNames : Type 0
@@ -46,28 +47,12 @@ FailsNoRule = (k j end x y u v : ℕ) (a b : TokenList) (ts us : List TokenKind)
     → IsFront j a b → Derives us category.Declaration d → j ≤ x → is_blank name ≡ false
     → NoneSays name old → MayBeAdded k j name b (events (context_behind end ps d) d) new → reported old ≡ None → reported new ≡ None
 
-map_both : {A B : Type 0} (f : A → B) (xs ys : List A) → map f (xs ++ ys) ≡ map f xs ++ map f ys
-map_both f [] ys = refl
-map_both f (x ∷ xs) ys = ap (λ l. f x ∷ l) (map_both f xs ys)
-
-map_count : {A B : Type 0} (f : A → B) (xs : List A) → length (map f xs) ≡ length xs
-map_count f [] = refl
-map_count f (x ∷ xs) = ap suc (map_count f xs)
-
 abbrev IsDerived : Source → Type 0
 IsDerived s = IsFile (kinds s.tokens.tokens) s.tree
 
 parsed : (ss : List Source) → AllByRecursion IsDerived ss → AllByRecursion HasNames (map unit_of ss) → AllByRecursion IsParsed (map unit_of ss)
 parsed [] f n = tt
 parsed (s ∷ ss) f n = (record { kinds = kinds s.tokens.tokens; tree = s.tree; is = f.0; told = refl; names = n.0 }, parsed ss f.1 n.1)
-
-front_of : {A : Type 0} (P : A → Type 0) (xs ys : List A) → AllByRecursion P (xs ++ ys) → AllByRecursion P xs
-front_of P [] ys h = tt
-front_of P (x ∷ xs) ys h = (h.0, front_of P xs ys h.1)
-
-rest_of : {A : Type 0} (P : A → Type 0) (xs ys : List A) → AllByRecursion P (xs ++ ys) → AllByRecursion P ys
-rest_of P [] ys h = h
-rest_of P (x ∷ xs) ys h = rest_of P xs ys h.1
 
 module _ (k : ℕ) (ss us : List Source) (h : IsAppended k ss us) (faultless : IsFaultless ss) (none : NoneSays (function_name k ss us h) (map unit_of ss)) where
   abbrev t : Tree
@@ -92,7 +77,7 @@ module _ (k : ℕ) (ss us : List Source) (h : IsAppended k ss us) (faultless : I
   new = ap (map unit_of) h.is ∙ map_both unit_of h.before (u ∷ h.behind)
 
   place : length before ≡ k
-  place = map_count unit_of h.before ∙ h.place
+  place = mapped_count unit_of h.before ∙ h.place
 
   trees : AllByRecursion IsDerived (h.before ++ s ∷ h.behind)
   trees = subst (AllByRecursion IsDerived) h.was faultless.trees

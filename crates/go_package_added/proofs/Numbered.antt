@@ -15,9 +15,8 @@ use Rattle.go_package_defs.specs.Knowledge.{referent_there, referent_at}
 use Rattle.go_package_defs.specs.Sources.{Package}
 use Rattle.go_heads_added.specs.Added.{Gap, beyond, longer_declared}
 use Rattle.go_package_added.specs.OneMore.{inserted, function_moves}
-use Rattle.go_package_added.proofs.Inserted.{other_there}
+use Rattle.go_package_added.proofs.Inserted.{other_there, mapped_count}
 use Rattle.go_package_added.proofs.Rounds.{in_front, behind_it}
-use Rattle.go_package_added.proofs.Scopes.{mapped_count}
 
 module _ (k end : ℕ) (g : Gap) where
   abbrev to : Declared → Declared

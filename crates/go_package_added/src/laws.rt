@@ -18,7 +18,7 @@ ghost use Rattle.go_package_defs.specs.Knowledge.{outlines};
 ghost use Rattle.go_package_defs.specs.Sources.{Package, Source, rounds, text_at, unit_of};
 ghost use Rattle.go_package_defs.specs.Verdicts.{known};
 ghost use Rattle.go_package_added.specs.Appended.{AnswersWith, FitsNames, IsAppended, function_name, package_in};
-ghost use Rattle.go_package_added.specs.Examples.{Examples};
+ghost use Rattle.go_package_added.specs.Examples.{ClosedExamples, Examples};
 ghost use Rattle.go_package_settled.specs.Read.{IsFaultless};
 ghost use Rattle.go_package_added.specs.OneMore.{IsOneMore, IsSignature, IsSignatureBefore, MaybeReadAt, Settles, with_function};
 
@@ -31,9 +31,11 @@ use go_package_alike::laws::expressions_follow_from_their_tokens;
 use go_package_settled::laws::faultless_packages_settle;
 use go_stmts_elsewhere::laws::functions_are_typed_elsewhere;
 
-/// Worked examples: the package of two functions with a third, at the end of its one file and of the first of two.
+/// Worked examples: the package of two functions with a third, at the end of its one file and of the first of two; and a package that is
+/// closed.
 pub fn examples()
-    ensures { Examples }
+    ensures answers { Examples }
+    ensures closed { ClosedExamples }
 {}
 
 /// Where a package declares what another one does and one function between, and nothing names that, its objects stand for the same, and the
