@@ -112,6 +112,10 @@ pub record AnswersWith (k : ℕ) (ss us : List Source) (h : IsAppended k ss us) 
   pub answer : AreClosed (package_in ss) (specifications 0 ss) → same_text (function_name k ss us h) (codes "main") ≡ false → (s : Stands)
       → IsSignature (package_in us) (outlines_in us) keeps.gap.shared (function_specification k ss us h) 0 (found_in ss) s
       → (x : Environment) → package_answer ss (uses (map unit_of ss)) ≡ Ok x → package_answer us (uses (map unit_of us)) ≡ Ok (with_function keeps.gap.shared s x)
+  -- and it has no other
+  pub before : AreClosed (package_in ss) (specifications 0 ss) → same_text (function_name k ss us h) (codes "main") ≡ false → (s : Stands)
+      → IsSignature (package_in us) (outlines_in us) keeps.gap.shared (function_specification k ss us h) 0 (found_in ss) s
+      → (z : Environment) → package_answer us (uses (map unit_of us)) ≡ Ok z → (x : Environment) × (package_answer ss (uses (map unit_of ss)) ≡ Ok x) × (z ≡ with_function keeps.gap.shared s x)
   -- the signature may be judged by what its names mean in the package without it
   pub signature : AreClosed (package_in ss) (specifications 0 ss) → same_text (function_name k ss us h) (codes "main") ≡ false → (test : ℕ → Bool) (meant : ℕ → Option Object)
       → ((i : ℕ) → test i ≡ true → object_of (uses (map unit_of us)) k i ≡ option_map (shifted keeps.gap) (meant i)) → AllTokens test h.signature → (s : Stands)

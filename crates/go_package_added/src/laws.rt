@@ -39,11 +39,15 @@ pub fn examples()
 {}
 
 /// Where a package declares what another one does and one function between, and nothing names that, its objects stand for the same, and the
-/// function for its type; no rule fails that did not (Go specification: Declarations and scope, Function declarations).
+/// function for its type: no rule fails that did not, and none that did stops failing (Go specification: Declarations and scope, Function
+/// declarations).
 pub fn one_more_function_has_its_answer()
-    ensures { (p q : Package) (ds es : List Specification) (g : Gap) (h : IsOneMore p q ds es g) (s : Stands) → Settles p (outlines p ds)
+    ensures after { (p q : Package) (ds es : List Specification) (g : Gap) (h : IsOneMore p q ds es g) (s : Stands) → Settles p (outlines p ds)
         → IsSignature q (outlines q es) g.shared h.function.specification h.function.column (known p (outlines p ds) (rounds p)) s
         → (x : Environment) → answer_by p ds ≡ Ok x → answer_by q es ≡ Ok (with_function g.shared s x) }
+    ensures before { (p q : Package) (ds es : List Specification) (g : Gap) (h : IsOneMore p q ds es g) (s : Stands) → Settles p (outlines p ds)
+        → IsSignature q (outlines q es) g.shared h.function.specification h.function.column (known p (outlines p ds) (rounds p)) s
+        → (z : Environment) → answer_by q es ≡ Ok z → (x : Environment) × (answer_by p ds ≡ Ok x) × (z ≡ with_function g.shared s x) }
 {
     expressions_are_typed_elsewhere();
     trees_spelled_the_same_keep_it();
