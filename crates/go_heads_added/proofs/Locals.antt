@@ -4,8 +4,6 @@ use Rattle.std.specs.Prelude.{if◌then◌else◌}
 use Rattle.std.specs.List.{AllByRecursion}
 use Rattle.go_tree.specs.declared.context.Block.{Block}
 use Rattle.go_tree.specs.declared.context.Block.TheVariants as block
-use Rattle.go_tree.specs.declared.context.Entity.{Entity}
-use Rattle.go_tree.specs.declared.context.Entity.TheVariants as entity
 use Rattle.go_tree.specs.declared.object.Declared.{Declared}
 use Rattle.go_tree.specs.Contexts.{is_package}
 use Rattle.go_tree.specs.Declarations.{Found, is_function, new_among}
@@ -14,7 +12,7 @@ use Rattle.go_tree.specs.Uses.{declared_by, declared_in_package, begins_function
 use Rattle.go_heads_added.specs.Added.{IsAdded, IsParameter, LiesIn, MayStand, AreHoused, housed, gap_in, longer, longer_declared}
 use Rattle.go_heads_added.specs.Kept.{KeepsLocals}
 use Rattle.go_heads_added.proofs.Found.{found_before}
-use Rattle.go_heads_added.proofs.Names.{all, front, rest, kept, others, added, declarations_were, declarations_are, parameters_new}
+use Rattle.go_heads_added.proofs.Names.{all, rest, kept, others, added, declarations_were, declarations_are, parameters_new}
 use Rattle.go_heads_added.proofs.Needing.{functions_in_front}
 
 false_true : {A : Type 0} → false ≡ true → A

@@ -1,12 +1,11 @@
 -- The names of the signature of an appended function mean what is declared elsewhere.
-use Rattle.std.proofs.Common.{◌≡◌, ◌∙◌, ℕ, suc, ◌<◌, ◌≤◌, Bool, true, false, ◌&&◌, List, [], ◌∷◌, ◌++◌, length, map, Option, Some, None, refl, sym, ap, subst, arith}
+use Rattle.std.proofs.Common.{◌≡◌, ◌∙◌, ℕ, suc, ◌<◌, ◌≤◌, Bool, true, false, ◌&&◌, List, [], ◌∷◌, ◌++◌, map, Option, Some, None, refl, sym, ap, subst, arith}
 use Rattle.std.specs.Prelude.{if◌then◌else◌, nat_eq, nat_le, nat_lt}
 use Rattle.std.specs.Option.{option_map}
 use Rattle.std.specs.List.{AllByRecursion}
 use Rattle.std.proofs.lemmas.Bool.Decides.{nat_tests}
 use Rattle.go_tokens.specs.Spellings.{same_text}
 use Rattle.go_tokens.specs.Tokens.{TokenList}
-use Rattle.go_tree.specs.declared.context.Block.{Block}
 use Rattle.go_tree.specs.declared.event.Event.{Event}
 use Rattle.go_tree.specs.declared.event.Event.TheVariants as event
 use Rattle.go_tree.specs.Declarations.{Found, new_among, found_in}
@@ -20,7 +19,7 @@ use Rattle.go_heads_added.specs.Appended.{IsParameterOf}
 use Rattle.go_heads_added.specs.Faults.{FileIsWithin, SourceIsOuter, MeansOuter}
 use Rattle.go_heads_added.proofs.Circles.{IsOld, SourceHas, imports_have, numbered_has}
 use Rattle.go_heads_added.proofs.Following as following
-use Rattle.go_heads_added.proofs.Names.{g, all, kept, others, added, first_meanings, new_meanings, other_meanings, meanings_are, parameters_new}
+use Rattle.go_heads_added.proofs.Names.{g, all, kept, others, first_meanings, new_meanings, other_meanings, meanings_are}
 use Rattle.go_heads_added.proofs.Numbers.{moved}
 use Rattle.go_heads_added.proofs.Texts.{all_both, new_all}
 

@@ -19,9 +19,9 @@ use Rattle.go_package_defs.specs.Verdicts.{known, own_faults, value_state, state
 use Rattle.go_exprs_rules.specs.TypeNodes.{part_type}
 use Rattle.go_heads_added.specs.Added.{Gap, beyond}
 use Rattle.go_package_added.specs.OneMore.{inserted, all_beyond, outline_beyond, IsKept, IsOneMore, IsSignature, Settles, function_state, with_function}
-use Rattle.go_package_added.proofs.Inserted.{in_beyond, any_beyond, map_inserted, length_inserted}
+use Rattle.go_package_added.proofs.Inserted.{in_beyond, any_beyond, map_inserted, length_inserted, mapped_count}
 use Rattle.go_package_added.proofs.Judged.{IsTypedAnew, expressions_anew, rule_anew}
-use Rattle.go_package_added.proofs.Scopes.{MovesTyped, KeepsWords, FollowsTokens, mapped_count, scopes_anew, rights_same, state_beyond, outline_there, passes_beyond}
+use Rattle.go_package_added.proofs.Scopes.{MovesTyped, KeepsWords, FollowsTokens, scopes_anew, rights_same, state_beyond, outline_there, passes_beyond}
 use Rattle.go_package_added.proofs.Rounds.{in_front, behind_it, function_known, known_with, long_enough}
 
 -- ---- lists of failures
@@ -68,6 +68,11 @@ answered : (fs gs : List Failure) (x z : Environment) (to : Environment → Envi
 answered [] [] x z to e k = ap (λ w. Ok (to w)) (inside_ok x z k)
 answered [] (g ∷ gs) x z to e k = cc
 answered (f ∷ fs) gs x z to e k = absurd (never_answered f fs x z k)
+
+answered_back : (fs gs : List Failure) (x z : Environment) (to : Environment → Environment) → none_of gs ≡ none_of fs → unless (least gs) (to x) ≡ Ok z → (unless (least fs) x ≡ Ok x) × (z ≡ to x)
+answered_back [] [] x z to e k = (refl, sym (inside_ok (to x) z k))
+answered_back (f ∷ fs) [] x z to e k = cc
+answered_back fs (g ∷ gs) x z to e k = absurd (never_answered g gs (to x) z k)
 
 if_none : (b : Bool) (t : ℕ) → no_faults (fault_if b t) ≡ not b
 if_none true t = refl
@@ -313,11 +318,25 @@ module _ (moves : MovesTyped) (keeps : KeepsWords) (follows : FollowsTokens) (p 
         ap (known q os) two_more ∙ known_with moves keeps follows p q ds es g h inside (suc (suc (rounds p)))
         ∙ ap (λ z. inserted g.shared z (known p xs (suc (suc (rounds p))))) function_last ∙ ap (inserted g.shared (function_state s)) further_two
 
-    pub answered_with : (x : Environment) → answer_by p ds ≡ Ok x → answer_by q es ≡ Ok (with_function g.shared s x)
-    answered_with x e =
-        let many = long_enough moves keeps follows p q ds es g h inside (rounds p) in
+    many : g.shared ≤ length found
+    many = long_enough moves keeps follows p q ds es g h inside (rounds p)
+
+    abbrev failures_then : List Failure
+    failures_then = package_failures q os (inserted g.shared (function_state s) found) es
+
+    answer_there : answer_by q es ≡ unless (least failures_then) (with_function g.shared s (environment_of p found))
+    answer_there =
         ap (answer_with q es) h.outlined
         ∙ ap (answer_on q es os) known_at_last
-        ∙ ap (unless (least (package_failures q os (inserted g.shared (function_state s) found) es))) (environment_same (function_state s) found many)
-        ∙ answered (package_failures p xs found ds) (package_failures q os (inserted g.shared (function_state s) found) es) (environment_of p found) x (with_function g.shared s)
-        (failures_same (function_state s) found many s (sig.state (function_state s))) e
+        ∙ ap (unless (least failures_then)) (environment_same (function_state s) found many)
+
+    same_failures : none_of failures_then ≡ none_of (package_failures p xs found ds)
+    same_failures = failures_same (function_state s) found many s (sig.state (function_state s))
+
+    pub answered_with : (x : Environment) → answer_by p ds ≡ Ok x → answer_by q es ≡ Ok (with_function g.shared s x)
+    answered_with x e = answer_there ∙ answered (package_failures p xs found ds) failures_then (environment_of p found) x (with_function g.shared s) same_failures e
+
+    pub answered_before : (z : Environment) → answer_by q es ≡ Ok z → (x : Environment) × (answer_by p ds ≡ Ok x) × (z ≡ with_function g.shared s x)
+    answered_before z e =
+        let r = answered_back (package_failures p xs found ds) failures_then (environment_of p found) z (with_function g.shared s) same_failures (sym answer_there ∙ e) in
+        (environment_of p found, r.0, r.1)

@@ -1,17 +1,15 @@
 -- A package to a file of which a function is appended declares one function more.
-use Rattle.std.proofs.Common.{◌≡◌, ◌∙◌, ℕ, zero, suc, ◌+◌, ◌<◌, ◌≤◌, Bool, true, false, ◌&&◌, List, [], ◌∷◌, ◌++◌, length, map, Option, Some, None, refl, sym, ap, subst, length-append, arith}
-use Rattle.std.specs.Prelude.{if◌then◌else◌, nat_eq, slice_get, codes, Ok}
+use Rattle.std.proofs.Common.{◌≡◌, ◌∙◌, ℕ, zero, suc, ◌<◌, ◌≤◌, Bool, true, false, ◌&&◌, List, [], ◌∷◌, ◌++◌, length, map, Option, Some, refl, sym, ap, subst, length-append, arith}
+use Rattle.std.specs.Prelude.{if◌then◌else◌, nat_eq, slice_get, codes}
 use Rattle.std.specs.List.{AllByRecursion}
-use Rattle.std.proofs.lemmas.Bool.{eqb-true}
 use Rattle.go_tokens.specs.Spellings.{same_text}
-use Rattle.go_tokens.specs.Tokens.{TokenList, kinds}
+use Rattle.go_tokens.specs.Tokens.{kinds}
 use Rattle.go_grammar.specs.declared.kind.Category.TheVariants as category
 use Rattle.go_grammar.specs.declared.kind.Kind.TheVariants as kind
 use Rattle.go_grammar.specs.Grammar.{IsFile}
-use Rattle.go_grammar.specs.Trees.{Tree, node, Trees, none, more}
+use Rattle.go_grammar.specs.Trees.{node, none, more}
 use Rattle.go_rewriting.specs.Places.{with_declaration}
 use Rattle.go_scopes_events.proofs.Public.{derives_laid}
-use Rattle.go_tree.specs.declared.context.Entity.{Entity}
 use Rattle.go_tree.specs.declared.context.Entity.TheVariants as entity
 use Rattle.go_tree.specs.declared.object.Declared.{Declared}
 use Rattle.go_tree.specs.declared.object.Object.{Object}
@@ -23,7 +21,7 @@ use Rattle.go_tree.specs.Uses.{uses, declared_by, declared_in_package, object_of
 use Rattle.go_tree.specs.Units.{word}
 use Rattle.go_exprs_rules.specs.Sorts.{Stands as Sort}
 use Rattle.go_exprs_elsewhere.specs.Elsewhere.{referent_moved}
-use Rattle.go_package_defs.specs.Answer.{Environment, is_main, is_main_package, specifications, answer_by, package_answer}
+use Rattle.go_package_defs.specs.Answer.{is_main, is_main_package, specifications}
 use Rattle.go_package_defs.specs.Declarations.{Specification, declarations}
 use Rattle.go_package_defs.specs.Knowledge.{Outline, outlines, declaring, outline_by, referent_at}
 use Rattle.go_package_defs.specs.Sources.{Source, Package, unit_of, text_at, tokens_there, needed_at, rounds}
@@ -35,6 +33,7 @@ use Rattle.go_heads_added.proofs.Public.{clause_behind}
 use Rattle.go_package_settled.specs.Read.{IsFaultless}
 use Rattle.go_package_added.specs.Appended.{IsAppended, AreClosed, IsClosed, function_name, function_specification, package_in, outlines_in, found_in}
 use Rattle.go_package_added.specs.OneMore.{inserted, all_beyond, outline_beyond, IsOneMore, IsSignature, IsSignatureBefore, MaybeReadAt, function_moves}
+use Rattle.go_package_added.proofs.Inserted.{front_of, mapped_count, rest_of}
 use Rattle.go_package_added.proofs.Needing.{needed_kept}
 use Rattle.go_package_added.proofs.Numbered.{referents_beyond}
 use Rattle.go_package_added.proofs.Outlined.{KeepsTokens, all_kept, outlines_kept, declaring_skips, not_here, function_declared, put_in}
@@ -45,14 +44,6 @@ use Rattle.go_package_added.proofs.Specified.{IsPlaced, AreBelow, laid_below, fr
 element_there : {A : Type 0} (P : A → Type 0) (xs : List A) (y : A) (ys : List A) → AllByRecursion P (xs ++ y ∷ ys) → P y
 element_there P [] y ys h = h.0
 element_there P (x ∷ xs) y ys h = element_there P xs y ys h.1
-
-front_of : {A : Type 0} (P : A → Type 0) (xs ys : List A) → AllByRecursion P (xs ++ ys) → AllByRecursion P xs
-front_of P [] ys h = tt
-front_of P (x ∷ xs) ys h = (h.0, front_of P xs ys h.1)
-
-rest_of : {A : Type 0} (P : A → Type 0) (xs ys : List A) → AllByRecursion P (xs ++ ys) → AllByRecursion P ys
-rest_of P [] ys h = h
-rest_of P (x ∷ xs) ys h = rest_of P xs ys h.1
 
 each_of : {A : Type 0} (P : A → Type 0) → ((x : A) → P x) → (xs : List A) → AllByRecursion P xs
 each_of P f [] = tt
@@ -65,10 +56,6 @@ both_each P Q R f (x ∷ xs) h g = (f x h.0 g.0, both_each P Q R f xs h.1 g.1)
 map_twice : {A B C : Type 0} (f : B → C) (h : A → B) (xs : List A) → map (λ x. f (h x)) xs ≡ map f (map h xs)
 map_twice f h [] = refl
 map_twice f h (x ∷ xs) = ap (λ l. f (h x) ∷ l) (map_twice f h xs)
-
-map_count : {A B : Type 0} (f : A → B) (xs : List A) → length (map f xs) ≡ length xs
-map_count f [] = refl
-map_count f (x ∷ xs) = ap suc (map_count f xs)
 
 -- ---- tokens
 
@@ -196,8 +183,8 @@ module _ (k : ℕ) (ss us : List Source) (h : IsAppended k ss us) (keeps : Keeps
       let y = ap length keeps.declared.were in
       let b = length-append (map to first) (keeps.declared.function ∷ map to second) in
       let c = length-append first second in
-      let d = map_count to first in
-      let e = map_count to second in
+      let d = mapped_count to first in
+      let e = mapped_count to second in
       omega (arith, x, y, b, c, d, e)
 
   two_more : rounds q ≡ suc (suc (rounds p))

@@ -1,6 +1,6 @@
 -- The numbers of the objects of a package by sort, where a function is put in.
-use Rattle.std.proofs.Common.{◌≡◌, ◌∙◌, ℕ, zero, suc, ◌+◌, ◌≤◌, Bool, true, false, List, [], ◌∷◌, ◌++◌, length, map, Option, Some, None, refl, sym, ap, arith}
-use Rattle.std.specs.Prelude.{if◌then◌else◌, slice_get}
+use Rattle.std.proofs.Common.{◌≡◌, ◌∙◌, ℕ, suc, ◌+◌, ◌≤◌, List, [], ◌∷◌, ◌++◌, length, map, Option, Some, None, refl, sym, ap, arith}
+use Rattle.std.specs.Prelude.{slice_get}
 use Rattle.std.specs.Option.{option_map}
 use Rattle.std.proofs.lemmas.Option.{slice_get-map}
 use Rattle.go_tree.specs.declared.context.Entity.{Entity}
@@ -10,14 +10,13 @@ use Rattle.go_tree.specs.Uses.{count_functions}
 use Rattle.go_typed.specs.declared.form.Referent.{Referent}
 use Rattle.go_typed.specs.declared.form.Referent.TheVariants as referent
 use Rattle.go_typed.specs.Packages.{Counts, no_counts, referent_of, counted, referents_from, referents}
-use Rattle.go_exprs_elsewhere.specs.Elsewhere.{Moves, referent_moved}
+use Rattle.go_exprs_elsewhere.specs.Elsewhere.{referent_moved}
 use Rattle.go_package_defs.specs.Knowledge.{referent_there, referent_at}
 use Rattle.go_package_defs.specs.Sources.{Package}
 use Rattle.go_heads_added.specs.Added.{Gap, beyond, longer_declared}
 use Rattle.go_package_added.specs.OneMore.{inserted, function_moves}
-use Rattle.go_package_added.proofs.Inserted.{other_there}
+use Rattle.go_package_added.proofs.Inserted.{other_there, mapped_count}
 use Rattle.go_package_added.proofs.Rounds.{in_front, behind_it}
-use Rattle.go_package_added.proofs.Scopes.{mapped_count}
 
 module _ (k end : ℕ) (g : Gap) where
   abbrev to : Declared → Declared

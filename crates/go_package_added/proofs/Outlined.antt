@@ -1,27 +1,24 @@
 -- The outlines of a package to a file of which a function is appended, and the numbers of its objects.
-use Rattle.std.proofs.Common.{◌≡◌, ◌∙◌, ℕ, zero, suc, ◌+◌, ◌<◌, ◌≤◌, inl, inr, ◌⊎◌, Bool, true, false, ◌&&◌, List, [], ◌∷◌, ◌++◌, length, map, Option, Some, None, refl, sym, ap, arith}
-use Rattle.std.specs.Prelude.{if◌then◌else◌, nat_eq, nat_lt, max, codes}
+use Rattle.std.proofs.Common.{◌≡◌, ◌∙◌, ℕ, zero, suc, ◌<◌, ◌≤◌, inl, inr, Bool, true, false, List, [], ◌∷◌, ◌++◌, length, map, Option, Some, None, refl, sym, ap, arith}
+use Rattle.std.specs.Prelude.{if◌then◌else◌, nat_eq, nat_lt, max}
 use Rattle.std.specs.Option.{option_map}
 use Rattle.std.specs.List.{AllByRecursion}
 use Rattle.std.proofs.lemmas.Bool.Decides.{nat_tests}
-use Rattle.go_tokens.specs.Spellings.{same_text}
 use Rattle.go_grammar.specs.Trees.{Tree}
-use Rattle.go_tree.specs.declared.context.Entity.{Entity}
-use Rattle.go_tree.specs.declared.context.Entity.TheVariants as entity
 use Rattle.go_tree.specs.declared.object.Declared.{Declared}
 use Rattle.go_tree.specs.declared.object.Object.{Object}
 use Rattle.go_tree.specs.declared.object.Object.TheVariants as object
 use Rattle.go_tree.specs.Uses.{object_of}
 use Rattle.go_package_alike.specs.Scopes.{AllTokens}
-use Rattle.go_package_defs.specs.Answer.{is_main, is_main_package}
 use Rattle.go_package_defs.specs.Declarations.{Specification}
-use Rattle.go_package_defs.specs.Knowledge.{Outline, outlines, place_of, following, column_of, found_or, declaring, outline_by, no_specification}
+use Rattle.go_package_defs.specs.Knowledge.{outlines, place_of, following, column_of, found_or, declaring, outline_by, no_specification}
 use Rattle.go_package_defs.specs.Sources.{Package, text_at, number_in, number_before, number_at, needed_at}
-use Rattle.go_package_defs.specs.Verdicts.{first_name, needed_columns, needed_by_all, numbers_of}
-use Rattle.go_heads_added.specs.Added.{Gap, beyond, shifted, Stands, longer_declared}
+use Rattle.go_package_defs.specs.Verdicts.{first_name, needed_columns, numbers_of}
+use Rattle.go_heads_added.specs.Added.{Gap, beyond, shifted, Stands}
 use Rattle.go_package_added.specs.Appended.{IsClosed}
-use Rattle.go_package_added.specs.OneMore.{inserted, all_beyond, outline_beyond, IsKept, MaybeReadAt}
-use Rattle.go_package_added.proofs.Specified.{IsBelow, MaybeBelow, StandsBelow, IsPlaced, below_tokens, all_of_them}
+use Rattle.go_package_added.specs.OneMore.{inserted, all_beyond, IsKept, MaybeReadAt}
+use Rattle.go_package_added.proofs.Inserted.{map_both, mapped_count}
+use Rattle.go_package_added.proofs.Specified.{IsBelow, MaybeBelow, IsPlaced, below_tokens, all_of_them}
 
 -- Each token but those from the token n of the file k on says the same, and names the same object by its new number; what it declares needs
 -- the same.
@@ -204,20 +201,12 @@ inserted_at x [] ys (suc a) e = absurd (omega (arith, e))
 inserted_at x (y ∷ xs) ys zero e = absurd (omega (arith, e))
 inserted_at x (y ∷ xs) ys (suc a) e = ap (λ l. y ∷ l) (inserted_at x xs ys a (omega (arith, e)))
 
-map_both : {A B : Type 0} (f : A → B) (xs ys : List A) → map f (xs ++ ys) ≡ map f xs ++ map f ys
-map_both f [] ys = refl
-map_both f (x ∷ xs) ys = ap (λ l. f x ∷ l) (map_both f xs ys)
-
-map_count : {A B : Type 0} (f : A → B) (xs : List A) → length (map f xs) ≡ length xs
-map_count f [] = refl
-map_count f (x ∷ xs) = ap suc (map_count f xs)
-
 -- A list that is another one with one element between, where each of the others has what it had.
 pub put_in : {A B C : Type 0} (to : A → B) (f : A → C) (h : B → C) (x : B) (y : C) (xs ys : List A) (a : ℕ) → length xs ≡ a → h x ≡ y → AllByRecursion (λ z. h (to z) ≡ f z) (xs ++ ys)
     → map h (map to xs ++ x ∷ map to ys) ≡ inserted a y (map f (xs ++ ys))
 put_in {A} {B} {C} to f h x y xs ys a e i all =
     map_both h (map to xs) (x ∷ map to ys) ∙ ap (λ l. l ++ h x ∷ map h (map to ys)) (each xs (front xs ys all)) ∙ ap (λ z. map f xs ++ z ∷ map h (map to ys)) i
-    ∙ ap (λ l. map f xs ++ y ∷ l) (each ys (rest xs ys all)) ∙ sym (inserted_at y (map f xs) (map f ys) a (let c = map_count f xs in omega (arith, c, e))) ∙ ap (inserted a y) (sym (map_both f xs ys))
+    ∙ ap (λ l. map f xs ++ y ∷ l) (each ys (rest xs ys all)) ∙ sym (inserted_at y (map f xs) (map f ys) a (let c = mapped_count f xs in omega (arith, c, e))) ∙ ap (inserted a y) (sym (map_both f xs ys))
   where
     each : (zs : List A) → AllByRecursion (λ z. h (to z) ≡ f z) zs → map h (map to zs) ≡ map f zs
     each [] w = refl

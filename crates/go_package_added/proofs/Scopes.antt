@@ -27,7 +27,7 @@ use Rattle.go_package_defs.specs.Sources.{Package, text_at}
 use Rattle.go_exprs_elsewhere.specs.Elsewhere.{Moves, Along, KeepsLast, LastKept, AllKeepLast, KeepsSpelling, IsTypedElsewhere, form_moved, fault_placed}
 use Rattle.go_heads_added.specs.Added.{Gap, beyond, shifted}
 use Rattle.go_package_added.specs.OneMore.{inserted, all_beyond, outline_beyond, IsKept, IsOneMore}
-use Rattle.go_package_added.proofs.Inserted.{other_there}
+use Rattle.go_package_added.proofs.Inserted.{mapped_count, other_there}
 use Rattle.go_package_added.proofs.Assigned.{m, fails_same}
 use Rattle.go_package_added.proofs.Judged.{IsTypedAnew}
 
@@ -85,10 +85,6 @@ rights_beyond zero es y ss h k = refl
 rights_beyond (suc a) [] y ss h k = absurd (omega (arith, h))
 rights_beyond (suc a) (e ∷ es) y [] h k = absurd (omega (arith, k))
 rights_beyond (suc a) (e ∷ es) y (s ∷ ss) h k = ap (λ rs. if is_type e then s.right ∷ rs else rs) (rights_beyond a es y ss (omega (arith, h)) (omega (arith, k)))
-
-pub mapped_count : {A B : Type 0} (f : A → B) (xs : List A) → length (map f xs) ≡ length xs
-mapped_count f [] = refl
-mapped_count f (x ∷ xs) = ap suc (mapped_count f xs)
 
 module _ (a : ℕ) (function : Outline) (xs : List Outline) (inside : a ≤ length xs) (y : State) (ss : List State) (as_many : a ≤ length ss) where
   abbrev pub all_outlines : List Outline

@@ -1,9 +1,7 @@
 -- The signature of an appended function, judged by what its names mean in the package without it.
-use Rattle.std.proofs.Common.{◌≡◌, ◌∙◌, ℕ, ◌≤◌, Bool, true, List, [], length, map, Option, refl, sym, ap, subst, arith}
+use Rattle.std.proofs.Common.{◌≡◌, ◌∙◌, ℕ, ◌≤◌, Bool, true, List, length, map, Option, refl, sym, subst, arith}
 use Rattle.std.specs.Option.{option_map}
 use Rattle.std.specs.List.{AllByRecursion}
-use Rattle.go_grammar.specs.Trees.{Tree}
-use Rattle.go_tree.specs.declared.object.Declared.{Declared}
 use Rattle.go_tree.specs.declared.object.Object.{Object}
 use Rattle.go_tree.specs.Uses.{object_of}
 use Rattle.go_exprs_rules.specs.Sorts.{Stands}
@@ -14,9 +12,10 @@ use Rattle.go_package_defs.specs.Sources.{Package, text_at, rounds}
 use Rattle.go_package_defs.specs.Verdicts.{known}
 use Rattle.go_heads_added.specs.Added.{Gap, shifted}
 use Rattle.go_package_added.specs.OneMore.{inserted, outline_beyond, MaybeReadAt, IsOneMore, IsSignature, IsSignatureBefore, spoken_scope}
+use Rattle.go_package_added.proofs.Inserted.{mapped_count}
 use Rattle.go_package_added.proofs.Judged.{value_state_anew}
 use Rattle.go_package_added.proofs.Rounds.{long_enough}
-use Rattle.go_package_added.proofs.Scopes.{MovesTyped, KeepsWords, FollowsTokens, mapped_count, spoken_anew}
+use Rattle.go_package_added.proofs.Scopes.{MovesTyped, KeepsWords, FollowsTokens, spoken_anew}
 
 module _ (moves : MovesTyped) (keeps : KeepsWords) (follows : FollowsTokens) (p q : Package) (ds es : List Specification) (g : Gap) (h : IsOneMore p q ds es g) where
   abbrev f : Specification

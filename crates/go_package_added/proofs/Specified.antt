@@ -1,24 +1,23 @@
 -- The specifications of a package to a file of which a function is appended.
-use Rattle.std.proofs.Common.{◌≡◌, ◌∙◌, ℕ, zero, suc, ◌+◌, ◌-◌, ◌<◌, ◌≤◌, inl, inr, ◌⊎◌, Bool, true, false, List, [], ◌∷◌, ◌++◌, length, map, Option, Some, None, refl, sym, ap, subst, append_assoc, append-nil, arith}
-use Rattle.std.specs.Prelude.{if◌then◌else◌, nat_eq, nat_lt}
+use Rattle.std.proofs.Common.{◌≡◌, ◌∙◌, ℕ, suc, ◌+◌, ◌-◌, ◌<◌, ◌≤◌, inl, inr, ◌⊎◌, true, false, List, [], ◌∷◌, ◌++◌, length, Option, Some, None, refl, sym, ap, append_assoc, arith}
+use Rattle.std.specs.Prelude.{nat_eq, nat_lt}
 use Rattle.std.specs.List.{AllByRecursion}
 use Rattle.std.proofs.lemmas.Bool.Decides.{nat_tests}
 use Rattle.go_grammar.specs.declared.kind.Kind.{Kind}
 use Rattle.go_grammar.specs.declared.kind.Kind.TheVariants as kind
 use Rattle.go_grammar.specs.declared.kind.Sort.{Sort}
 use Rattle.go_grammar.specs.declared.kind.Sort.TheVariants as declaring
-use Rattle.go_grammar.specs.Trees.{Tree, node, Trees, none, more, skip, first, last, onto}
+use Rattle.go_grammar.specs.Trees.{Tree, node, Trees, none, more, skip, last, onto}
 use Rattle.go_rewriting.specs.Places.{with_declaration}
 use Rattle.go_tree.specs.declared.context.Entity.{Entity}
 use Rattle.go_tree.specs.declared.context.Entity.TheVariants as entity
 use Rattle.go_tree.specs.Contexts.{entity_of}
-use Rattle.go_scopes_events.proofs.Public.{IsLaidOut, LieIn, behind_name, laid_grows, lie_order}
+use Rattle.go_scopes_events.proofs.Public.{IsLaidOut, LieIn, behind_name, lie_order}
 use Rattle.go_stmts_defs.specs.Reading.{part_source}
 use Rattle.go_package_alike.specs.Scopes.{AllTokens, TokensIn, TokenHas}
 use Rattle.go_package_defs.specs.Answer.{specifications}
-use Rattle.go_package_defs.specs.Declarations.{Specification, trees_of, first_tokens, name_tokens, listed_values, type_behind, values_behind, first_part, named_specification, type_specification, specification_by, specification_of, source_behind, grouped, declared, function, declaration, declarations, in_file}
+use Rattle.go_package_defs.specs.Declarations.{Specification, trees_of, first_tokens, name_tokens, listed_values, type_behind, values_behind, first_part, named_specification, specification_by, specification_of, source_behind, grouped, declared, function, declaration, declarations, in_file}
 use Rattle.go_package_defs.specs.Sources.{Source}
-use Rattle.go_package_added.specs.OneMore.{MaybeReadAt}
 
 -- ---- lists
 

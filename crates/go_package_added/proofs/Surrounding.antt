@@ -21,10 +21,10 @@ use Rattle.go_package_added.specs.Appended.{IsAppended, package_in, outlines_in,
 use Rattle.go_package_added.specs.OneMore.{inserted, function_moves, with_function}
 use Rattle.go_package_added.specs.Unchanged.{SurroundsAlong, StandsWhole, StaysTyped, last_in}
 use Rattle.go_package_added.proofs.Appending.{all_placed, inside, referents_same, texts}
-use Rattle.go_package_added.proofs.Inserted.{other_there}
+use Rattle.go_package_added.proofs.Inserted.{other_there, mapped_count}
 use Rattle.go_package_added.proofs.Outlined.{put_in}
 use Rattle.go_package_added.proofs.Rounds.{known_count}
-use Rattle.go_package_added.proofs.Scopes.{KeepsWords, mapped_count}
+use Rattle.go_package_added.proofs.Scopes.{KeepsWords}
 use Rattle.go_package_added.proofs.Specified.{IsPlaced}
 use Rattle.go_package_added.proofs.Unchanged.{FunctionsElsewhere, function_stays}
 

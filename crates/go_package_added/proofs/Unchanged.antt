@@ -1,6 +1,6 @@
 -- A function that stays as it is has the same types where a function is appended.
-use Rattle.std.proofs.Common.{◌≡◌, ◌∙◌, ℕ, zero, suc, ◌+◌, ◌-◌, ◌<◌, ◌≤◌, inl, inr, ◌⊎◌, Bool, true, false, List, [], ◌∷◌, ◌++◌, length, map, Option, Some, None, Ok, Err, refl, sym, ap, subst, arith}
-use Rattle.std.specs.Prelude.{nat_eq, slice_get, replicate}
+use Rattle.std.proofs.Common.{◌≡◌, ◌∙◌, ℕ, zero, suc, ◌+◌, ◌-◌, ◌<◌, ◌≤◌, inl, inr, Bool, true, List, [], ◌∷◌, ◌++◌, length, map, Option, Some, None, refl, sym, ap, subst, arith}
+use Rattle.std.specs.Prelude.{slice_get, replicate}
 use Rattle.std.specs.Option.{option_map}
 use Rattle.std.specs.Str.{chars}
 use Rattle.go_grammar.specs.declared.kind.Kind.{Kind}
@@ -17,7 +17,7 @@ use Rattle.go_exprs_elsewhere.specs.Elsewhere.{Moves, KeepsSpelling}
 use Rattle.go_stmts_defs.specs.Bodies.{start}
 use Rattle.go_stmts_elsewhere.specs.Frames.{AlongFrames, ObjectAlong, PlaceKept, KeepsPlaces, AllKeepPlaces}
 use Rattle.go_stmts_elsewhere.specs.Functions.{AlongFunctions, LocalsStand}
-use Rattle.go_package_defs.specs.Bodies.{Surroundings, Portion, own_object, texts_from, objects_from, based_tree, portion_of, scope_of, text_there, count_types, local_type, function_in, function_over, function_with, function_of}
+use Rattle.go_package_defs.specs.Bodies.{Surroundings, Portion, own_object, texts_from, objects_from, based_tree, portion_of, scope_of, text_there, count_types, local_type, function_in, function_with, function_of}
 use Rattle.go_package_defs.specs.Declarations.{Specification}
 use Rattle.go_package_defs.specs.Sources.{Package, text_at}
 use Rattle.go_heads_added.specs.Added.{Gap, beyond, shifted, Stands}

@@ -1,22 +1,27 @@
 -- A function with an empty body that is appended to a file of a package.
-use Rattle.std.specs.Prelude.{◌≡◌, ◌≤◌, ℕ, suc, Bool, true, false, List, [], ◌∷◌, ◌++◌, length, map, Option, Some, None, Ok, codes}
+use Rattle.std.specs.Prelude.{◌≡◌, ◌<◌, ◌≤◌, ℕ, suc, Bool, true, false, List, [], ◌∷◌, ◌++◌, length, map, Option, Some, None, Ok, codes}
 use Rattle.std.specs.List.{AllByRecursion}
 use Rattle.std.specs.Option.{option_map}
 use Rattle.go_grammar.specs.declared.kind.Category.TheVariants as category
 use Rattle.go_grammar.specs.declared.kind.Kind.TheVariants as kind
 use Rattle.go_grammar.specs.Grammar.{Derives}
-use Rattle.go_grammar.specs.Trees.{Tree, node, Trees, none, more}
+use Rattle.go_grammar.specs.Trees.{Tree, node, Trees, none, more, first, last}
 use Rattle.go_rewriting.specs.Places.{with_declaration}
 use Rattle.go_tokens.specs.Spellings.{same_text}
 use Rattle.go_tokens.specs.Tokens.{TokenList, kinds}
 use Rattle.go_tree.specs.Declarations.{Found}
-use Rattle.go_tree.specs.Units.{word, is_blank}
+use Rattle.go_tree.specs.Duplicates.{second_members}
+use Rattle.go_tree.specs.Events.{events}
+use Rattle.go_tree.specs.Faults.{lookup_faults}
+use Rattle.go_tree.specs.Lookups.{asked_in}
+use Rattle.go_tree.specs.Meanings.{meanings}
+use Rattle.go_tree.specs.Units.{word, is_blank, is_fmt}
 use Rattle.go_tree.specs.declared.object.Object.{Object}
 use Rattle.go_tree.specs.Uses.{uses, object_of}
 use Rattle.go_exprs_rules.specs.Sorts.{Stands}
 use Rattle.go_heads_added.specs.Added.{shifted}
 use Rattle.go_package_alike.specs.Scopes.{AllTokens}
-use Rattle.go_heads_added.specs.Appended.{IsFront, empty_function}
+use Rattle.go_heads_added.specs.Appended.{IsFront, context_behind, empty_function}
 use Rattle.go_heads_added.specs.Kept.{KeepsPackage, needed_after}
 use Rattle.go_package_defs.specs.Answer.{Environment, package_answer, specifications}
 use Rattle.go_package_defs.specs.Declarations.{Specification, function}
@@ -55,6 +60,15 @@ function_tree k ss us h = empty_function h.first h.last h.signature h.opens h.cl
 
 abbrev pub function_name : (k : ℕ) (ss us : List Source) → IsAppended k ss us → List ℕ
 function_name k ss us h = word h.new_tokens (suc h.first)
+
+-- What is asked of the function for the names of the longer package to be free of faults: its name may be that of a function, and no token of
+-- its signature says it; no two of its parameters have one name; and no rule fails at the names that it looks up.
+pub record FitsNames (k : ℕ) (ss us : List Source) (h : IsAppended k ss us) : Type 0 where
+  pub initial : same_text (function_name k ss us h) (codes "init") ≡ false
+  pub imported : is_fmt (function_name k ss us h) ≡ false
+  pub own : (i : ℕ) → first h.signature ≤ i → i < last h.signature → same_text (function_name k ss us h) (word h.new_tokens i) ≡ false
+  pub members : second_members [] k h.new_tokens (events (context_behind h.end h.declarations (function_tree k ss us h)) (function_tree k ss us h)) ≡ []
+  pub asks : lookup_faults (asked_in (meanings (map unit_of us)) k h.new_tokens (events (context_behind h.end h.declarations (function_tree k ss us h)) (function_tree k ss us h))) ≡ []
 
 -- ---- what is needed, at once or through others
 
@@ -98,6 +112,10 @@ pub record AnswersWith (k : ℕ) (ss us : List Source) (h : IsAppended k ss us) 
   pub answer : AreClosed (package_in ss) (specifications 0 ss) → same_text (function_name k ss us h) (codes "main") ≡ false → (s : Stands)
       → IsSignature (package_in us) (outlines_in us) keeps.gap.shared (function_specification k ss us h) 0 (found_in ss) s
       → (x : Environment) → package_answer ss (uses (map unit_of ss)) ≡ Ok x → package_answer us (uses (map unit_of us)) ≡ Ok (with_function keeps.gap.shared s x)
+  -- and it has no other
+  pub before : AreClosed (package_in ss) (specifications 0 ss) → same_text (function_name k ss us h) (codes "main") ≡ false → (s : Stands)
+      → IsSignature (package_in us) (outlines_in us) keeps.gap.shared (function_specification k ss us h) 0 (found_in ss) s
+      → (z : Environment) → package_answer us (uses (map unit_of us)) ≡ Ok z → (x : Environment) × (package_answer ss (uses (map unit_of ss)) ≡ Ok x) × (z ≡ with_function keeps.gap.shared s x)
   -- the signature may be judged by what its names mean in the package without it
   pub signature : AreClosed (package_in ss) (specifications 0 ss) → same_text (function_name k ss us h) (codes "main") ≡ false → (test : ℕ → Bool) (meant : ℕ → Option Object)
       → ((i : ℕ) → test i ≡ true → object_of (uses (map unit_of us)) k i ≡ option_map (shifted keeps.gap) (meant i)) → AllTokens test h.signature → (s : Stands)

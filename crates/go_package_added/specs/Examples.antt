@@ -5,7 +5,10 @@ use Rattle.go_tokens.specs.declared.token.TokenKind.TheVariants as token
 use Rattle.go_types.specs.Trees.{TypeTree, integer, function, row}
 use Rattle.go_exprs_rules.specs.Sorts.{Stands}
 use Rattle.go_typed.specs.Trees as sort
-use Rattle.go_package_defs.specs.Sentences.{Word, stated}
+use Rattle.go_package_defs.specs.Answer.{specifications}
+use Rattle.go_package_defs.specs.Sentences.{Word, sources_from, stated}
+use Rattle.go_package_defs.specs.Sources.{Source}
+use Rattle.go_package_added.specs.Appended.{AreClosed, package_in}
 
 abbrev pub int : TypeTree
 int = integer integer_kind.Int
@@ -59,3 +62,20 @@ pub record Examples : Type 0 where
   -- A function in each of two files, and the new one between: the second has the next number.
   pub two : stated ((clause ++ first) ∷ (clause ++ second) ∷ []) ≡ Ok (of_one ∷ of_one ∷ [])
   pub two_more : stated ((clause ++ first ++ added) ∷ (clause ++ second) ∷ []) ≡ Ok (of_one ∷ of_two ∷ of_one ∷ [])
+
+-- package p ; type T [ ] T ; func f ( a T ) T { return a ; } ;
+abbrev pub recursive : List Word
+recursive = (
+    (token.Package, codes "package") ∷ (token.Identifier, codes "p") ∷ (token.Semicolon, codes ";") ∷ (token.Type, codes "type") ∷
+    (token.Identifier, codes "T") ∷ (token.LeftBracket, codes "[") ∷ (token.RightBracket, codes "]") ∷ (token.Identifier, codes "T") ∷
+    (token.Semicolon, codes ";") ∷ (token.Func, codes "func") ∷ (token.Identifier, codes "f") ∷ (token.LeftParenthesis, codes "(") ∷
+    (token.Identifier, codes "a") ∷ (token.Identifier, codes "T") ∷ (token.RightParenthesis, codes ")") ∷ (token.Identifier, codes "T") ∷
+    (token.LeftBrace, codes "{") ∷ (token.Return, codes "return") ∷ (token.Identifier, codes "a") ∷ (token.Semicolon, codes ";") ∷
+    (token.RightBrace, codes "}") ∷ (token.Semicolon, codes ";") ∷ [])
+
+abbrev pub Closed : List Source → Type 0
+Closed ss = AreClosed (package_in ss) (specifications 0 ss)
+
+-- A package with a type that needs itself, and a function that needs it: two rounds more find no further needs.
+pub record ClosedExamples : Type 0 where
+  pub recursive : Closed (sources_from 0 (recursive ∷ []))

@@ -1,8 +1,9 @@
 //! Laws of packages with one function more.
 
 ghost use Rattle.std.specs.List.{AllByRecursion};
-ghost use Rattle.std.specs.Prelude.{◌≡◌, ℕ, suc, Bool, true, Ok, List, map, Option};
+ghost use Rattle.std.specs.Prelude.{◌≡◌, ℕ, suc, Bool, true, Ok, List, map, Option, None};
 ghost use Rattle.std.specs.Option.{option_map};
+ghost use Rattle.go_tree.specs.Faults.{reported};
 ghost use Rattle.go_tree.specs.declared.object.Object.{Object};
 ghost use Rattle.go_tree.specs.Uses.{object_of, uses};
 ghost use Rattle.go_types.specs.Relations.{Rights};
@@ -16,28 +17,37 @@ ghost use Rattle.go_package_defs.specs.Declarations.{Specification};
 ghost use Rattle.go_package_defs.specs.Knowledge.{outlines};
 ghost use Rattle.go_package_defs.specs.Sources.{Package, Source, rounds, text_at, unit_of};
 ghost use Rattle.go_package_defs.specs.Verdicts.{known};
-ghost use Rattle.go_package_added.specs.Appended.{AnswersWith, IsAppended, function_name, package_in};
-ghost use Rattle.go_package_added.specs.Examples.{Examples};
+ghost use Rattle.go_package_added.specs.Appended.{AnswersWith, FitsNames, IsAppended, function_name, package_in};
+ghost use Rattle.go_package_added.specs.Examples.{ClosedExamples, Examples};
 ghost use Rattle.go_package_settled.specs.Read.{IsFaultless};
 ghost use Rattle.go_package_added.specs.OneMore.{IsOneMore, IsSignature, IsSignatureBefore, MaybeReadAt, Settles, with_function};
 
 use go_exprs_elsewhere::laws::{expressions_are_typed_elsewhere, trees_spelled_the_same_keep_it};
-use go_heads_added::laws::appended_functions_keep_the_package;
+use go_heads_added::laws::{
+    appended_functions_fail_no_rule, appended_functions_keep_the_package,
+    signatures_mean_what_is_declared_elsewhere,
+};
 use go_package_alike::laws::expressions_follow_from_their_tokens;
 use go_package_settled::laws::faultless_packages_settle;
 use go_stmts_elsewhere::laws::functions_are_typed_elsewhere;
 
-/// Worked examples: the package of two functions with a third, at the end of its one file and of the first of two.
+/// Worked examples: the package of two functions with a third, at the end of its one file and of the first of two; and a package that is
+/// closed.
 pub fn examples()
-    ensures { Examples }
+    ensures answers { Examples }
+    ensures closed { ClosedExamples }
 {}
 
 /// Where a package declares what another one does and one function between, and nothing names that, its objects stand for the same, and the
-/// function for its type; no rule fails that did not (Go specification: Declarations and scope, Function declarations).
+/// function for its type: no rule fails that did not, and none that did stops failing (Go specification: Declarations and scope, Function
+/// declarations).
 pub fn one_more_function_has_its_answer()
-    ensures { (p q : Package) (ds es : List Specification) (g : Gap) (h : IsOneMore p q ds es g) (s : Stands) → Settles p (outlines p ds)
+    ensures after { (p q : Package) (ds es : List Specification) (g : Gap) (h : IsOneMore p q ds es g) (s : Stands) → Settles p (outlines p ds)
         → IsSignature q (outlines q es) g.shared h.function.specification h.function.column (known p (outlines p ds) (rounds p)) s
         → (x : Environment) → answer_by p ds ≡ Ok x → answer_by q es ≡ Ok (with_function g.shared s x) }
+    ensures before { (p q : Package) (ds es : List Specification) (g : Gap) (h : IsOneMore p q ds es g) (s : Stands) → Settles p (outlines p ds)
+        → IsSignature q (outlines q es) g.shared h.function.specification h.function.column (known p (outlines p ds) (rounds p)) s
+        → (z : Environment) → answer_by q es ≡ Ok z → (x : Environment) × (answer_by p ds ≡ Ok x) × (z ≡ with_function g.shared s x) }
 {
     expressions_are_typed_elsewhere();
     trees_spelled_the_same_keep_it();
@@ -67,6 +77,16 @@ pub fn appended_functions_have_their_answer()
     faultless_packages_settle();
     one_more_function_has_its_answer();
     signatures_follow_from_their_names();
+}
+
+/// Behind a function with an empty body that is appended to a file, and whose name no token says, the names of the package are free of faults as
+/// they were, where no rule fails at the function itself.
+pub fn names_stay_free_of_faults()
+    ensures { (k : ℕ) (ss us : List Source) (h : IsAppended k ss us) → IsFaultless ss → NoneSays (function_name k ss us h) (map unit_of ss) → FitsNames k ss us h
+        → reported (map unit_of us) ≡ None }
+{
+    appended_functions_fail_no_rule();
+    signatures_mean_what_is_declared_elsewhere();
 }
 
 /// In such a package the functions that stay as they are have the same types under their new numbers, behind the same right sides and where

@@ -6,12 +6,15 @@ use Rattle.go_package_added.proofs.laws.appended_functions_have_their_answer.Goa
 
 pub returns : goal.returns
 returns c k ss us h faultless none =
-    let keeps = keeps_names c.appended_functions_keep_the_package.ensures k ss us h faultless none in
+    let keeps = keeps_names k ss us h faultless none c.appended_functions_keep_the_package.ensures in
     record {
       keeps = keeps;
       answer = λ closed other s sig x e.
-          c.one_more_function_has_its_answer.ensures (package_in ss) (package_in us) (specifications 0 ss) (specifications 0 us) keeps.gap
+          c.one_more_function_has_its_answer.ensures.after (package_in ss) (package_in us) (specifications 0 ss) (specifications 0 us) keeps.gap
           (one_more k ss us h keeps faultless closed other) s (record { further = (c.faultless_packages_settle.ensures ss faultless).further }) (as_signature k ss us h keeps faultless closed other s sig) x e;
+      before = λ closed other s sig z e.
+          c.one_more_function_has_its_answer.ensures.before (package_in ss) (package_in us) (specifications 0 ss) (specifications 0 us) keeps.gap
+          (one_more k ss us h keeps faultless closed other) s (record { further = (c.faultless_packages_settle.ensures ss faultless).further }) (as_signature k ss us h keeps faultless closed other s sig) z e;
       signature = λ closed other test meant objects read s before.
           from_signature k ss us h keeps faultless closed other s
           (c.signatures_follow_from_their_names.ensures (package_in ss) (package_in us) (specifications 0 ss) (specifications 0 us) keeps.gap (one_more k ss us h keeps faultless closed other) test meant

@@ -1,5 +1,5 @@
-use Rattle.go_package_added.proofs.Examples.{worked}
+use Rattle.go_package_added.proofs.Examples.{closed, worked}
 use Rattle.go_package_added.proofs.laws.examples.Goals as goal
 
 pub returns : goal.returns
-returns c = worked
+returns c = record { answers = worked; closed = closed }
