@@ -1,12 +1,10 @@
 -- The edits that take windows out, to which no code applies, may be done one after the other.
-use Rattle.std.proofs.Common.{◌≡◌, ◌∙◌, ℕ, zero, suc, ◌-◌, ◌<◌, ◌≤◌, List, [], ◌∷◌, ◌++◌, length, map, Some, None, slice_get, get_or, refl, sym, ap, subst, arith, inl, inr}
-use Rattle.std.specs.Prelude.{◌⊎◌}
+use Rattle.std.proofs.Common.{◌≡◌, ◌∙◌, ℕ, zero, suc, ◌-◌, ◌<◌, ◌≤◌, List, [], ◌∷◌, ◌++◌, length, map, Some, slice_get, get_or, refl, sym, ap, subst, arith, inl, inr}
 use Rattle.std.specs.List.{AllByRecursion}
 use Rattle.std.proofs.lemmas.Bool.{cases_lt}
 use Rattle.go_base.specs.declared.bytes.FileText.{FileText}
 use Rattle.go_base.specs.Package.{most_bytes, total_bytes}
 use Rattle.go_tree.specs.File.{FileTree}
-use Rattle.go_tree.specs.Units as units
 use Rattle.go_types.specs.Trees.{TypeTree}
 use Rattle.go_typed.specs.declared.window.Window.{Window}
 use Rattle.go_typed.specs.Contents.{Content, content}
@@ -17,19 +15,16 @@ use Rattle.edit_apply.specs.Applied.{IsInRange}
 use Rattle.param_choose.specs.Members.{Member, members_of, template_of}
 use Rattle.escape_check.specs.Apart as tokens
 use Rattle.escape_check.specs.Places.{file_of, sources_of}
-use Rattle.escape_check.specs.Refusals.{refused}
 use Rattle.extract_texts.specs.Texts.{file_text, function_for, text_of, window_bytes}
 use Rattle.go_function_places.specs.Places.{AreInOrder, FunctionPlace, HavePlaces, StandsBefore}
 use Rattle.extract_rewrite.specs.Apart.{AreApart, AllApart}
 use Rattle.extract_rewrite.specs.Edits.{edit_at, edits, file_end, function_edit, window_edit}
 use Rattle.extract_rewrite.specs.Order.{from_the_end}
 use Rattle.extract_rewrite.specs.Ready.{CanBeDone, EditsCanBeDone}
-use Rattle.extract_rewrite.specs.Shown.{AreItsTexts}
-use Rattle.extract_rewrite.specs.Windows.{StandsIn}
 use Rattle.extract_rewrite.proofs.CheckedFiles.{its_texts}
 use Rattle.extract_rewrite.proofs.Descending.{can_be_done, turned}
 use Rattle.extract_rewrite.proofs.Runs.{before, ranges}
-use Rattle.extract_rewrite.proofs.Standing.{IsPlaced, LieIn, all_placed, begin_of, end_of, file_is, file_there, in_text, lies, nothing_stands, same_some, template_placed}
+use Rattle.extract_rewrite.proofs.Standing.{IsPlaced, all_placed, begin_of, end_of, file_is, file_there, in_text, lies, nothing_stands, same_some, template_placed}
 
 -- ---- functions in order
 

@@ -28,6 +28,7 @@ use Rattle.extract_rewrite.specs.Limits.{IsWithinLimits, PassesLimits}
 use Rattle.extract_rewrite.specs.Reading.{Judges}
 use Rattle.extract_rewrite.specs.Ready.{CanBeDone, EditsCanBeDone}
 use Rattle.extract_rewrite.specs.Shown.{extracted_shown}
+use Rattle.extract_rewrite.proofs.Standing.{same_some}
 
 -- ---- a template
 
@@ -73,13 +74,14 @@ module _ (p : PackageView) (texts : List FileText) (name : List ℕ) (ws : List 
   -- the edits may be done one after the other
   pub done : EditsCanBeDone → IsCheckedPackage p → IsPackage texts → (r : Option FoundRefusal) (x : Extracted) → option_map refusal_view r ≡ refused (content p) name ws → r ≡ None
       → extraction_of (content p) name ws ≡ Some (extracted_shown x) → CanBeDone texts x.edits
-  done law h package r x e is made = by_template (template_of (content p) ws) refl made
+  done law h loaded r x e is made = by_template (template_of (content p) ws) refl made
     where
       by_template : (o : Option (Member TypeTree)) → template_of (content p) ws ≡ o → extraction_by (content p) name ws o ≡ Some (extracted_shown x) → CanBeDone texts x.edits
-      by_template None there k = absurd cc
+      by_template None there k = absurd (nothing_made (extracted_shown x) (sym k))
       by_template (Some t) there k =
-          let made_edits : edits (content p) name ws ≡ x.edits = cc in
-          let small : total_bytes (texts_of p) ≤ most_bytes = subst (λ ts. total_bytes ts ≤ most_bytes) (sym same) package.small in
+          let whole : Extraction = record { edits = edits (content p) name ws; counts = counts (content p) ws } in
+          let made_edits : edits (content p) name ws ≡ x.edits = ap (λ (e : Extraction). e.edits) (same_some whole (extracted_shown x) k) in
+          let small : total_bytes (texts_of p) ≤ most_bytes = subst (λ ts. total_bytes ts ≤ most_bytes) (sym same) loaded.small in
           subst (CanBeDone texts) made_edits (subst (λ ts. CanBeDone ts (edits (content p) name ws)) same (law p name ws t h small there (nothing r e is)))
 
   pub extracted : (r : Option FoundRefusal) (x : Extracted) → option_map refusal_view r ≡ refused (content p) name ws → r ≡ None → extraction_of (content p) name ws ≡ Some (extracted_shown x)

@@ -5,7 +5,7 @@ use Rattle.std.specs.List.{AllByRecursion}
 use Rattle.std.specs.Option.{option_map, option_to_list}
 use Rattle.std.proofs.lemmas.Bool.{cases_lt}
 use Rattle.go_tokens.specs.declared.token.Token.{Token}
-use Rattle.go_tokens.specs.Tokens.{AreOrdered, TokenList, span_of}
+use Rattle.go_tokens.specs.Tokens.{AreOrdered, span_of}
 use Rattle.go_tree.specs.declared.object.Declared.{Declared}
 use Rattle.go_tree.specs.File.{FileTree}
 use Rattle.go_tree.specs.Units.{end_in, start_in}
@@ -15,12 +15,12 @@ use Rattle.go_types.specs.Trees.{TypeTree}
 use Rattle.go_typed.specs.declared.window.Window.{Window}
 use Rattle.go_typed.specs.Contents.{Content, FuncContent}
 use Rattle.go_typed.specs.Lists.{statement_lists, statements_of}
-use Rattle.go_typed.specs.Trees.{Typed, Typeds, first_of, last_of}
+use Rattle.go_typed.specs.Trees.{Typed, last_of}
 use Rattle.go_scopes.specs.Numbering.{spot_of}
 use Rattle.clone_window.specs.Spans.{last_from}
 use Rattle.clone_window.specs.Windows.{row_of, statements_in, window_statements}
 use Rattle.param_choose.specs.Members.{Member, first_in, first_token, member_over, members_of, template_of}
-use Rattle.escape_check.specs.Places.{Sources, file_in, file_of, sources_of}
+use Rattle.escape_check.specs.Places.{file_in, file_of, sources_of}
 use Rattle.extract_texts.specs.Texts.{window_bytes}
 use Rattle.go_function_places.specs.Places.{FunctionPlace, HavePlaces, HaveStatements, ListsStandIn, StandInRow, name_spot}
 use Rattle.go_function_places.specs.Places as places
