@@ -6,3 +6,4 @@ mod Deep
 mod Named
 mod Moves
 mod Templates
+mod Enclosed
