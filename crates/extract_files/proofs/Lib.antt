@@ -6,4 +6,9 @@ mod Deep
 mod Named
 mod Moves
 mod Templates
+mod Functions
 mod Enclosed
+mod Calls
+mod Files
+mod Appended
+mod Levels

@@ -1,2 +1,5 @@
 pub mod Holes
+pub mod Functions
 pub mod Enclosed
+pub mod Files
+pub mod Levels

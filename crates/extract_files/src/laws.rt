@@ -1,10 +1,15 @@
 //! Laws of the files of an extraction, for the crates above. The functions do nothing: their contracts are the laws.
 
+ghost use Rattle.extract_files.specs.Enclosed.{RunsAreEnclosed};
+ghost use Rattle.extract_files.specs.Files.{CalledFilesAreRewritten};
+ghost use Rattle.extract_files.specs.Functions.{ExtractedFunctionsStand};
 ghost use Rattle.extract_files.specs.Holes.{TemplatesStand};
+ghost use Rattle.extract_files.specs.Levels.{CalledFilesHaveOneTree, FilesWithoutTreesAreDeep};
 
+use go_print_laws::laws::{calls_stand, functions_stand};
 use go_rewriting::laws::{
-    a_new_text_fits, changed_sites, clear_sites_agree, items_stand, operands_stand_for_expressions, ranges_end_well,
-    run_stands_elsewhere, statements_stand_in_both, subtrees_stand, texts_end_well,
+    a_new_text_fits, changed_sites, clear_rewrites_agree, clear_sites_agree, items_stand, operands_stand_for_expressions, ranges_end_well,
+    rewritten_text, run_stands_elsewhere, statements_stand_in_both, subtrees_stand, texts_end_well,
 };
 
 /// Statements of a text with names in place of some of their expressions stand by themselves: they are a run of statements over the
@@ -23,3 +28,51 @@ pub fn templates_stand()
     subtrees_stand();
     texts_end_well();
 }
+
+/// What stands behind the template's file is a declaration with the tree that is written down for it: its statements are those of the
+/// template, with a name in place of each hole that is a parameter.
+pub fn extracted_functions_stand()
+    ensures { ExtractedFunctionsStand }
+{
+    functions_stand();
+    templates_stand();
+}
+
+/// Adjoining statements of a block or a clause stand behind an opening brace, a colon or a semicolon, and in front of a semicolon or a
+/// closing brace.
+pub fn runs_are_enclosed()
+    ensures { RunsAreEnclosed }
+{}
+
+/// A file in which calls stand in place of statements, and behind which a function may stand, is a rewriting of the file: it has the
+/// tokens and the tree that the calls make of the old ones.
+pub fn called_files_are_rewritten()
+    ensures { CalledFilesAreRewritten }
+{
+    a_new_text_fits();
+    calls_stand();
+    changed_sites();
+    clear_rewrites_agree();
+    clear_sites_agree();
+    items_stand();
+    operands_stand_for_expressions();
+    ranges_end_well();
+    run_stands_elsewhere();
+    runs_are_enclosed();
+    statements_stand_in_both();
+    subtrees_stand();
+    texts_end_well();
+}
+
+/// Such a file has one derivation over all its tokens, of whatever depth.
+pub fn called_files_have_one_tree()
+    ensures { CalledFilesHaveOneTree }
+{
+    called_files_are_rewritten();
+    rewritten_text();
+}
+
+/// A file that has one, but none of at most 100 levels above any node, has more levels than that.
+pub fn files_without_trees_are_deep()
+    ensures { FilesWithoutTreesAreDeep }
+{}
