@@ -22,7 +22,7 @@ use Rattle.go_print_laws.specs.Lexemes as lexemes
 
 -- ---- its first token
 
-first_word : (name : ℕ → List ℕ) (c : Call) → (slice_get (lexemes.words (call_lexemes name c [])) 0 ≡ Some token.Var) ⊎ (slice_get (lexemes.words (call_lexemes name c [])) 0 ≡ Some token.Identifier)
+pub first_word : (name : ℕ → List ℕ) (c : Call) → (slice_get (lexemes.words (call_lexemes name c [])) 0 ≡ Some token.Var) ⊎ (slice_get (lexemes.words (call_lexemes name c [])) 0 ≡ Some token.Identifier)
 first_word name c = by c.declared c.types c.results
   where
     by : (ys : List (List ℕ)) (ts : TypeRow) (xs : List (List ℕ)) → (slice_get (lexemes.words (call_lexemes name (record c { declared = ys; types = ts; results = xs }) [])) 0 ≡ Some token.Var) ⊎ (slice_get (lexemes.words (call_lexemes name (record c { declared = ys; types = ts; results = xs }) [])) 0 ≡ Some token.Identifier)
@@ -34,7 +34,7 @@ first_word name c = by c.declared c.types c.results
 
 -- ---- its last character
 
-abbrev EndsIn : ℕ → List ℕ → Type 0
+abbrev pub EndsIn : ℕ → List ℕ → Type 0
 EndsIn b [] = ⊥
 EndsIn b (x ∷ []) = x ≡ b
 EndsIn b (x ∷ y ∷ ys) = EndsIn b (y ∷ ys)
@@ -52,7 +52,12 @@ last_of b (x ∷ z ∷ xs) y ys e = last_of b (z ∷ xs) y ys e
 
 pub call_ends : (name : ℕ → List ℕ) (c : Call) → EndsIn 41 (call_text name c)
 call_ends name c =
-    behind_all 41 (declaring_text name c.declared c.types) _ (behind_all 41 (assigning_text c.results) _ (behind_all 41 c.function _ (behind_all 41 (codes "(") _ (behind_all 41 (listed (map argument_text c.arguments)) (codes ")") refl))))
+    let closed : EndsIn 41 (listed (map argument_text c.arguments) ++ codes ")") = behind_all 41 (listed (map argument_text c.arguments)) (codes ")") refl in
+    let opened : EndsIn 41 (codes "(" ++ listed (map argument_text c.arguments) ++ codes ")") = behind_all 41 (codes "(") (listed (map argument_text c.arguments) ++ codes ")") closed in
+    let called : EndsIn 41 (c.function ++ codes "(" ++ listed (map argument_text c.arguments) ++ codes ")") = behind_all 41 c.function (codes "(" ++ listed (map argument_text c.arguments) ++ codes ")") opened in
+    let given : EndsIn 41 (assigning_text c.results ++ c.function ++ codes "(" ++ listed (map argument_text c.arguments) ++ codes ")") =
+    behind_all 41 (assigning_text c.results) (c.function ++ codes "(" ++ listed (map argument_text c.arguments) ++ codes ")") called in
+    behind_all 41 (declaring_text name c.declared c.types) (assigning_text c.results ++ c.function ++ codes "(" ++ listed (map argument_text c.arguments) ++ codes ")") given
 
 -- the last byte, by its number
 last_byte : (b : ℕ) (xs : List ℕ) → EndsIn b xs → (k : ℕ) × (k < length xs) × (get_or xs k 0 ≡ b)

@@ -65,7 +65,7 @@ module _ (ts : List TokenKind) where
     next : suc place ≡ i
     word : TokenKind
     is : IsAt ts place word
-    open : opens word ≡ true
+    lists : opens word ≡ true
 
   -- ---- behind
 
@@ -90,7 +90,7 @@ module _ (ts : List TokenKind) where
   only_front : (i k : ℕ) → Only ts token.Semicolon i k → Front i → Front k
   only_front i k o f = elim (two i k o.order) [
     | inl same ↦ subst Front same f
-    | inr lt ↦ record { place = k - 1; next = omega (arith, lt); word = token.Semicolon; is = o.each (k - 1) (omega (arith, lt)) (omega (arith, lt)); open = refl }
+    | inr lt ↦ record { place = k - 1; next = omega (arith, lt); word = token.Semicolon; is = o.each (k - 1) (omega (arith, lt)) (omega (arith, lt)); lists = refl }
   ]
     where
       two : (i k : ℕ) → i ≤ k → (i ≡ k) ⊎ (i < k)
@@ -101,12 +101,12 @@ module _ (ts : List TokenKind) where
   gap_front l of_clause i k g f = only_front i k g f
 
   between_front : (l : Items) → AreStatements l → (i k : ℕ) → Between ts l i k → Front k
-  between_front l of_block i k b = record { place = i; next = b.1; word = token.Semicolon; is = b.0; open = refl }
-  between_front l of_clause i k b = record { place = i; next = b.1; word = token.Semicolon; is = b.0; open = refl }
+  between_front l of_block i k b = record { place = i; next = b.1; word = token.Semicolon; is = b.0; lists = refl }
+  between_front l of_clause i k b = record { place = i; next = b.1; word = token.Semicolon; is = b.0; lists = refl }
 
   words_front : (ws : List TokenKind) (i k : ℕ) → Words ts i ws k → opened_by ws ≡ true → Front k
   words_front [] i k w o = cc
-  words_front (v ∷ []) i k w o = record { place = i; next = w.1; word = v; is = w.0; open = o }
+  words_front (v ∷ []) i k w o = record { place = i; next = w.1; word = v; is = w.0; lists = o }
   words_front (v ∷ u ∷ us) i k w o = words_front (u ∷ us) (suc i) k w.1 o
 
   many_opened : (l : Items) → AreStatements l → (ws : List TokenKind) → opened (Many ws l) ≡ true → opened_by ws ≡ true
@@ -157,4 +157,4 @@ module _ (ts : List TokenKind) where
 pub runs_are_enclosed : RunsAreEnclosed
 runs_are_enclosed ts c (node k a b ps) f n l s r =
     let e = spells_run ts l s (rule (place_of c) k) f n a ps b (rule_opened (place_of c) k) r.derives.1 r.is_list r.has in
-    record { place = e.front.place; next = e.front.next; word = e.front.word; is = e.front.is; opens = e.front.open; behind = e.behind }
+    record { place = e.front.place; next = e.front.next; word = e.front.word; is = e.front.is; opens = e.front.lists; behind = e.behind }

@@ -13,12 +13,13 @@ use Rattle.go_tokens.proofs.Public.{tokens_ordered}
 use Rattle.go_grammar.specs.declared.kind.Category.{Category}
 use Rattle.go_grammar.specs.declared.kind.Category.TheVariants as category
 use Rattle.go_grammar.specs.Grammar.{IsAt, Derives, IsFile}
-use Rattle.go_grammar.specs.Trees.{Tree, node, first, last, depth}
+use Rattle.go_grammar.specs.Trees.{Tree, node, Trees, none, first, last, depth}
 use Rattle.go_grammar.proofs.Public.{unique}
-use Rattle.go_rewriting.specs.Places.{carry, Patch, keep, put, inside, Ascending, Change, changed, moved_by, ranges, become, IsDeclaration, with_declaration}
+use Rattle.go_rewriting.specs.Places.{carry, carries, Patch, keep, put, inside, Ascending, Change, changed, moved_by, ranges, become, IsDeclaration, with_declaration}
 use Rattle.go_rewriting.specs.Rewriting.{Rewrite, IsRange, TextsFit, changes, words, edits, settled, sites, sites_alone, move, new_tree, extended, AddedFits, Rewriting, IsWellFormed, HasTail, HasNewTokens, HasNewTree}
 use Rattle.go_rewriting.specs.Sites.{Local, whole, items, Site, insert, patch_of}
 use Rattle.go_rewriting.proofs.Public.{derives_kept, first_carry, last_carry, soft_same}
+use Rattle.go_print_laws.specs.Calls.{call_trees}
 use Rattle.extract_files.specs.Files.{Window, Called, IsCalled, IsRewritten, CalledFilesAreRewritten, called_text, call_sites, rewriting_of}
 use Rattle.extract_files.specs.Levels.{IsFileTree, HasOneTree, CalledFilesHaveOneTree, FilesWithoutTreesAreDeep}
 use Rattle.extract_files.proofs.Appended.{appended}
@@ -86,17 +87,21 @@ stays keep = true
 stays (put s) = false
 stays (inside qs) = true
 
-insert_stays : (path : List ℕ) (f n : ℕ) (new : _) (q : Patch) → stays (insert path (items f n new) q) ≡ true
+insert_stays : (path : List ℕ) (f n : ℕ) (new : Trees) (q : Patch) → stays (insert path (items f n new) q) ≡ true
 insert_stays [] f n new q = refl
 insert_stays (p ∷ path) f n new q = refl
+
+-- what becomes of the first site
+abbrev first_change : List Site → Local
+first_change [] = items 0 0 none
+first_change (s ∷ ss) = s.change
 
 sites_stay : (m : ℕ → ℕ) (rs : List Rewrite) (xs : List Window) → sites_alone rs ≡ call_sites xs → stays (patch_of (sites m rs)) ≡ true
 sites_stay m [] xs e = refl
 sites_stay m (r ∷ rs) [] e = cc
 sites_stay m (r ∷ rs) (x ∷ xs) e =
-    let heads : (let s : Site = record { path = r.path; change = r.change } in s) ≡ record { path = x.path; change = items x.front x.others _ } = cc in
-    let change = ap (λ (s : Site). s.change) heads in
-    subst (λ c. stays (insert r.path (settled (λ k. m r.from + k) c) (patch_of (sites m rs))) ≡ true) (sym change) (insert_stays r.path x.front x.others _ (patch_of (sites m rs)))
+    let change : r.change ≡ items x.front x.others (call_trees 0 x.call) = ap first_change e in
+    subst (λ c. stays (insert r.path (settled (λ k. m r.from + k) c) (patch_of (sites m rs))) ≡ true) (sym change) (insert_stays r.path x.front x.others (carries (λ k. m r.from + k) (call_trees 0 x.call)) (patch_of (sites m rs)))
 
 first_stays : (m : ℕ → ℕ) (t : Tree) (q : Patch) → stays q ≡ true → first (become m t q) ≡ m (first t)
 first_stays m (node k a b ps) keep d = refl
