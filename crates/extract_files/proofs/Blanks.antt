@@ -291,9 +291,10 @@ one_too_long p y ys old l e h =
 
 longest : (p w : List ℕ) (z : ℕ) (zs more : List ℕ) → is_piece p ≡ true → is_good p ≡ true → (z == 10) ≡ false → IsLongest p (w ++ z ∷ zs) → IsLongest p (w ++ 32 ∷ more)
 longest [] w z zs more h g n l = cc
-longest (x ∷ b) w z zs more h g n l = record { by = λ big others e k. elim (divide big others (x ∷ b) (w ++ 32 ∷ more) e) [
-  | inl i ↦ let many : length (x ∷ b) ≡ length (big ++ i.others) = ap length i.is in omega (arith, many, length-append big i.others)
-  | inr r ↦ absurd (elim (divide (r.head ∷ r.tail) others w (32 ∷ more) r.rest) [
+longest (x ∷ b) w z zs more h g n l = record {
+  by = λ big others e k. elim (divide big others (x ∷ b) (w ++ 32 ∷ more) e) [
+    | inl i ↦ let many : length (x ∷ b) ≡ length (big ++ i.others) = ap length i.is in omega (arith, many, length-append big i.others)
+    | inr r ↦ absurd (elim (divide (r.head ∷ r.tail) others w (32 ∷ more) r.rest) [
       | inl i ↦
           let n = l.by big (i.others ++ z ∷ zs) (ap (λ t. t ++ (i.others ++ z ∷ zs)) r.is ∙ append_assoc (x ∷ b) (r.head ∷ r.tail) (i.others ++ z ∷ zs) ∙ ap (λ t. (x ∷ b) ++ t) (sym (append_assoc (r.head ∷ r.tail) i.others (z ∷ zs)) ∙ ap (λ t. t ++ z ∷ zs) (sym i.is))) k in
           let many : length big ≡ length ((x ∷ b) ++ (r.head ∷ r.tail)) = ap length r.is in
@@ -303,7 +304,8 @@ longest (x ∷ b) w z zs more h g n l = record { by = λ big others e k. elim (d
           let all : big ≡ x ∷ (b ++ (w ++ 32 ∷ j.tail)) = r.is ∙ ap (λ t. (x ∷ b) ++ t) (j.is ∙ ap (λ m. w ++ m ∷ j.tail) first) in
           too_long w (longer x b w j.tail g (subst (λ t. is_piece t ≡ true) all k)) l
     ])
-] }
+  ];
+}
   where
     head_of : (u v : ℕ) (us vs : List ℕ) → u ∷ us ≡ v ∷ vs → u ≡ v
     head_of u v us vs e = cc
@@ -328,21 +330,25 @@ alone y ys h = none_behind y ys (subst (λ k. has_shape k 32 (y ∷ ys) ≡ true
 
 -- a blank is a piece, whatever stands behind it
 pub blank_longest : (rest : List ℕ) → IsLongest (32 ∷ []) rest
-blank_longest rest = record { by = λ big others e k. elim (divide big others (32 ∷ []) rest e) [
-  | inl i ↦ let many : 1 ≡ length (big ++ i.others) = ap length i.is in let z : length big ≤ 1 = omega (arith, many, length-append big i.others) in z
-  | inr r ↦ absurd (alone r.head r.tail (subst (λ t. is_piece t ≡ true) r.is k))
-] }
+blank_longest rest = record {
+  by = λ big others e k. elim (divide big others (32 ∷ []) rest e) [
+    | inl i ↦ let many : 1 ≡ length (big ++ i.others) = ap length i.is in let z : length big ≤ 1 = omega (arith, many, length-append big i.others) in z
+    | inr r ↦ absurd (alone r.head r.tail (subst (λ t. is_piece t ≡ true) r.is k))
+  ];
+}
 
 -- a token is cut alike in front of a blank
 pub token_seam : (p more : List ℕ) → is_piece p ≡ true → is_good p ≡ true → (kind p ≡ LineComment → ⊥) → IsLongest p (32 ∷ more)
 token_seam [] more h g f = cc
-token_seam (x ∷ b) more h g f = record { by = λ big others e k. elim (divide big others (x ∷ b) (32 ∷ more) e) [
-  | inl i ↦ let many : length (x ∷ b) ≡ length (big ++ i.others) = ap length i.is in omega (arith, many, length-append big i.others)
-  | inr r ↦
-      let first : r.head ≡ 32 = head_of r.head 32 (r.tail ++ others) more r.rest in
-      let all : big ≡ x ∷ (b ++ 32 ∷ r.tail) = r.is ∙ ap (λ m. (x ∷ b) ++ m ∷ r.tail) first in
-      absurd (not_line (longer x b [] r.tail g (subst (λ t. is_piece t ≡ true) all k)))
-] }
+token_seam (x ∷ b) more h g f = record {
+  by = λ big others e k. elim (divide big others (x ∷ b) (32 ∷ more) e) [
+    | inl i ↦ let many : length (x ∷ b) ≡ length (big ++ i.others) = ap length i.is in omega (arith, many, length-append big i.others)
+    | inr r ↦
+        let first : r.head ≡ 32 = head_of r.head 32 (r.tail ++ others) more r.rest in
+        let all : big ≡ x ∷ (b ++ 32 ∷ r.tail) = r.is ∙ ap (λ m. (x ∷ b) ++ m ∷ r.tail) first in
+        absurd (not_line (longer x b [] r.tail g (subst (λ t. is_piece t ≡ true) all k)))
+  ];
+}
   where
     head_of : (u v : ℕ) (us vs : List ℕ) → u ∷ us ≡ v ∷ vs → u ≡ v
     head_of u v us vs e = cc

@@ -51,13 +51,7 @@ last_of b (x ∷ []) y ys e = e
 last_of b (x ∷ z ∷ xs) y ys e = last_of b (z ∷ xs) y ys e
 
 pub call_ends : (name : ℕ → List ℕ) (c : Call) → EndsIn 41 (call_text name c)
-call_ends name c =
-    let closed : EndsIn 41 (listed (map argument_text c.arguments) ++ codes ")") = behind_all 41 (listed (map argument_text c.arguments)) (codes ")") refl in
-    let opened : EndsIn 41 (codes "(" ++ listed (map argument_text c.arguments) ++ codes ")") = behind_all 41 (codes "(") (listed (map argument_text c.arguments) ++ codes ")") closed in
-    let called : EndsIn 41 (c.function ++ codes "(" ++ listed (map argument_text c.arguments) ++ codes ")") = behind_all 41 c.function (codes "(" ++ listed (map argument_text c.arguments) ++ codes ")") opened in
-    let given : EndsIn 41 (assigning_text c.results ++ c.function ++ codes "(" ++ listed (map argument_text c.arguments) ++ codes ")") =
-    behind_all 41 (assigning_text c.results) (c.function ++ codes "(" ++ listed (map argument_text c.arguments) ++ codes ")") called in
-    behind_all 41 (declaring_text name c.declared c.types) (assigning_text c.results ++ c.function ++ codes "(" ++ listed (map argument_text c.arguments) ++ codes ")") given
+call_ends name c = behind_all 41 (declaring_text name c.declared c.types ++ assigning_text c.results ++ c.function ++ codes "(" ++ listed (map argument_text c.arguments)) (codes ")") refl
 
 -- the last byte, by its number
 last_byte : (b : ℕ) (xs : List ℕ) → EndsIn b xs → (k : ℕ) × (k < length xs) × (get_or xs k 0 ≡ b)

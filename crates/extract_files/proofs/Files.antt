@@ -140,12 +140,12 @@ module _ (k : Facts) (name : ℕ → List ℕ) (file : ℕ) (ts : List Token) (t
 
       text_fits : TextFits file ts at rewrite (old_text (edits rs rest)) (new_text (edits rs rest) tail)
       text_fits = record {
-        range = y.range;
+        range = y.at_tokens;
         stands = call.alone.stands;
         tokens = refl;
         apart_before = apart_more x.kept call.alone.text (new_text (edits rs rest) tail) ends_closed (ap (are_apart x.kept) text_is ∙ y.apart);
         apart_behind = or_true (closed_apart call.alone.text ends_closed (new_text (edits rs rest) tail));
-        line = λ e. k.known.ranges ts x.from x.upto _ _ y.range ending ∙ sym call.alone.closes;
+        line = λ e. k.known.ranges ts x.from x.upto _ _ y.at_tokens ending ∙ sym call.alone.closes;
       }
         where
           or_true : {a b : Bool} → a ≡ true → (a || b) ≡ true

@@ -353,8 +353,7 @@ module _ (file : ℕ) (whole : List (List ℕ)) (cut : Cut whole []) (good : lis
 
     filled_ascend : (i : ℕ) → i ≤ length in_front → Ascending i (ranges (named (h ∷ hs))) (length (kinds_in whole true))
     filled_ascend i le =
-        let n : length (kinds_in (front ++ (fs ++ os)) e) ≡ length ((in_front ++ in_kept) ++ (in_hole ++ end)) = ap length passed in
-        (
+        let n : length (kinds_in (front ++ (fs ++ os)) e) ≡ length ((in_front ++ in_kept) ++ (in_hole ++ end)) = ap length passed in (
           omega (arith, le, from_is, length-append in_front in_kept),
           omega (arith, from_is, upto_is, hole_count),
           f.ascend h.upto (omega (arith, n, upto_is, length-append (in_front ++ in_kept) (in_hole ++ end), length-append in_hole end)),

@@ -44,13 +44,13 @@ record Passed (ts : List Token) (i at : ℕ) : Type 0 where
 later : (n : ℕ) (ts : List Token) (i at from upto start end : ℕ) → AreOrdered 0 (map span_of ts) n → Passed ts i at → IsRange ts from upto start end → at ≤ start → i ≤ from
 later n ts i at from upto start end o p r le = elim (three from i) [
   | inl lt ↦ absurd (elim (two from (i - 1) (omega (arith, lt))) [
-      | inl same ↦
-          let one : Some r.first ≡ Some p.token = sym r.has_first ∙ ap (slice_get ts) same ∙ p.is in
-          let t : r.first ≡ p.token = cc in
-          let s : r.first.span.start ≡ p.token.span.start = ap (λ (t : Token). t.span.start) t in
-          omega (arith, s, r.begins, p.written, p.ends, le)
-      | inr less ↦ omega (arith, earlier 0 n ts from (i - 1) r.first p.token o less r.has_first p.is, r.begins, r.first_written, p.written, p.ends, le)
-    ])
+    | inl same ↦
+        let one : Some r.first ≡ Some p.token = sym r.has_first ∙ ap (slice_get ts) same ∙ p.is in
+        let t : r.first ≡ p.token = cc in
+        let s : r.first.span.start ≡ p.token.span.start = ap (λ (t : Token). t.span.start) t in
+        omega (arith, s, r.begins, p.written, p.ends, le)
+    | inr less ↦ omega (arith, earlier 0 n ts from (i - 1) r.first p.token o less r.has_first p.is, r.begins, r.first_written, p.written, p.ends, le)
+  ])
   | inr ge ↦ ge
 ]
   where
@@ -65,8 +65,7 @@ module _ (n file : ℕ) (ts : List Token) (o : AreOrdered 0 (map span_of ts) n) 
   ascends [] rest i at (inl z) f = omega (arith, z)
   ascends [] rest i at (inr p) f = let lt = inside_some ts (i - 1) p.token p.is in omega (arith, lt, p.some)
   ascends (r ∷ rs) rest i at p f =
-      let g = f.0.range in
-      (
+      let g = f.0.range in (
         from_is i at p r.from r.upto (at + width r.kept) (at + width r.kept + width r.old) g (omega arith),
         g.order,
         ascends rs rest r.upto (at + width r.kept + width r.old) (inr (record { token = g.last; some = omega (arith, g.order); is = g.has_last; written = g.last_written; ends = omega (arith, g.ends) })) f.1,
@@ -150,7 +149,7 @@ one_tree law rewritten w h t bytes b =
       ends = last_stays (move r.ranges) w.tree (patch_of (sites (move r.ranges) r.ranges)) still ∙ ap (move r.ranges) t.ends ∙ moved_end (changes r.ranges) 0 (kinds w.tokens) ascend;
     } in
     let whole = subst (λ ks. IsFileTree ks (extended (length (changed (changes r.ranges) (kinds w.tokens))) (kinds w.tail_tokens) w.added (new_tree r.ranges w.tree))) (sym n.0.kinds_are)
-        (with_added (changed (changes r.ranges) (kinds w.tokens)) (kinds w.tail_tokens) (new_tree r.ranges w.tree) w.added tree h.added_fits) in
+    (with_added (changed (changes r.ranges) (kinds w.tokens)) (kinds w.tail_tokens) (new_tree r.ranges w.tree) w.added tree h.added_fits) in
     record {
       tokens = n.0.tokens;
       comments = n.0.comments;
@@ -161,8 +160,8 @@ one_tree law rewritten w h t bytes b =
     }
 
 pub deep_files : FilesWithoutTreesAreDeep
-deep_files file bytes h none = elim (two (depth h.tree)) [
-  | inl low ↦ absurd (none h.tree (record { derives = h.is_tree.derives; begins = h.is_tree.begins; ends = h.is_tree.ends; shallow = low }))
+deep_files file bytes h lacks = elim (two (depth h.tree)) [
+  | inl low ↦ absurd (lacks h.tree (record { derives = h.is_tree.derives; begins = h.is_tree.begins; ends = h.is_tree.ends; shallow = low }))
   | inr deep ↦ deep
 ]
   where

@@ -12,3 +12,4 @@ mod Calls
 mod Files
 mod Appended
 mod Levels
+mod Fronts

@@ -27,6 +27,7 @@ use Rattle.go_print_laws.specs.Trees.{name_at}
 use Rattle.extract_files.specs.Holes.{Hole, path_of, named, name_sites, named_tree, IsHole, AreHoles}
 use Rattle.extract_files.proofs.Deep.{names_below, kind_is, run_stays, range_moves, moved_range}
 use Rattle.extract_files.proofs.Filled.{TextHole, TextHoles}
+use Rattle.extract_files.proofs.Fronts.{expressions_are_safe}
 use Rattle.extract_files.proofs.Numbers.{get_right}
 
 -- what is known of trees in which places are replaced
@@ -95,9 +96,9 @@ module _ (k : Known) (ts : List Token) (c : Category) (t : Tree) (h : Derives (k
       ap (λ r. r ∷ ranges (named xs)) here ∙ ap (λ rs. range_in (subtree_at (path_of x) t) (whole (carry (λ n. moved_by all x.from + n) (name_at 0))) ∷ rs) (hole_places (at + width x.kept + width x.old) all xs a.1)
 
   -- where all lie one behind the other
-  module _ (all : List Change) (ascend : Ascending 0 (ranges all) (length (kinds ts))) where
+  module _ (f : ℕ) (list : Items) (statements : AreStatements list) (is_list : items_at f (rule (place_of c) (kind_of t)) ≡ Some list) (all : List Change) (ascend : Ascending 0 (ranges all) (length (kinds ts))) where
     name_edge : (at : ℕ) (x : Hole) → IsHole ts c t at x → Edge (kinds ts) (token.Identifier ∷ []) x.from 0
-    name_edge at x y = record { brace = λ e. cc; result = λ n next is e. absurd (y.not_closed n next is) }
+    name_edge at x y = record { brace = λ e. cc; result = λ n next is e. absurd (expressions_are_safe (kinds ts) c y.category t y.stood f x.statement (x.part ∷ x.path) list statements h is_list y.at_path y.asked y.takes n (next ∙ sym y.begins) is) }
 
     hole_sits : (pre : List Change) (at : ℕ) (x : Hole) (rest : List Change) → all ≡ pre ++ (record { from = x.from; upto = x.upto; words = token.Identifier ∷ [] } ∷ rest) → (y : IsHole ts c t at x)
         → Sits (kinds ts) (changed all (kinds ts)) (moved_by all) c t (record { path = path_of x; change = whole (carry (λ n. moved_by all x.from + n) (name_at 0)) })
@@ -137,22 +138,22 @@ module _ (k : Known) (ts : List Token) (c : Category) (t : Tree) (h : Derives (k
     )
 
   -- The tree with the names stands, and its items are a run.
-  pub named_derives : (at : ℕ) (hs : List Hole) → AreHoles ts c t at hs → Ascending 0 (ranges (named hs)) (length (kinds ts)) → all_clear t (name_sites (named hs) hs) ≡ true → Derives (changed (named hs) (kinds ts)) c (named_tree hs t)
-  named_derives at hs a ascend clear = k.sites (kinds ts) (named hs) c t (name_sites (named hs) hs) h (record {
+  pub named_derives : (f : ℕ) (list : Items) → AreStatements list → items_at f (rule (place_of c) (kind_of t)) ≡ Some list → (at : ℕ) (hs : List Hole) → AreHoles ts c t at hs → Ascending 0 (ranges (named hs)) (length (kinds ts)) → all_clear t (name_sites (named hs) hs) ≡ true → Derives (changed (named hs) (kinds ts)) c (named_tree hs t)
+  named_derives f list s is at hs a ascend clear = k.sites (kinds ts) (named hs) c t (name_sites (named hs) hs) h (record {
     places = hole_places at (named hs) hs a;
     ascend = ascend;
-    sit = holes_sit (named hs) ascend [] at hs refl a;
+    sit = holes_sit f list s is (named hs) ascend [] at hs refl a;
     agrees = k.clear (kinds ts) (moved_by (named hs)) c t (name_sites (named hs) hs) h clear;
   })
 
-  pub named_run : (at : ℕ) (hs : List Hole) (f n : ℕ) (list : Items) → IsRun (kinds ts) c t f n list → AreHoles ts c t at hs → Ascending 0 (ranges (named hs)) (length (kinds ts)) → all_clear t (name_sites (named hs) hs) ≡ true
+  pub named_run : (at : ℕ) (hs : List Hole) (f n : ℕ) (list : Items) → AreStatements list → IsRun (kinds ts) c t f n list → AreHoles ts c t at hs → Ascending 0 (ranges (named hs)) (length (kinds ts)) → all_clear t (name_sites (named hs) hs) ≡ true
       → Run (changed (named hs) (kinds ts)) list (run_at f n (parts (named_tree hs t))) (moved_by (named hs) (run_range f n (parts t)).from) (moved_by (named hs) (run_range f n (parts t)).upto)
-  named_run at hs f n list r a ascend clear =
+  named_run at hs f n list s r a ascend clear =
       let q = patch_of (name_sites (named hs) hs) in
       let d = names_below (named hs) hs in
       let m = moved_by (named hs) in
       let there = k.items (changed (named hs) (kinds ts)) c (named_tree hs t) f n list (record {
-        derives = named_derives at hs a ascend clear;
+        derives = named_derives f list s r.is_list at hs a ascend clear;
         is_list = ap (λ x. items_at f (rule (place_of c) x)) (kind_is m t q d) ∙ r.is_list;
         has = run_stays m t q f n d ∙ r.has;
       }) in

@@ -215,4 +215,3 @@ spans_of n ts from upto start end o r = record {
   ends = r.ends;
   some = some_range n ts from upto start end o r;
 }
-

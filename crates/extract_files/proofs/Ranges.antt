@@ -32,7 +32,7 @@ numbered file whole cut front r rest w o from upto start end t s e =
     let z : width (join (front ++ r.before)) ≡ width (join front ++ join r.before) = ap width (join_two front r.before) in
     let last : upto - 1 ≡ length (items (front ++ r.before) false) =
     number_to file whole cut (front ++ r.before) r.last rest (upto - 1) t.last (w ∙ ap (λ x. front ++ x) split ∙ sym (append_assoc front r.before (r.last ∷ rest))) o.ends t.has_last t.last_written
-        (omega (arith, t.ends, e, s, z, width-append (join front) (join r.before), range_width r o)) in
+    (omega (arith, t.ends, e, s, z, width-append (join front) (join r.before), range_width r o)) in
     let count : length (items (front ++ r.before) false) ≡ length (items front false) + length (items r.before false) =
     ap length (items_append front r.before false ∙ ap (λ b. items front b ++ items r.before false) (front_line r.before r.last r.blanks o.begins)) ∙ length-append (items front false) (items r.before false) in
     (first, omega (arith, last, count, range_count r o, t.order))

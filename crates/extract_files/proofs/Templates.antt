@@ -413,7 +413,7 @@ module _ (k : Known) (w : Template) (h : IsTemplate w) where
   range_there =
       let zero_is : width before ≡ 0 + width before = omega arith in
       subst (λ n. IsRange (tokens w.part.file 0 h.is_part.lexes.pieces true) w.part.from w.part.upto n (n + width w.part.inner)) zero_is
-          (subst (λ xs. IsRange xs w.part.from w.part.upto (width before) (width before + width w.part.inner)) spelled h.is_part.range)
+      (subst (λ xs. IsRange xs w.part.from w.part.upto (width before) (width before + width w.part.inner)) spelled h.is_part.range)
 
   old_run : Run (kinds ts) h.items (run_at w.front w.others (parts w.tree)) w.part.from w.part.upto
   old_run = subst (λ (x : places.Range). Run (kinds ts) h.items (run_at w.front w.others (parts w.tree)) x.from x.upto) h.place (k.items (kinds ts) w.category w.tree w.front w.others h.items h.run)
@@ -425,9 +425,9 @@ module _ (k : Known) (w : Template) (h : IsTemplate w) where
   text =
       let kinds_are : kinds ts ≡ kinds_in h.is_part.lexes.pieces true = ap kinds spelled ∙ kinds_tokens w.part.file h.is_part.lexes.pieces true in
       subst (λ ks. Text w.part.file w.holes w.rest ks w.part.from w.part.upto) (sym kinds_are)
-          (text_of w.part.file w.part.text before w.part.inner h.is_part.behind h.is_part.lexes.pieces h.is_part.lexes.cut h.is_part.lexes.good h.is_part.lexes.whole h.is_part.whole w.holes w.rest h.inner w.part.from w.part.upto range_there
-          (k.ranges (tokens w.part.file 0 h.is_part.lexes.pieces true) w.part.from w.part.upto (0 + width before) (0 + width before + width w.part.inner) range_there (subst (λ xs. Ending (kinds xs) w.part.upto) spelled ending))
-          (subst (λ xs. TextHoles xs (width before) w.holes) spelled old_holes))
+      (text_of w.part.file w.part.text before w.part.inner h.is_part.behind h.is_part.lexes.pieces h.is_part.lexes.cut h.is_part.lexes.good h.is_part.lexes.whole h.is_part.whole w.holes w.rest h.inner w.part.from w.part.upto range_there
+      (k.ranges (tokens w.part.file 0 h.is_part.lexes.pieces true) w.part.from w.part.upto (0 + width before) (0 + width before + width w.part.inner) range_there (subst (λ xs. Ending (kinds xs) w.part.upto) spelled ending))
+      (subst (λ xs. TextHoles xs (width before) w.holes) spelled old_holes))
 
   abbrev new_tree : Trees
   new_tree = run_at w.front w.others (parts (named_tree w.holes w.tree))
@@ -437,7 +437,7 @@ module _ (k : Known) (w : Template) (h : IsTemplate w) where
 
   new_run : Run (changed (named w.holes) (kinds ts)) in_block new_tree w.part.from (move w.part.upto)
   new_run =
-      let first = named_run k ts w.category w.tree h.run.derives (width before) w.holes w.front w.others h.items h.run h.holes text.ascend h.clear in
+      let first = named_run k ts w.category w.tree h.run.derives (width before) w.holes w.front w.others h.items h.statements h.run h.holes text.ascend h.clear in
       let placed = subst (λ (x : places.Range). Run (changed (named w.holes) (kinds ts)) h.items new_tree (move x.from) (move x.upto)) h.place first in
       in_blocks k (changed (named w.holes) (kinds ts)) h.items h.statements new_tree w.part.from (move w.part.upto) (subst (λ n. Run (changed (named w.holes) (kinds ts)) h.items new_tree n (move w.part.upto)) text.start placed)
 

@@ -9,7 +9,7 @@ use Rattle.go_tokens.specs.Lexing.{width, Lexes}
 use Rattle.go_tokens.specs.Replacing.{are_apart}
 use Rattle.go_tokens.specs.Tokens.{kinds}
 use Rattle.go_grammar.specs.declared.kind.Category.{Category}
-use Rattle.go_grammar.specs.declared.kind.Category.TheVariants as category
+use Rattle.go_grammar.specs.declared.kind.Category.TheVariants as categories
 use Rattle.go_grammar.specs.Categories.{place_of}
 use Rattle.go_grammar.specs.Grammar.{rule, Derives, IsFile}
 use Rattle.go_grammar.specs.Rules.{Items}
@@ -59,11 +59,11 @@ call_sites (x ∷ xs) = record { path = x.path; change = items x.front x.others 
 -- The window is a run of statements of a block or a clause, whose characters stand behind others from a place on, and the call can be
 -- written and doesn't join what stands in front.
 pub record IsWindow (name : ℕ → List ℕ) (ts : List Token) (t : Tree) (at : ℕ) (x : Window) : Type 0 where
-  pub range : IsRange ts x.from x.upto (at + width x.kept) (at + width x.kept + width x.old)
+  pub at_tokens : IsRange ts x.from x.upto (at + width x.kept) (at + width x.kept + width x.old)
   pub stood : Tree
   pub category : Category
   pub at_path : subtree_at x.path t ≡ Some stood
-  pub asked : asked_at category.File x.path t ≡ Some category
+  pub asked : asked_at categories.File x.path t ≡ Some category
   pub list : Items
   pub statements : AreStatements list
   pub is_list : items_at x.front (rule (place_of category) (kind_of stood)) ≡ Some list
@@ -110,7 +110,7 @@ pub record IsCalled (w : Called) : Type 0 where
   pub windows : AreWindows w.name w.tokens w.tree 0 w.windows
   -- nodes above windows agree with their parts whatever these are
   pub clear : all_clear w.tree (call_sites w.windows) ≡ true
-  pub derives : Derives (kinds w.tokens) category.File w.tree
+  pub derives : Derives (kinds w.tokens) categories.File w.tree
   pub lexes : Lexes w.file (file_text w.windows w.rest) w.tokens w.comments
   pub appended : IsTail w.file w.tail w.tail_tokens
   pub added_fits : AddedFits (kinds w.tail_tokens) w.added
@@ -126,9 +126,9 @@ pub record IsRewritten (w : Called) : Type 0 where
   pub sites : sites_alone ranges ≡ call_sites w.windows
   pub old : old_text (edits ranges w.rest) ≡ file_text w.windows w.rest
   pub new : new_text (edits ranges w.rest) w.tail ≡ called_text w.name w.windows (w.rest ++ w.tail)
-  pub well_formed : IsWellFormed category.File (rewriting_of w ranges)
-  pub as_file : (before behind : List ℕ) → IsText (file_text w.windows w.rest) before → IsText (called_text w.name w.windows (w.rest ++ w.tail)) behind → IsLexing w.file before w.tokens w.comments → IsFile (kinds w.tokens) w.tree → depth (new_tree ranges w.tree) ≤ 101
-      → IsFileWellFormed (record { text = rewriting_of w ranges; old = before; new = behind; added = w.added })
+  pub well_formed : IsWellFormed categories.File (rewriting_of w ranges)
+  pub as_file : (before behind : List ℕ) → IsText (file_text w.windows w.rest) before → IsText (called_text w.name w.windows (w.rest ++ w.tail)) behind → IsLexing w.file before w.tokens w.comments
+      → IsFile (kinds w.tokens) w.tree → depth (new_tree ranges w.tree) ≤ 101 → IsFileWellFormed (record { text = rewriting_of w ranges; old = before; new = behind; added = w.added })
 
 -- A file with calls at its windows, and a function behind it, is a rewriting of the file.
 abbrev pub CalledFilesAreRewritten : Type 0

@@ -42,4 +42,4 @@ ExtractedFunctionsStand = (s : Sources) (name : List ℕ) (fresh : List (List �
     → HeaderCanBeWritten (declared_text s) (header_of (λ x. x) s name fresh t h) → AreNames (variable_names s t (h.assigned ++ h.declared)) → IsTemplateOf s fresh t h w
     → depth (function_tree (extracted_function s name fresh t h) (length (named_words w)) (named_trees w)) ≤ 100
     → FunctionStands w.part.file (function_with (λ x. x) s name fresh t h) (function_words (declared_text s) (extracted_function s name fresh t h) (named_words w))
-        (function_tree (extracted_function s name fresh t h) (length (named_words w)) (named_trees w))
+    (function_tree (extracted_function s name fresh t h) (length (named_words w)) (named_trees w))

@@ -1,5 +1,5 @@
 -- Statements of a text with names in place of some of their expressions.
-use Rattle.std.specs.Prelude.{◌≡◌, ℕ, suc, ◌+◌, ◌-◌, true, List, [], ◌∷◌, ◌++◌, map, take, drop, Some}
+use Rattle.std.specs.Prelude.{◌≡◌, ℕ, ◌+◌, ◌-◌, true, List, [], ◌∷◌, ◌++◌, map, take, drop, Some}
 use Rattle.std.specs.List.{list_all}
 use Rattle.std.specs.Str.{chars, encode_utf8_all, all_scalars}
 use Rattle.go_tokens.specs.declared.token.Token.{Token}
@@ -11,7 +11,6 @@ use Rattle.go_tokens.specs.Tokens.{kinds}
 use Rattle.go_grammar.specs.declared.kind.Category.{Category}
 use Rattle.go_grammar.specs.declared.kind.Level.TheVariants as level
 use Rattle.go_grammar.specs.Categories.{is_expression}
-use Rattle.go_grammar.specs.Grammar.{IsAt}
 use Rattle.go_grammar.specs.Rules.{Items}
 use Rattle.go_grammar.specs.Trees.{Tree, Trees, kind_of, first, last, parts}
 use Rattle.go_rewriting.specs.Excerpts.{Part, IsPart}
@@ -68,8 +67,7 @@ name_sites xs (h ∷ hs) = record { path = path_of h; change = whole (carry (λ 
 abbrev pub named_tree : List Hole → Tree → Tree
 named_tree hs t = with_sites (named hs) (name_sites (named hs) hs) t
 
--- The hole is an expression of the tree, whose characters stand behind others from a place on, and is not directly behind a closing
--- parenthesis.
+-- The hole is an expression of the tree, whose characters stand behind others from a place on.
 pub record IsHole (ts : List Token) (c : Category) (t : Tree) (at : ℕ) (h : Hole) : Type 0 where
   pub range : IsRange ts h.from h.upto (at + width h.kept) (at + width h.kept + width h.old)
   pub name : IsName h.name
@@ -81,7 +79,6 @@ pub record IsHole (ts : List Token) (c : Category) (t : Tree) (at : ℕ) (h : Ho
   pub expression : is_expression (kind_of stood) ≡ true
   pub begins : first stood ≡ h.from
   pub ends : last stood ≡ h.upto
-  pub not_closed : (n : ℕ) → suc n ≡ h.from → IsAt (kinds ts) n token.RightParenthesis → ⊥
 
 -- one behind the other
 abbrev pub AreHoles : List Token → Category → Tree → ℕ → List Hole → Type 0

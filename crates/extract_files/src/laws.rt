@@ -8,12 +8,17 @@ ghost use Rattle.extract_files.specs.Levels.{CalledFilesHaveOneTree, FilesWithou
 
 use go_print_laws::laws::{calls_stand, functions_stand};
 use go_rewriting::laws::{
-    a_new_text_fits, changed_sites, clear_rewrites_agree, clear_sites_agree, items_stand, operands_stand_for_expressions, ranges_end_well,
-    rewritten_text, run_stands_elsewhere, statements_stand_in_both, subtrees_stand, texts_end_well,
+    a_new_text_fits, changed_sites, clear_rewrites_agree, clear_sites_agree, items_stand,
+    operands_stand_for_expressions, ranges_end_well, rewritten_text, run_stands_elsewhere,
+    statements_stand_in_both, subtrees_stand, texts_end_well,
 };
 
 /// Statements of a text with names in place of some of their expressions stand by themselves: they are a run of statements over the
 /// tokens in which each of these is a name, with the tree in which it is one.
+///
+/// A caller gives the file's lexing and the derivation of the node that lists the statements (`subtrees_stand` has it from the file's
+/// tree), and for each hole the path to it, its tokens, and that its name is one: a fresh name is. That nodes above holes agree with
+/// their parts is told by kinds alone.
 pub fn templates_stand()
     ensures { TemplatesStand }
 {
@@ -31,6 +36,9 @@ pub fn templates_stand()
 
 /// What stands behind the template's file is a declaration with the tree that is written down for it: its statements are those of the
 /// template, with a name in place of each hole that is a parameter.
+///
+/// A caller gives besides that the names and types of the header can be written, that the places of the window and of its holes are
+/// those of their tokens, and that the function is within the limit on levels, as a choice that isn't refused has it.
 pub fn extracted_functions_stand()
     ensures { ExtractedFunctionsStand }
 {
@@ -46,6 +54,10 @@ pub fn runs_are_enclosed()
 
 /// A file in which calls stand in place of statements, and behind which a function may stand, is a rewriting of the file: it has the
 /// tokens and the tree that the calls make of the old ones.
+///
+/// A caller gives the file's lexing and its tree, for each window the path to the node that lists it and its tokens, and that its call
+/// can be written and doesn't join what stands in front; and what is appended with its declaration (`extracted_functions_stand`). What
+/// stands around a window is told by the grammar.
 pub fn called_files_are_rewritten()
     ensures { CalledFilesAreRewritten }
 {
