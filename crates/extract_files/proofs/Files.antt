@@ -65,6 +65,10 @@ no_result : (o : Option TokenKind) → (o ≡ Some token.Semicolon) ⊎ (o ≡ S
 no_result o (inl e) = subst (λ w. is_among w result_words ≡ false) (sym e) refl
 no_result o (inr e) = subst (λ w. is_among w result_words ≡ false) (sym e) refl
 
+or_true : (a b : Bool) → a ≡ true → (a || b) ≡ true
+or_true true b e = refl
+or_true false b e = cc
+
 -- a row of one word, or of none
 abbrev row_of : Option TokenKind → List TokenKind
 row_of None = []
@@ -144,12 +148,9 @@ module _ (k : Facts) (name : ℕ → List ℕ) (file : ℕ) (ts : List Token) (t
         stands = call.alone.stands;
         tokens = refl;
         apart_before = apart_more x.kept call.alone.text (new_text (edits rs rest) tail) ends_closed (ap (are_apart x.kept) text_is ∙ y.apart);
-        apart_behind = or_true (closed_apart call.alone.text ends_closed (new_text (edits rs rest) tail));
+        apart_behind = or_true (are_apart call.alone.text (new_text (edits rs rest) tail)) _ (closed_apart call.alone.text ends_closed (new_text (edits rs rest) tail));
         line = λ e. k.known.ranges ts x.from x.upto _ _ y.at_tokens ending ∙ sym call.alone.closes;
       }
-        where
-          or_true : {a b : Bool} → a ≡ true → (a || b) ≡ true
-          or_true {a} {b} e = ap (λ c. c || b) e
 
       word_is : (slice_get (words rewrite) 0 ≡ Some token.Var) ⊎ (slice_get (words rewrite) 0 ≡ Some token.Identifier)
       word_is = subst (λ ws. (slice_get ws 0 ≡ Some token.Var) ⊎ (slice_get ws 0 ≡ Some token.Identifier)) (sym call.alone.kinds_are) (first_word name x.call)
