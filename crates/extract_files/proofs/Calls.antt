@@ -1,17 +1,15 @@
 -- What a call begins and ends with.
-use Rattle.std.proofs.Common.{◌≡◌, ℕ, zero, suc, ◌+◌, ◌<◌, ◌≤◌, ◌⊎◌, inl, inr, Bool, true, false, not, List, [], ◌∷◌, ◌++◌, append-nil, append_assoc, length, get_or, codes, Some, refl, sym, ap, ◌∙◌, subst, arith}
+use Rattle.std.proofs.Common.{◌≡◌, ℕ, suc, ◌<◌, ◌⊎◌, inl, inr, true, false, not, List, [], ◌∷◌, ◌++◌, append-nil, length, get_or, codes, Some, refl, sym, ap, ◌∙◌, subst, arith}
 use Rattle.std.specs.Prelude.{slice_get, map}
 use Rattle.std.specs.Char.{encode_utf8}
-use Rattle.std.specs.Str.{chars, encode_utf8_all, all_scalars}
+use Rattle.std.specs.Str.{encode_utf8_all}
 use Rattle.std.proofs.lemmas.Str.{inside_one, length-encode, len_utf8_bounds}
 use Rattle.std.proofs.lemmas.List.{length-append}
 use Rattle.ucd_category.specs.GeneralCategory.{general_category}
 use Rattle.ucd_category.specs.GeneralCategoryRows.{general_category_rows}
 use Rattle.ucd_table.specs.Rows.{value_in}
-use Rattle.go_tokens.specs.declared.token.TokenKind.{TokenKind}
 use Rattle.go_tokens.specs.declared.token.TokenKind.TheVariants as token
-use Rattle.go_tokens.specs.Characters.{is_letter, is_digit, is_in_word, is_in_run}
-use Rattle.go_tokens.specs.Encoding.{IsText}
+use Rattle.go_tokens.specs.Characters.{is_letter, is_digit, is_in_word}
 use Rattle.go_tokens.specs.Replacing.{joins, last_joins, are_apart}
 use Rattle.go_tokens.specs.Spellings.{punctuation, outside_operators, operators}
 use Rattle.go_types.specs.Trees.{TypeRow}

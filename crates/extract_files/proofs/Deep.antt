@@ -1,11 +1,11 @@
 -- Trees of which only nodes change that are at least two levels below the top.
-use Rattle.std.proofs.Common.{◌≡◌, ℕ, zero, suc, ◌+◌, Bool, true, false, ◌&&◌, List, [], ◌∷◌, refl, sym, ap, ◌∙◌}
+use Rattle.std.proofs.Common.{◌≡◌, ℕ, zero, suc, Bool, true, false, ◌&&◌, List, [], ◌∷◌, refl, ap, ◌∙◌}
 use Rattle.go_tokens.proofs.Public.{both, and_both}
 use Rattle.go_grammar.specs.Trees.{Tree, node, Trees, none, more, skip, kind_of, first, last, parts}
 use Rattle.go_rewriting.specs.Lists.{has_run}
-use Rattle.go_rewriting.specs.Places.{carry, carries, Patch, keep, put, inside, Patches, done, part, run, has_items, items_end, become, become_all, range, Range, Change}
-use Rattle.go_rewriting.specs.Sites.{Local, whole, Site, parts_of, next_patch, other_patches, set_patch, insert, patch_of, run_range}
-use Rattle.extract_files.specs.Holes.{Hole, path_of, name_sites}
+use Rattle.go_rewriting.specs.Places.{Patch, keep, put, inside, Patches, done, part, run, has_items, items_end, become, become_all, range, Range, Change}
+use Rattle.go_rewriting.specs.Sites.{parts_of, next_patch, other_patches, set_patch, patch_of, run_range}
+use Rattle.extract_files.specs.Holes.{Hole, name_sites}
 
 -- the node stays
 abbrev deep : Patch → Bool

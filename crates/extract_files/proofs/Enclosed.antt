@@ -1,5 +1,5 @@
 -- Statements of a list are enclosed.
-use Rattle.std.proofs.Common.{◌≡◌, ℕ, zero, suc, ◌+◌, ◌-◌, ◌<◌, ◌≤◌, ◌⊎◌, inl, inr, Bool, true, false, ◌&&◌, List, [], ◌∷◌, Some, refl, sym, ap, ◌∙◌, subst, arith}
+use Rattle.std.proofs.Common.{◌≡◌, ℕ, zero, suc, ◌-◌, ◌<◌, ◌≤◌, ◌⊎◌, inl, inr, Bool, true, false, List, [], ◌∷◌, Some, refl, subst, arith}
 use Rattle.go_tokens.specs.declared.token.TokenKind.{TokenKind}
 use Rattle.go_tokens.specs.declared.token.TokenKind.TheVariants as token
 use Rattle.go_grammar.specs.declared.kind.Category.{Category}
@@ -8,15 +8,15 @@ use Rattle.go_grammar.specs.declared.kind.Kind.{Kind}
 use Rattle.go_grammar.specs.declared.kind.Place.{Place}
 use Rattle.go_grammar.specs.declared.kind.Place.TheVariants as place
 use Rattle.go_grammar.specs.Categories.{place_of}
-use Rattle.go_grammar.specs.Grammar.{rule, IsAt, Words, Only, Gap, Between, Derives, Spells, Goes}
+use Rattle.go_grammar.specs.Grammar.{rule, IsAt, Words, Only, Gap, Between, Spells, Goes}
 use Rattle.go_grammar.specs.Rules.{Items, Lines, Open, Each, Again, Rule, End, Then, Maybe, Unless, Many}
-use Rattle.go_grammar.specs.Trees.{Tree, node, Trees, none, more, skip, first, last, parts}
+use Rattle.go_grammar.specs.Trees.{Tree, node, Trees, none, more, skip, first, last}
 use Rattle.go_grammar.proofs.Public.{all, kinds, kinds_at}
-use Rattle.go_rewriting.specs.Lists.{IsRun, in_block, in_clause, items_at, has_run}
+use Rattle.go_rewriting.specs.Lists.{items_at, has_run}
 use Rattle.go_rewriting.specs.Places.{has_items, items_end}
 use Rattle.go_rewriting.specs.Sites.{run_range}
 use Rattle.go_print_laws.specs.Calls.{AreStatements, of_block, of_clause}
-use Rattle.extract_files.specs.Enclosed.{opens, IsEnclosed, RunsAreEnclosed}
+use Rattle.extract_files.specs.Enclosed.{opens, RunsAreEnclosed}
 
 -- the last of these words opens a list of statements
 abbrev opened_by : List TokenKind → Bool

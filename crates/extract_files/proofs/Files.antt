@@ -1,15 +1,13 @@
 -- A file with calls at its windows is a rewriting of the file.
-use Rattle.std.proofs.Common.{◌≡◌, ℕ, zero, suc, ◌+◌, ◌-◌, ◌<◌, ◌≤◌, ◌⊎◌, inl, inr, Bool, true, false, not, ◌==◌, ◌||◌, List, [], ◌∷◌, ◌++◌, append_assoc, length, Option, Some, None, refl, sym, ap, ◌∙◌, subst, arith, eqb-true}
+use Rattle.std.proofs.Common.{◌≡◌, ℕ, suc, ◌+◌, ◌⊎◌, inl, inr, Bool, true, false, ◌==◌, ◌||◌, List, [], ◌∷◌, ◌++◌, length, Option, Some, None, refl, sym, ap, ◌∙◌, subst, arith, eqb-true}
 use Rattle.std.specs.Prelude.{slice_get, if◌then◌else◌}
-use Rattle.std.specs.Str.{chars, encode_utf8_all, all_scalars}
+use Rattle.std.specs.Str.{chars}
 use Rattle.std.proofs.lemmas.Str.{chars-encodes}
-use Rattle.go_base.specs.declared.Span.{Span}
 use Rattle.go_tokens.specs.declared.token.Token.{Token}
 use Rattle.go_tokens.specs.declared.token.TokenKind.{TokenKind}
 use Rattle.go_tokens.specs.declared.token.TokenKind.TheVariants as token
-use Rattle.go_tokens.specs.Editing.{Stands, EndsLine, stands_apart, old_text, new_text}
+use Rattle.go_tokens.specs.Editing.{old_text, new_text}
 use Rattle.go_tokens.specs.Encoding.{IsText}
-use Rattle.go_tokens.specs.Files.{IsLexing}
 use Rattle.go_tokens.specs.Lexing.{width, Lexes}
 use Rattle.go_tokens.specs.Replacing.{are_apart}
 use Rattle.go_tokens.specs.Spellings.{ends_statement_kind}
@@ -17,21 +15,19 @@ use Rattle.go_tokens.specs.Tokens.{kinds}
 use Rattle.go_grammar.specs.declared.kind.Category.{Category}
 use Rattle.go_grammar.specs.declared.kind.Category.TheVariants as category
 use Rattle.go_grammar.specs.Categories.{place_of}
-use Rattle.go_grammar.specs.Grammar.{rule, result_words, IsAt, Derives, IsFile}
-use Rattle.go_grammar.specs.Rules.{Items, item}
-use Rattle.go_grammar.specs.Trees.{Tree, node, Trees, kind_of, parts, depth}
+use Rattle.go_grammar.specs.Grammar.{rule, result_words, Derives}
+use Rattle.go_grammar.specs.Trees.{Tree, node, kind_of, parts}
 use Rattle.go_grammar.specs.Words.{is_word, is_among}
 use Rattle.go_rewriting.specs.Endings.{Ending}
-use Rattle.go_rewriting.specs.Lists.{Subtree, IsRun, in_block, items_at, has_run, run_at}
+use Rattle.go_rewriting.specs.Lists.{IsRun, in_block, items_at, has_run, run_at}
 use Rattle.go_rewriting.specs.Places.{range, Range}
-use Rattle.go_rewriting.specs.Replacing.{subtree_at, asked_at, Edge, Run}
-use Rattle.go_rewriting.specs.Rewriting.{Rewrite, own, words, IsRange, TextFits, TextsFit, ItemsFit, ChangeFits, TreeFits, TreesFit, agreeing, sites_alone, edits, behind, new_tree, IsWellFormed, IsFileWellFormed}
-use Rattle.go_rewriting.specs.Sites.{Local, items, Site, all_clear, local_range, run_range}
-use Rattle.go_print_laws.specs.Calls.{AreStatements, CallsStand, call_lexemes, call_text, call_trees}
-use Rattle.go_print_laws.specs.Lexemes as lexemes
-use Rattle.go_print_laws.specs.Standing.{EndsHere, StandsAsRun, TextStands}
+use Rattle.go_rewriting.specs.Replacing.{Edge, Run}
+use Rattle.go_rewriting.specs.Rewriting.{Rewrite, words, TextFits, TextsFit, ChangeFits, TreeFits, TreesFit, agreeing, sites_alone, edits, behind}
+use Rattle.go_rewriting.specs.Sites.{items, all_clear, local_range, run_range}
+use Rattle.go_print_laws.specs.Calls.{CallsStand, call_lexemes, call_text, call_trees}
+use Rattle.go_print_laws.specs.Standing.{EndsHere, StandsAsRun}
 use Rattle.extract_files.specs.Enclosed.{opens, IsEnclosed, RunsAreEnclosed}
-use Rattle.extract_files.specs.Files.{Window, file_text, call_chars, called_text, call_sites, IsWindow, AreWindows, StandsFor, AllStandFor, Called, IsCalled, IsRewritten, CalledFilesAreRewritten, rewriting_of}
+use Rattle.extract_files.specs.Files.{Window, file_text, call_chars, called_text, call_sites, IsWindow, AreWindows, StandsFor, AllStandFor, CalledFilesAreRewritten}
 use Rattle.extract_files.proofs.Calls.{first_word, EndsIn, call_ends, text_ends, closed_apart}
 use Rattle.extract_files.proofs.Named.{Known, in_blocks}
 

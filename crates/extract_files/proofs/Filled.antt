@@ -1,5 +1,5 @@
 -- The pieces of a text in which names stand in place of holes.
-use Rattle.std.proofs.Common.{◌≡◌, ℕ, suc, ◌+◌, ◌-◌, ◌<◌, ◌≤◌, ◌⊎◌, inl, inr, Bool, true, false, ◌&&◌, ◌==◌, List, [], ◌∷◌, ◌++◌, length, take, drop, map, Some, append-nil, append_assoc, refl, sym, ap, ◌∙◌, subst, arith, eqb-true}
+use Rattle.std.proofs.Common.{◌≡◌, ℕ, suc, ◌+◌, ◌≤◌, Bool, true, false, ◌&&◌, ◌==◌, List, [], ◌∷◌, ◌++◌, length, take, drop, map, append_assoc, refl, sym, ap, ◌∙◌, subst, arith, eqb-true}
 use Rattle.std.specs.List.{list_all}
 use Rattle.std.specs.Str.{chars, encode_utf8_all}
 use Rattle.std.proofs.lemmas.List.{length-append, take_at, drop_at, map-append}
@@ -15,7 +15,7 @@ use Rattle.go_tokens.specs.Pieces.{begun_by, goes, kind, is_piece, is_good}
 use Rattle.go_tokens.specs.Replacing.{Item, semicolon, items, is_blank, Range, pieces_of, begins_with_token}
 use Rattle.go_tokens.specs.Spellings.{ends_statement_kind}
 use Rattle.go_tokens.specs.Tokens.{AreOrdered, span_of}
-use Rattle.go_tokens.proofs.Public.{OldRange, old_range, all_both, and_both, cut_first, cut_front, cut_second, items_append, items_blanks, items_range, join_two, line_ends_append, line_ends_blanks, line_ends_old, line_ends_token, old_blanks, piece_some, tokens_ordered, true_false, width-append, width-nil}
+use Rattle.go_tokens.proofs.Public.{OldRange, old_range, all_both, and_both, cut_first, cut_second, items_append, items_blanks, items_range, join_two, line_ends_append, line_ends_blanks, line_ends_old, line_ends_token, old_blanks, piece_some, tokens_ordered, true_false, width-append}
 use Rattle.go_rewriting.specs.Places.{Ascending, changed, ranges}
 use Rattle.go_rewriting.specs.Rewriting.{IsRange}
 use Rattle.go_print_laws.specs.Lexemes.{IsName}

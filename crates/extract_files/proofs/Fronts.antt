@@ -1,5 +1,5 @@
 -- No expression of a statement stands directly behind a closing parenthesis.
-use Rattle.std.proofs.Common.{◌≡◌, ℕ, zero, suc, ◌+◌, ◌-◌, ◌<◌, ◌≤◌, ◌⊎◌, inl, inr, Bool, true, false, not, ◌&&◌, ◌||◌, List, [], ◌∷◌, Option, Some, None, refl, sym, ap, ◌∙◌, subst, arith}
+use Rattle.std.proofs.Common.{◌≡◌, ℕ, zero, suc, ◌-◌, ◌<◌, ◌≤◌, ◌⊎◌, inl, inr, Bool, true, false, not, ◌&&◌, ◌||◌, List, [], ◌∷◌, Some, refl, sym, ap, ◌∙◌, subst, arith}
 use Rattle.std.specs.Prelude.{slice_get}
 use Rattle.go_tokens.specs.declared.token.TokenKind.{TokenKind}
 use Rattle.go_tokens.specs.declared.token.TokenKind.TheVariants as token
@@ -15,7 +15,7 @@ use Rattle.go_grammar.specs.Grammar.{rule, IsAt, Words, Only, Gap, Between, Deri
 use Rattle.go_grammar.specs.Rules.{Items, Lines, Open, Each, Again, Rule, End, Then, Maybe, Unless, Many, item}
 use Rattle.go_grammar.specs.Trees.{Tree, node, Trees, none, more, skip, kind_of, first, last}
 use Rattle.go_grammar.proofs.Public.{all, and_both, categories, categories_at, kinds, kinds_at}
-use Rattle.go_rewriting.specs.Lists.{in_block, in_clause, items_at}
+use Rattle.go_rewriting.specs.Lists.{items_at}
 use Rattle.go_rewriting.specs.Replacing.{subtree_at, subtree_in, asked_at, asked_in, takes_level}
 use Rattle.go_print_laws.specs.Calls.{AreStatements, of_block, of_clause}
 

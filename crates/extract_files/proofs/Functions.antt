@@ -1,5 +1,5 @@
 -- The new function stands.
-use Rattle.std.proofs.Common.{◌≡◌, ℕ, ◌+◌, ◌-◌, ◌≤◌, List, [], ◌∷◌, ◌++◌, length, take, drop, map, codes, append_assoc, refl, sym, ap, ◌∙◌, subst, arith}
+use Rattle.std.proofs.Common.{◌≡◌, ℕ, ◌+◌, ◌-◌, List, [], ◌∷◌, ◌++◌, length, take, map, codes, append_assoc, refl, sym, ap, ◌∙◌, subst, arith}
 use Rattle.std.specs.Prelude.{slice_range}
 use Rattle.std.specs.Char.{encode_utf8}
 use Rattle.std.specs.Str.{chars, encode_utf8_all}
@@ -11,11 +11,10 @@ use Rattle.go_tokens.proofs.Public.{width-append}
 use Rattle.go_tree.specs.Units.{Place}
 use Rattle.go_types.specs.Trees.{TypeTree}
 use Rattle.go_grammar.specs.declared.kind.Category.{Category}
-use Rattle.go_grammar.specs.Trees.{Tree, depth}
+use Rattle.go_grammar.specs.Trees.{Tree}
 use Rattle.go_print_laws.specs.Functions.{FunctionsStand, FunctionStands, Statements, function_text, function_tree, function_words}
 use Rattle.go_print_laws.specs.Functions as functions
-use Rattle.go_print_laws.specs.Headers.{HeaderCanBeWritten, header_text}
-use Rattle.go_print_laws.specs.Lexemes.{AreNames}
+use Rattle.go_print_laws.specs.Headers.{header_text}
 use Rattle.param_choose.specs.Choosing.{Choice}
 use Rattle.param_choose.specs.Members.{Member}
 use Rattle.escape_check.specs.Places.{Sources}

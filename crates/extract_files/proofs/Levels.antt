@@ -4,24 +4,23 @@ use Rattle.std.specs.Prelude.{slice_get}
 use Rattle.std.proofs.lemmas.List.{length-append}
 use Rattle.go_tokens.specs.declared.token.Token.{Token}
 use Rattle.go_tokens.specs.declared.token.TokenKind.{TokenKind}
-use Rattle.go_tokens.specs.declared.token.TokenKind.TheVariants as token
-use Rattle.go_tokens.specs.Editing.{old_text, new_text}
+use Rattle.go_tokens.specs.Editing.{new_text}
 use Rattle.go_tokens.specs.Encoding.{IsText}
-use Rattle.go_tokens.specs.Lexing.{join, width, Lexes, tokens}
+use Rattle.go_tokens.specs.Lexing.{join, width}
 use Rattle.go_tokens.specs.Tokens.{AreOrdered, span_of, kinds}
 use Rattle.go_tokens.proofs.Public.{tokens_ordered}
 use Rattle.go_grammar.specs.declared.kind.Category.{Category}
 use Rattle.go_grammar.specs.declared.kind.Category.TheVariants as category
-use Rattle.go_grammar.specs.Grammar.{IsAt, Derives, IsFile}
+use Rattle.go_grammar.specs.Grammar.{Derives}
 use Rattle.go_grammar.specs.Trees.{Tree, node, Trees, none, first, last, depth}
 use Rattle.go_grammar.proofs.Public.{unique}
-use Rattle.go_rewriting.specs.Places.{carry, carries, Patch, keep, put, inside, Ascending, Change, changed, moved_by, ranges, become, IsDeclaration, with_declaration}
-use Rattle.go_rewriting.specs.Rewriting.{Rewrite, IsRange, TextsFit, changes, words, edits, settled, sites, sites_alone, move, new_tree, extended, AddedFits, Rewriting, IsWellFormed, HasTail, HasNewTokens, HasNewTree}
-use Rattle.go_rewriting.specs.Sites.{Local, whole, items, Site, insert, patch_of}
+use Rattle.go_rewriting.specs.Places.{carry, carries, Patch, keep, put, inside, Ascending, changed, ranges, become, with_declaration}
+use Rattle.go_rewriting.specs.Rewriting.{Rewrite, IsRange, TextsFit, changes, edits, settled, sites, sites_alone, move, new_tree, extended, AddedFits, Rewriting, IsWellFormed, HasTail, HasNewTokens, HasNewTree}
+use Rattle.go_rewriting.specs.Sites.{Local, items, Site, insert, patch_of}
 use Rattle.go_rewriting.proofs.Public.{derives_kept, first_carry, last_carry, soft_same}
 use Rattle.go_print_laws.specs.Calls.{call_trees}
-use Rattle.extract_files.specs.Files.{Window, Called, IsCalled, IsRewritten, CalledFilesAreRewritten, called_text, call_sites, rewriting_of}
-use Rattle.extract_files.specs.Levels.{IsFileTree, HasOneTree, CalledFilesHaveOneTree, FilesWithoutTreesAreDeep}
+use Rattle.extract_files.specs.Files.{Window, CalledFilesAreRewritten, call_sites, rewriting_of}
+use Rattle.extract_files.specs.Levels.{IsFileTree, CalledFilesHaveOneTree, FilesWithoutTreesAreDeep}
 use Rattle.extract_files.proofs.Appended.{appended}
 use Rattle.extract_files.proofs.Moves.{moved_start, moved_end}
 use Rattle.extract_files.proofs.Numbers.{earlier, get_right}

@@ -1,7 +1,7 @@
 -- Where places move to that are outside of all changes.
-use Rattle.std.proofs.Common.{◌≡◌, ℕ, zero, suc, ◌+◌, ◌-◌, ◌<◌, ◌≤◌, ◌⊎◌, inl, inr, true, false, List, [], ◌∷◌, ◌++◌, length, take, drop, map, Some, refl, sym, ap, ◌∙◌, subst, arith}
-use Rattle.std.specs.Prelude.{slice_get, nat_le, if◌then◌else◌}
-use Rattle.std.proofs.lemmas.Bool.{le-leb, lt-ltb, leb-true}
+use Rattle.std.proofs.Common.{◌≡◌, ℕ, ◌+◌, ◌-◌, ◌<◌, ◌≤◌, ◌⊎◌, inl, inr, true, false, List, [], ◌∷◌, ◌++◌, length, take, drop, map, refl, ap, arith}
+use Rattle.std.specs.Prelude.{nat_le, if◌then◌else◌}
+use Rattle.std.proofs.lemmas.Bool.{le-leb, leb-true}
 use Rattle.std.proofs.lemmas.List.{length-append, length-take-le, length-drop}
 use Rattle.go_tokens.specs.declared.token.Token.{Token}
 use Rattle.go_tokens.specs.declared.token.TokenKind.{TokenKind}
@@ -12,7 +12,7 @@ use Rattle.go_rewriting.specs.Places.{Ascending, Change, changed, moved_by, rang
 use Rattle.go_rewriting.specs.Replacing.{moved}
 use Rattle.go_rewriting.specs.Rewriting.{IsRange}
 use Rattle.extract_files.specs.Holes.{Hole, whole_text, named}
-use Rattle.extract_files.proofs.Filled.{TextHole, TextHoles}
+use Rattle.extract_files.proofs.Filled.{TextHoles}
 use Rattle.extract_files.proofs.Numbers.{earlier}
 
 not_le : (a b : ℕ) → b < a → nat_le a b ≡ false

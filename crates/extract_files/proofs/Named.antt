@@ -1,5 +1,5 @@
 -- Names in place of expressions of a tree.
-use Rattle.std.proofs.Common.{◌≡◌, ℕ, zero, suc, ◌+◌, ◌<◌, ◌≤◌, Bool, true, false, List, [], ◌∷◌, ◌++◌, length, drop, Option, Some, None, refl, sym, ap, ◌∙◌, subst, append_assoc, arith}
+use Rattle.std.proofs.Common.{◌≡◌, ℕ, zero, suc, ◌+◌, true, List, [], ◌∷◌, ◌++◌, length, drop, Some, refl, sym, ap, ◌∙◌, subst, append_assoc, arith}
 use Rattle.std.specs.Prelude.{slice_get}
 use Rattle.go_tokens.specs.declared.token.Token.{Token}
 use Rattle.go_tokens.specs.declared.token.TokenKind.{TokenKind}
@@ -9,24 +9,23 @@ use Rattle.go_tokens.specs.Spellings.{ends_statement_kind}
 use Rattle.go_tokens.specs.Tokens.{kinds}
 use Rattle.go_grammar.specs.declared.kind.Category.{Category}
 use Rattle.go_grammar.specs.declared.kind.Category.TheVariants as category
-use Rattle.go_grammar.specs.declared.kind.Kind.{Kind}
 use Rattle.go_grammar.specs.declared.kind.Level.{Level}
 use Rattle.go_grammar.specs.declared.kind.Level.TheVariants as level
 use Rattle.go_grammar.specs.Categories.{place_of, is_expression}
-use Rattle.go_grammar.specs.Grammar.{rule, IsAt, Derives}
+use Rattle.go_grammar.specs.Grammar.{rule, Derives}
 use Rattle.go_grammar.specs.Rules.{Items, item}
 use Rattle.go_grammar.specs.Trees.{Tree, node, Trees, kind_of, first, last, parts}
 use Rattle.go_rewriting.specs.Endings.{ends_well, Ending}
-use Rattle.go_rewriting.specs.Lists.{Subtree, IsRun, RunStands, no_clause, Elsewhere, in_block, in_clause, items_at, run_at, has_run}
-use Rattle.go_rewriting.specs.Places.{carry, carries, Ascending, Change, changed, moved_by, ranges, range, Range, agreed, become}
-use Rattle.go_rewriting.specs.Replacing.{subtree_at, asked_at, takes_level, moved, Edge, Run}
+use Rattle.go_rewriting.specs.Lists.{Subtree, IsRun, RunStands, no_clause, Elsewhere, in_block, in_clause, items_at, run_at}
+use Rattle.go_rewriting.specs.Places.{carry, carries, Ascending, Change, changed, moved_by, ranges, range, Range, agreed}
+use Rattle.go_rewriting.specs.Replacing.{subtree_at, takes_level, moved, Edge, Run}
 use Rattle.go_rewriting.specs.Rewriting.{IsRange}
 use Rattle.go_rewriting.specs.Sites.{Site, whole, patch_of, with_sites, all_clear, AreSites, AllSit, Sits, IsChange, NewText, NewTextFits, site_ranges, run_range, range_in, Local}
 use Rattle.go_print_laws.specs.Calls.{AreStatements, of_block, of_clause}
 use Rattle.go_print_laws.specs.Trees.{name_at}
 use Rattle.extract_files.specs.Holes.{Hole, path_of, named, name_sites, named_tree, IsHole, AreHoles}
-use Rattle.extract_files.proofs.Deep.{names_below, kind_is, run_stays, range_moves, moved_range}
-use Rattle.extract_files.proofs.Filled.{TextHole, TextHoles}
+use Rattle.extract_files.proofs.Deep.{names_below, kind_is, run_stays, range_moves}
+use Rattle.extract_files.proofs.Filled.{TextHoles}
 use Rattle.extract_files.proofs.Fronts.{expressions_are_safe}
 use Rattle.extract_files.proofs.Numbers.{get_right}
 

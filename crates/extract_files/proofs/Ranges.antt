@@ -1,9 +1,9 @@
 -- The numbers of the tokens of a range, by its pieces.
-use Rattle.std.proofs.Common.{◌≡◌, ℕ, ◌+◌, ◌-◌, ◌<◌, ◌≤◌, true, false, List, [], ◌∷◌, ◌++◌, length, refl, sym, ap, ◌∙◌, subst, append_assoc, arith}
+use Rattle.std.proofs.Common.{◌≡◌, ℕ, ◌+◌, ◌-◌, true, false, List, [], ◌∷◌, ◌++◌, length, refl, sym, ap, ◌∙◌, append_assoc, arith}
 use Rattle.std.specs.Str.{encode_utf8_all}
 use Rattle.std.proofs.lemmas.List.{length-append}
 use Rattle.go_tokens.specs.Lexing.{join, width, Cut, is_token, token_kind, tokens}
-use Rattle.go_tokens.specs.Replacing.{Item, items, Range, pieces_of, begins_with_token, IsOld}
+use Rattle.go_tokens.specs.Replacing.{items, Range, pieces_of, begins_with_token, IsOld}
 use Rattle.go_tokens.proofs.Public.{items_append, join_two, old_blanks, width-append, width-nil}
 use Rattle.go_rewriting.specs.Rewriting.{IsRange}
 use Rattle.extract_files.proofs.Numbers.{number_at, number_to, range_items, front_line}

@@ -1,8 +1,8 @@
 -- Statements with names in place of expressions stand.
-use Rattle.std.proofs.Common.{◌≡◌, ℕ, zero, suc, ◌+◌, ◌-◌, ◌<◌, ◌≤◌, ◌⊎◌, inl, inr, Bool, true, false, not, ◌&&◌, ◌||◌, List, [], ◌∷◌, ◌++◌, length, take, drop, map, Some, append-nil, append_assoc, refl, sym, ap, ◌∙◌, subst, arith}
+use Rattle.std.proofs.Common.{◌≡◌, ℕ, zero, suc, ◌+◌, ◌-◌, ◌<◌, Bool, true, false, not, ◌&&◌, ◌||◌, List, [], ◌∷◌, ◌++◌, length, take, drop, map, Some, append_assoc, refl, sym, ap, ◌∙◌, subst, arith}
 use Rattle.std.specs.Prelude.{slice_get}
 use Rattle.std.specs.List.{list_all}
-use Rattle.std.specs.Str.{chars, encode_utf8_all, all_scalars}
+use Rattle.std.specs.Str.{chars, all_scalars}
 use Rattle.std.proofs.lemmas.List.{length-append, take_at, drop_at}
 use Rattle.go_tokens.specs.declared.token.Token.{Token}
 use Rattle.go_tokens.specs.declared.token.TokenKind.{TokenKind}
@@ -17,22 +17,18 @@ use Rattle.go_tokens.specs.Replacing.{read, semicolon, items, is_blank, Range, p
 use Rattle.go_tokens.specs.Spellings.{same_text, ends_statement_kind}
 use Rattle.go_tokens.specs.Tokens.{AreOrdered, span_of, kinds}
 use Rattle.go_tokens.proofs.Public.{OldRange, old_range, both, cut_first, cut_front, cut_second, items_range, join_two, line_ends_append, line_ends_old, old_blanks, piece_some, read_all, same_text-true, tokens_ordered, true_false, width-append, width-nil}
-use Rattle.go_grammar.specs.declared.kind.Category.{Category}
-use Rattle.go_grammar.specs.Grammar.{result_words, Derives}
-use Rattle.go_grammar.specs.Rules.{Items}
-use Rattle.go_grammar.specs.Trees.{Tree, Trees, parts}
+use Rattle.go_grammar.specs.Grammar.{result_words}
+use Rattle.go_grammar.specs.Trees.{Trees, parts}
 use Rattle.go_grammar.specs.Words.{is_word, is_among}
 use Rattle.go_grammar.proofs.Public.{and_both}
 use Rattle.go_rewriting.specs.Endings.{Ending}
 use Rattle.go_rewriting.specs.Excerpts as excerpts
-use Rattle.go_rewriting.specs.Lists.{IsRun, Elsewhere, in_block, run_at}
+use Rattle.go_rewriting.specs.Lists.{Elsewhere, in_block, run_at}
 use Rattle.go_rewriting.specs.Places.{carries, Ascending, changed, moved_by, ranges, range}
 use Rattle.go_rewriting.specs.Places as places
 use Rattle.go_rewriting.specs.Replacing.{moved, Run}
 use Rattle.go_rewriting.specs.Rewriting.{own, IsRange}
-use Rattle.go_rewriting.specs.Sites.{all_clear, run_range}
-use Rattle.go_print_laws.specs.Functions.{Statements}
-use Rattle.extract_files.specs.Holes.{Hole, whole_text, named_text, named, name_sites, named_tree, Template, IsTemplate, TemplatesStand}
+use Rattle.extract_files.specs.Holes.{Hole, whole_text, named_text, named, named_tree, Template, IsTemplate, TemplatesStand}
 use Rattle.extract_files.proofs.Filled.{kind_in, kinds_in, kinds_append, length-map, cancel, Begins, Ends, EndsWith, TextHoles, Filling, filling}
 use Rattle.extract_files.proofs.Moves.{moved_start, moved_add, moved_end, narrow}
 use Rattle.extract_files.proofs.Named.{Known, in_blocks, text_holes, named_run}

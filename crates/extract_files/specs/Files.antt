@@ -17,7 +17,7 @@ use Rattle.go_grammar.specs.Trees.{Tree, kind_of, parts, depth}
 use Rattle.go_rewriting.specs.Lists.{items_at, has_run}
 use Rattle.go_rewriting.specs.Places.{range}
 use Rattle.go_rewriting.specs.Replacing.{subtree_at, asked_at}
-use Rattle.go_rewriting.specs.Rewriting.{Rewrite, words, IsRange, sites_alone, new_tree, edits, IsTail, AddedFits, Rewriting, FileRewriting, IsFileWellFormed, IsWellFormed}
+use Rattle.go_rewriting.specs.Rewriting.{Rewrite, words, IsRange, sites_alone, new_tree, edits, IsTail, AddedFits, Rewriting, IsFileWellFormed, IsWellFormed}
 use Rattle.go_rewriting.specs.Sites.{Site, items, all_clear, run_range}
 use Rattle.go_tokens.specs.Editing.{old_text, new_text}
 use Rattle.go_print_laws.specs.Calls.{Call, AreStatements, CallCanBeWritten, call_lexemes, call_text, call_trees}
