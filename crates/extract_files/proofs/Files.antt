@@ -136,7 +136,7 @@ module _ (k : Facts) (name : ℕ → List ℕ) (file : ℕ) (ts : List Token) (t
       }
 
       stands_for : StandsFor name rewrite x
-      stands_for = record { kept = refl; old = refl; from = refl; upto = refl; new = text_is; words_are = call.alone.kinds_are }
+      stands_for = record { kept = refl; old = refl; from = refl; upto = refl; new = text_is; bytes = call.alone.is_text.encoded; words_are = call.alone.kinds_are }
 
       text_fits : TextFits file ts at rewrite (old_text (edits rs rest)) (new_text (edits rs rest) tail)
       text_fits = record {

@@ -29,7 +29,7 @@ slice_at a p b i j e f =
     ap (take (j - i)) (drop_at a (p ++ b) i (sym e)) ∙ take_at p b (j - i) n
 
 -- a part of a text, in bytes
-part_bytes : (pre p behind : List ℕ) (i j : ℕ) → i ≡ width pre → j ≡ i + width p → slice_range (encode_utf8_all (pre ++ (p ++ behind))) i j ≡ encode_utf8_all p
+pub part_bytes : (pre p behind : List ℕ) (i j : ℕ) → i ≡ width pre → j ≡ i + width p → slice_range (encode_utf8_all (pre ++ (p ++ behind))) i j ≡ encode_utf8_all p
 unfolding width
 part_bytes pre p behind i j e f = ap (λ l. slice_range l i j) (encodes-append pre (p ++ behind) ∙ ap (λ l. encode_utf8_all pre ++ l) (encodes-append p behind)) ∙ slice_at (encode_utf8_all pre) (encode_utf8_all p) (encode_utf8_all behind) i j e f
 

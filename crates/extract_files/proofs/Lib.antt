@@ -13,3 +13,4 @@ mod Files
 mod Appended
 mod Levels
 mod Fronts
+mod Extracted

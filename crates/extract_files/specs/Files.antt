@@ -1,6 +1,6 @@
 -- A file in which calls stand in place of statements, and a function behind all.
 use Rattle.std.specs.Prelude.{◌≡◌, ℕ, ◌+◌, ◌≤◌, true, List, [], ◌∷◌, ◌++◌, Option, Some}
-use Rattle.std.specs.Str.{chars}
+use Rattle.std.specs.Str.{chars, encode_utf8_all}
 use Rattle.go_base.specs.declared.Span.{Span}
 use Rattle.go_tokens.specs.declared.token.Token.{Token}
 use Rattle.go_tokens.specs.Encoding.{IsText}
@@ -84,6 +84,7 @@ pub record StandsFor (name : ℕ → List ℕ) (r : Rewrite) (x : Window) : Type
   pub from : r.from ≡ x.from
   pub upto : r.upto ≡ x.upto
   pub new : r.new ≡ call_chars name x
+  pub bytes : encode_utf8_all r.new ≡ call_text name x.call
   pub words_are : words r ≡ lexemes.words (call_lexemes name x.call [])
 
 abbrev pub AllStandFor : (ℕ → List ℕ) → List Rewrite → List Window → Type 0

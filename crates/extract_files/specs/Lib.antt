@@ -3,3 +3,4 @@ pub mod Functions
 pub mod Enclosed
 pub mod Files
 pub mod Levels
+pub mod Extracted

@@ -1,6 +1,7 @@
 //! Laws of the files of an extraction, for the crates above. The functions do nothing: their contracts are the laws.
 
 ghost use Rattle.extract_files.specs.Enclosed.{RunsAreEnclosed};
+ghost use Rattle.extract_files.specs.Extracted.{ExtractedFilesAreRewritten};
 ghost use Rattle.extract_files.specs.Files.{CalledFilesAreRewritten};
 ghost use Rattle.extract_files.specs.Functions.{ExtractedFunctionsStand};
 ghost use Rattle.extract_files.specs.Holes.{TemplatesStand};
@@ -74,6 +75,14 @@ pub fn called_files_are_rewritten()
     statements_stand_in_both();
     subtrees_stand();
     texts_end_well();
+}
+
+/// So is a file of an extraction, in the words of its texts: what stands at the windows of its members are their calls, and its bytes
+/// are the old ones with these in place of the windows, and what is appended behind.
+pub fn extracted_files_are_rewritten()
+    ensures { ExtractedFilesAreRewritten }
+{
+    called_files_are_rewritten();
 }
 
 /// Such a file has one derivation over all its tokens, of whatever depth.
