@@ -1,0 +1,249 @@
+-- A file with calls at its windows is a rewriting of the file.
+use Rattle.std.proofs.Common.{◌≡◌, ℕ, suc, ◌+◌, ◌⊎◌, inl, inr, Bool, true, false, ◌==◌, ◌||◌, List, [], ◌∷◌, ◌++◌, length, Option, Some, None, refl, sym, ap, ◌∙◌, subst, arith, eqb-true}
+use Rattle.std.specs.Prelude.{slice_get, if◌then◌else◌}
+use Rattle.std.specs.Str.{chars}
+use Rattle.std.proofs.lemmas.Str.{chars-encodes}
+use Rattle.go_tokens.specs.declared.token.Token.{Token}
+use Rattle.go_tokens.specs.declared.token.TokenKind.{TokenKind}
+use Rattle.go_tokens.specs.declared.token.TokenKind.TheVariants as token
+use Rattle.go_tokens.specs.Editing.{old_text, new_text}
+use Rattle.go_tokens.specs.Encoding.{IsText}
+use Rattle.go_tokens.specs.Lexing.{width, Lexes}
+use Rattle.go_tokens.specs.Replacing.{are_apart}
+use Rattle.go_tokens.specs.Spellings.{ends_statement_kind}
+use Rattle.go_tokens.specs.Tokens.{kinds}
+use Rattle.go_grammar.specs.declared.kind.Category.{Category}
+use Rattle.go_grammar.specs.declared.kind.Category.TheVariants as category
+use Rattle.go_grammar.specs.Categories.{place_of}
+use Rattle.go_grammar.specs.Grammar.{rule, result_words, Derives}
+use Rattle.go_grammar.specs.Trees.{Tree, node, kind_of, parts}
+use Rattle.go_grammar.specs.Words.{is_word, is_among}
+use Rattle.go_rewriting.specs.Endings.{Ending}
+use Rattle.go_rewriting.specs.Lists.{IsRun, in_block, items_at, has_run, run_at}
+use Rattle.go_rewriting.specs.Places.{range, Range}
+use Rattle.go_rewriting.specs.Replacing.{Edge, Run}
+use Rattle.go_rewriting.specs.Rewriting.{Rewrite, words, TextFits, TextsFit, ChangeFits, TreeFits, TreesFit, agreeing, sites_alone, edits, behind}
+use Rattle.go_rewriting.specs.Sites.{items, all_clear, local_range, run_range}
+use Rattle.go_print_laws.specs.Calls.{CallsStand, call_lexemes, call_text, call_trees}
+use Rattle.go_print_laws.specs.Standing.{EndsHere, StandsAsRun}
+use Rattle.extract_files.specs.Enclosed.{opens, IsEnclosed, RunsAreEnclosed}
+use Rattle.extract_files.specs.Files.{Window, file_text, call_chars, called_text, call_sites, IsWindow, AreWindows, StandsFor, AllStandFor, CalledFilesAreRewritten}
+use Rattle.extract_files.proofs.Calls.{first_word, EndsIn, call_ends, text_ends, closed_apart}
+use Rattle.extract_files.proofs.Named.{Known, in_blocks}
+
+-- what is known besides
+pub record Facts : Type 0 where
+  pub known : Known
+  pub calls : CallsStand
+  pub enclosed : RunsAreEnclosed
+  pub clear : (ts : List TokenKind) (c : Category) (t : Tree) (rs : List Rewrite) → Derives ts c t → all_clear t (sites_alone rs) ≡ true → agreeing rs t ≡ true
+
+-- ---- words around a window
+
+no_opening : (w : TokenKind) → opens w ≡ true → ends_statement_kind w ≡ true → ⊥
+no_opening token.LeftBrace o e = cc
+no_opening token.Colon o e = cc
+no_opening token.Semicolon o e = cc
+no_opening _ o e = cc
+
+same_word : (v w : TokenKind) → Some v ≡ Some w → v ≡ w
+same_word v w e = cc
+
+-- the place in front of one
+one_before : (a b n : ℕ) → suc a ≡ n → suc b ≡ n → a ≡ b
+one_before a b n e f = omega (arith, e, f)
+
+not_word : (o : Option TokenKind) → (o ≡ Some token.Var) ⊎ (o ≡ Some token.Identifier) → is_word o token.LeftBrace ≡ true → ⊥
+not_word o (inl e) h = let k : is_word (Some token.Var) token.LeftBrace ≡ true = subst (λ w. is_word w token.LeftBrace ≡ true) e h in cc
+not_word o (inr e) h = let k : is_word (Some token.Identifier) token.LeftBrace ≡ true = subst (λ w. is_word w token.LeftBrace ≡ true) e h in cc
+
+no_result : (o : Option TokenKind) → (o ≡ Some token.Semicolon) ⊎ (o ≡ Some token.RightBrace) → is_among o result_words ≡ false
+no_result o (inl e) = subst (λ w. is_among w result_words ≡ false) (sym e) refl
+no_result o (inr e) = subst (λ w. is_among w result_words ≡ false) (sym e) refl
+
+or_true : (a b : Bool) → a ≡ true → (a || b) ≡ true
+or_true true b e = refl
+or_true false b e = cc
+
+-- a row of one word, or of none
+abbrev row_of : Option TokenKind → List TokenKind
+row_of None = []
+row_of (Some w) = w ∷ []
+
+row_first : (o : Option TokenKind) → slice_get (row_of o) 0 ≡ o
+row_first None = refl
+row_first (Some w) = refl
+
+-- ---- one window
+
+module _ (k : Facts) (name : ℕ → List ℕ) (file : ℕ) (ts : List Token) (t : Tree) (h : Derives (kinds ts) category.File t) where
+  module _ (at : ℕ) (x : Window) (y : IsWindow name ts t at x) where
+    stood_derives : Derives (kinds ts) y.category y.stood
+    stood_derives =
+        let s = k.known.subtrees (kinds ts) category.File t y.stood x.path h y.at_path in
+        let same : s.category ≡ y.category = one s.category y.category (sym s.asked ∙ y.asked) in
+        subst (λ d. Derives (kinds ts) d y.stood) same s.derives
+      where
+        one : (c d : Category) → Some c ≡ Some d → c ≡ d
+        one c d e = cc
+
+    run : IsRun (kinds ts) y.category y.stood x.front x.others y.list
+    run = record { derives = stood_derives; is_list = y.is_list; has = y.has }
+
+    enclosed : IsEnclosed (kinds ts) x.from x.upto
+    enclosed = subst (λ (r : Range). IsEnclosed (kinds ts) r.from r.upto) y.place (k.enclosed (kinds ts) y.category y.stood x.front x.others y.list y.statements run)
+
+    old_run : Run (kinds ts) y.list (run_at x.front x.others (parts y.stood)) x.from x.upto
+    old_run = subst (λ (r : Range). Run (kinds ts) y.list (run_at x.front x.others (parts y.stood)) r.from r.upto) y.place (k.known.items (kinds ts) y.category y.stood x.front x.others y.list run)
+
+    ending : Ending (kinds ts) x.upto
+    ending = k.known.run_ends (kinds ts) in_block (run_at x.front x.others (parts y.stood)) x.from x.upto refl (in_blocks k.known (kinds ts) y.list y.statements (run_at x.front x.others (parts y.stood)) x.from x.upto old_run)
+
+    call : StandsAsRun file (call_text name x.call) (call_lexemes name x.call []) y.list (call_trees 0 x.call)
+    call = k.calls file y.list name x.call y.statements y.written
+
+    -- the call's text is that of its characters
+    text_is : call.alone.text ≡ call_chars name x
+    text_is = sym (chars-encodes call.alone.text call.alone.is_text.scalars) ∙ ap chars call.alone.is_text.encoded
+
+    ends_closed : EndsIn 41 call.alone.text
+    ends_closed = text_ends call.alone.text (subst (EndsIn 41) (sym call.alone.is_text.encoded) (call_ends name x.call))
+
+    -- no window begins where this one ends
+    not_adjoining : (at' : ℕ) (z : Window) → IsEnclosed (kinds ts) z.from z.upto → z.from ≡ x.upto → ⊥
+    not_adjoining at' z e s =
+        let place : e.place ≡ ending.place = one_before e.place ending.place x.upto (e.next ∙ s) ending.next in
+        let word : e.word ≡ ending.word = same_word e.word ending.word (sym e.is ∙ ap (slice_get (kinds ts)) place ∙ ending.is) in
+        no_opening e.word e.opens (ap ends_statement_kind word ∙ ending.ends)
+
+    apart_more : (l a b : List ℕ) → EndsIn 41 a → are_apart l a ≡ true → are_apart l (a ++ b) ≡ true
+    apart_more l [] b e p = absurd e
+    apart_more l (c ∷ a) b e p = p
+
+    -- with ranges behind it
+    module _ (rs : List Rewrite) (rest tail : List ℕ) (behind_is : (behind (kinds ts) rs x.upto ≡ Some token.Semicolon) ⊎ (behind (kinds ts) rs x.upto ≡ Some token.RightBrace)) where
+      abbrev rewrite : Rewrite
+      rewrite = record {
+        kept = x.kept;
+        old = x.old;
+        from = x.from;
+        upto = x.upto;
+        new = call.alone.text;
+        alone = call.alone.stands.tokens;
+        path = x.path;
+        change = items x.front x.others (call_trees 0 x.call);
+        next = row_of (behind (kinds ts) rs x.upto);
+      }
+
+      stands_for : StandsFor name rewrite x
+      stands_for = record { kept = refl; old = refl; from = refl; upto = refl; new = text_is; bytes = call.alone.is_text.encoded; words_are = call.alone.kinds_are }
+
+      text_fits : TextFits file ts at rewrite (old_text (edits rs rest)) (new_text (edits rs rest) tail)
+      text_fits = record {
+        range = y.at_tokens;
+        stands = call.alone.stands;
+        tokens = refl;
+        apart_before = apart_more x.kept call.alone.text (new_text (edits rs rest) tail) ends_closed (ap (are_apart x.kept) text_is ∙ y.apart);
+        apart_behind = or_true (are_apart call.alone.text (new_text (edits rs rest) tail)) _ (closed_apart call.alone.text ends_closed (new_text (edits rs rest) tail));
+        line = λ e. k.known.ranges ts x.from x.upto _ _ y.at_tokens ending ∙ sym call.alone.closes;
+      }
+
+      word_is : (slice_get (words rewrite) 0 ≡ Some token.Var) ⊎ (slice_get (words rewrite) 0 ≡ Some token.Identifier)
+      word_is = subst (λ ws. (slice_get ws 0 ≡ Some token.Var) ⊎ (slice_get ws 0 ≡ Some token.Identifier)) (sym call.alone.kinds_are) (first_word name x.call)
+
+      ends_here : EndsHere (row_of (behind (kinds ts) rs x.upto))
+      ends_here = ap (λ w. is_among w result_words) (row_first (behind (kinds ts) rs x.upto)) ∙ no_result (behind (kinds ts) rs x.upto) behind_is
+
+      change_fits : (s : Tree) → items_at x.front (rule (place_of y.category) (kind_of s)) ≡ Some y.list → has_run x.front x.others (parts s) ≡ true → ChangeFits y.category s (words rewrite) (row_of (behind (kinds ts) rs x.upto)) (items x.front x.others (call_trees 0 x.call))
+      change_fits (node kd a b ps) e r = record {
+        list = y.list;
+        is_list = e;
+        has = r;
+        run = subst (λ ws. Run (ws ++ row_of (behind (kinds ts) rs x.upto)) y.list (call_trees 0 x.call) 0 (length ws)) (sym call.alone.kinds_are) (call.run (row_of (behind (kinds ts) rs x.upto)) ends_here);
+      }
+
+      place_of_change : (s : Tree) → run_range x.front x.others (parts s) ≡ range x.from x.upto → local_range s (items x.front x.others (call_trees 0 x.call)) ≡ range x.from x.upto
+      place_of_change (node kd a b ps) e = e
+
+      edge_is : Edge (kinds ts) (words rewrite) x.from 0
+      edge_is = record {
+        brace = λ e. absurd (not_word (slice_get (words rewrite) 0) word_is e);
+        result = λ n next closed e.
+            let place : n ≡ enclosed.place = one_before n enclosed.place x.from next enclosed.next in
+            let word : token.RightParenthesis ≡ enclosed.word = same_word token.RightParenthesis enclosed.word (sym closed ∙ ap (slice_get (kinds ts)) place ∙ enclosed.is) in
+            absurd (let o : opens token.RightParenthesis ≡ true = ap opens word ∙ enclosed.opens in cc);
+      }
+
+      tree_fits : TreeFits category.File (kinds ts) t rewrite rs
+      tree_fits = record {
+        stood = y.stood;
+        category = y.category;
+        at_path = y.at_path;
+        asked = y.asked;
+        place = place_of_change y.stood y.place;
+        fits = change_fits y.stood y.is_list y.has;
+        behind_is = row_first (behind (kinds ts) rs x.upto);
+        edge = edge_is;
+      }
+
+  -- ---- all of them
+
+  record Made (at : ℕ) (xs : List Window) (rest tail : List ℕ) : Type 0 where
+    ranges : List Rewrite
+    calls : AllStandFor name ranges xs
+    sites : sites_alone ranges ≡ call_sites xs
+    old : old_text (edits ranges rest) ≡ file_text xs rest
+    new : new_text (edits ranges rest) tail ≡ called_text name xs (rest ++ tail)
+    texts : TextsFit file ts at ranges rest tail
+    trees : TreesFit category.File (kinds ts) t ranges
+
+  -- what stands behind a window, after those behind it are replaced
+  word_behind : (at at' : ℕ) (x : Window) (y : IsWindow name ts t at x) (xs : List Window) → AreWindows name ts t at' xs → (rs : List Rewrite) → AllStandFor name rs xs → (behind (kinds ts) rs x.upto ≡ Some token.Semicolon) ⊎ (behind (kinds ts) rs x.upto ≡ Some token.RightBrace)
+  word_behind at at' x y [] a [] s = (enclosed at x y).behind
+  word_behind at at' x y [] a (r ∷ rs) s = absurd s
+  word_behind at at' x y (z ∷ zs) a [] s = absurd s
+  word_behind at at' x y (z ∷ zs) a (r ∷ rs) s = by (x.upto == r.from) refl
+    where
+      by : (b : Bool) → (x.upto == r.from) ≡ b → ((if b then slice_get (words r) 0 else slice_get (kinds ts) x.upto) ≡ Some token.Semicolon) ⊎ ((if b then slice_get (words r) 0 else slice_get (kinds ts) x.upto) ≡ Some token.RightBrace)
+      by true e = absurd (not_adjoining at x y at' z (enclosed at' z a.0) (sym s.0.from ∙ sym (eqb-true x.upto r.from e)))
+      by false e = (enclosed at x y).behind
+
+  made : (at : ℕ) (xs : List Window) (rest tail : List ℕ) → AreWindows name ts t at xs → Made at xs rest tail
+  made at [] rest tail a = record { ranges = []; calls = tt; sites = refl; old = refl; new = refl; texts = tt; trees = tt }
+  made at (x ∷ xs) rest tail a =
+      let m = made (at + width x.kept + width x.old) xs rest tail a.1 in
+      let b = word_behind at (at + width x.kept + width x.old) x a.0 xs a.1 m.ranges m.calls in
+      record {
+        ranges = rewrite at x a.0 m.ranges rest tail b ∷ m.ranges;
+        calls = (stands_for at x a.0 m.ranges rest tail b, m.calls);
+        sites = ap (λ l. record { path = x.path; change = items x.front x.others (call_trees 0 x.call) } ∷ l) m.sites;
+        old = ap (λ l. x.kept ++ (x.old ++ l)) m.old;
+        new = ap (λ l. x.kept ++ ((call at x a.0).alone.text ++ l)) m.new ∙ ap (λ l. x.kept ++ (l ++ called_text name xs (rest ++ tail))) (text_is at x a.0);
+        texts = (text_fits at x a.0 m.ranges rest tail b, m.texts);
+        trees = (tree_fits at x a.0 m.ranges rest tail b, m.trees);
+      }
+
+pub called_files : Facts → CalledFilesAreRewritten
+called_files k w h =
+    let m = made k w.name w.file w.tokens w.tree h.derives 0 w.windows w.rest w.tail h.windows in
+    let agrees : agreeing m.ranges w.tree ≡ true = k.clear (kinds w.tokens) category.File w.tree m.ranges h.derives (ap (all_clear w.tree) m.sites ∙ h.clear) in
+    record {
+      ranges = m.ranges;
+      calls = m.calls;
+      sites = m.sites;
+      old = m.old;
+      new = m.new;
+      well_formed = record { lexes = subst (λ l. Lexes w.file l w.tokens w.comments) (sym m.old) h.lexes; derives = h.derives; texts = m.texts; trees = m.trees; agrees = agrees };
+      as_file = λ before behind o n l f low. record {
+        old_bytes = subst (λ l. IsText l before) (sym m.old) o;
+        new_bytes = subst (λ l. IsText l behind) (sym m.new) n;
+        lexing = l;
+        tree = f;
+        texts = m.texts;
+        trees = m.trees;
+        agrees = agrees;
+        shallow = low;
+        appended = h.appended;
+        added_fits = h.added_fits;
+      };
+    }

@@ -1,0 +1,16 @@
+mod Blanks
+mod Numbers
+mod Ranges
+mod Filled
+mod Deep
+mod Named
+mod Moves
+mod Templates
+mod Functions
+mod Enclosed
+mod Calls
+mod Files
+mod Appended
+mod Levels
+mod Fronts
+mod Extracted

@@ -1,0 +1,35 @@
+-- The tree of a file with calls, of whatever depth.
+use Rattle.std.specs.Prelude.{◌≡◌, ℕ, ◌++◌, ◌<◌, length, List}
+use Rattle.go_base.specs.declared.Span.{Span}
+use Rattle.go_tokens.specs.declared.token.Token.{Token}
+use Rattle.go_tokens.specs.declared.token.TokenKind.{TokenKind}
+use Rattle.go_tokens.specs.Encoding.{IsText}
+use Rattle.go_tokens.specs.Files.{IsLexing}
+use Rattle.go_tokens.specs.Tokens.{kinds}
+use Rattle.go_grammar.specs.declared.kind.Category.TheVariants as category
+use Rattle.go_grammar.specs.Grammar.{Derives, IsFile}
+use Rattle.go_grammar.specs.Trees.{Tree, first, last, depth}
+use Rattle.extract_files.specs.Files.{Called, IsCalled, called_text}
+
+-- A derivation of a file over all its tokens, of whatever depth.
+pub record IsFileTree (ts : List TokenKind) (t : Tree) : Type 0 where
+  pub derives : Derives ts category.File t
+  pub begins : first t ≡ 0
+  pub ends : last t ≡ length ts
+
+-- The bytes have a lexing and one derivation over all its tokens.
+pub record HasOneTree (file : ℕ) (bytes : List ℕ) : Type 0 where
+  pub tokens : List Token
+  pub comments : List Span
+  pub lexing : IsLexing file bytes tokens comments
+  pub tree : Tree
+  pub is_tree : IsFileTree (kinds tokens) tree
+  pub only : (t : Tree) → IsFileTree (kinds tokens) t → t ≡ tree
+
+-- A file with calls at its windows, and a function behind it, has one derivation over all its tokens.
+abbrev pub CalledFilesHaveOneTree : Type 0
+CalledFilesHaveOneTree = (w : Called) → IsCalled w → IsFileTree (kinds w.tokens) w.tree → (bytes : List ℕ) → IsText (called_text w.name w.windows (w.rest ++ w.tail)) bytes → HasOneTree w.file bytes
+
+-- Where that isn't the tree of a file within the limit on levels, it has more levels.
+abbrev pub FilesWithoutTreesAreDeep : Type 0
+FilesWithoutTreesAreDeep = (file : ℕ) (bytes : List ℕ) (h : HasOneTree file bytes) → ((t : Tree) → IsFile (kinds h.tokens) t → ⊥) → 101 < depth h.tree
