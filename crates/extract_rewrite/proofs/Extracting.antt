@@ -1,9 +1,7 @@
 -- What is answered of windows that are to be taken out.
-use Rattle.std.proofs.Common.{◌≡◌, ◌∙◌, ◌≤◌, ◌<◌, inl, inr, refl, sym, ap, subst, ℕ, zero, suc, Bool, true, false, List, [], ◌∷◌, length, Option, Some, None, slice_get, arith}
-use Rattle.std.specs.Prelude.{nat_lt}
+use Rattle.std.proofs.Common.{◌≡◌, ◌∙◌, ◌≤◌, ◌<◌, inl, inr, refl, sym, ap, subst, ℕ, zero, suc, true, false, List, [], ◌∷◌, length, Option, Some, None, slice_get, arith}
 use Rattle.std.specs.List.{AllByRecursion}
 use Rattle.std.specs.Option.{option_map}
-use Rattle.std.proofs.lemmas.Bool.Decides.{nat_tests}
 use Rattle.std.proofs.lemmas.List.{length-map}
 use Rattle.go_base.specs.declared.bytes.FileText.{FileText}
 use Rattle.go_base.specs.Package.{IsPackage, most_bytes, total_bytes}
@@ -51,13 +49,8 @@ template_there p name (w ∷ ws) some h e = by_function (slice_get (content p).f
 
 -- ---- edits
 
-pub applicable : (texts : List FileText) (es : List Edit) → CanBeDone texts es → total_bytes (applied texts es) ≤ most_bytes → AreApplicable texts es
+applicable : (texts : List FileText) (es : List Edit) → CanBeDone texts es → total_bytes (applied texts es) ≤ most_bytes → AreApplicable texts es
 applicable texts es h small = record { ranges = h.ranges; descends = h.descends; small = small }
-
-pub applicable_by : (texts : List FileText) (es : List Edit) (b : Bool) → CanBeDone texts es → b ≡ nat_lt most_bytes (total_bytes (applied texts es)) → b ≡ false → AreApplicable texts es
-applicable_by texts es b h e is =
-    let test : nat_lt most_bytes (total_bytes (applied texts es)) ≡ false = sym e ∙ is in
-    applicable texts es h (grind (arith, nat_tests, test))
 
 pub applicable_within : (texts : List FileText) (es : List Edit) → CanBeDone texts es → Judges true (applied texts es) → AreApplicable texts es
 applicable_within texts es h w = applicable texts es h w.bytes

@@ -29,7 +29,7 @@ use std::alloc::Global;
 /// # Errors
 ///
 /// The refusal of the least code that applies, with the first window to which it applies and the first place there; or want of memory.
-#[tactic(auto, using(crate::proofs::CheckedFiles::are_read, crate::proofs::CheckedFiles::its_texts, crate::proofs::Extracting::refused_early, crate::proofs::Extracting::applicable_within))]
+#[tactic(auto, using(crate::proofs::CheckedFiles::are_read, crate::proofs::CheckedFiles::its_texts, crate::proofs::Extracting::refused_early))]
 pub fn extract(
     alloc: Global,
     checked: &Checked,

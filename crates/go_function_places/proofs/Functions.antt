@@ -8,6 +8,7 @@ use Rattle.go_grammar.specs.declared.kind.Kind.TheVariants as kind
 use Rattle.go_grammar.specs.Trees.{Tree, node, Trees, none, more, skip, first, last}
 use Rattle.go_tree.specs.declared.context.Entity.TheVariants as entity
 use Rattle.go_tree.specs.Failures.{Failure}
+use Rattle.go_tree.specs.File.{FileTree}
 use Rattle.go_tree.specs.Faults.{reported}
 use Rattle.go_tree.specs.Uses.{UsesView, uses}
 use Rattle.go_tree.specs.Views.{Tiles}
@@ -26,7 +27,7 @@ use Rattle.go_package_defs.specs.Answer.{package_answer, specifications, unless}
 use Rattle.go_package_defs.specs.Bodies.{Behind, Functions, Surroundings, count_types, local_type, based_tree, behind_read, function_in, function_over, function_with, functions_from, placed, portion_of, scope_of, those_of, tree_read, typed_function, types_in, with_function}
 use Rattle.go_package_defs.specs.Checked.{IsChecked, Typing, bodies_answer, content_of, names_answer, names_of, sources_answer, surroundings_of}
 use Rattle.go_package_defs.specs.Declarations.{Specification}
-use Rattle.go_package_defs.specs.Sources.{Package, package_of, source_of, unit_of}
+use Rattle.go_package_defs.specs.Sources.{Package, Source, package_of, source_of, unit_of}
 use Rattle.go_function_places.specs.Places.{StandInRow, ListsStandIn}
 use Rattle.go_function_places.proofs.Derived.{ahead, AreStatements, IsList, Set, AllSet}
 use Rattle.go_function_places.proofs.Good.{spans, Rises, Fits, Good, AllGood}
@@ -207,6 +208,13 @@ unless-ok : (o : Option Failure) (x y : UsesView) → unless o x ≡ Ok y → (o
 unless-ok None x y e = (refl, cc)
 unless-ok (Some f) x y e = cc
 
+-- what the answers of the check have of one another
+content-parts : (names : List (List ℕ)) (files : List FileTree) (ss : List Source) (t : Typing) (c : Content) → content_of names files ss t ≡ c → (c.files ≡ files) × (c.uses ≡ t.uses) × (t.bodies.functions ≡ c.functions)
+content-parts names files ss t c e = (sym (ap (λ (z : Content). z.files) e), sym (ap (λ (z : Content). z.uses) e), ap (λ (z : Content). z.functions) e)
+
+typing-parts : (made t : Typing) → made ≡ t → (t.uses ≡ made.uses) × (made.bodies.functions ≡ t.bodies.functions)
+typing-parts made t e = (sym (ap (λ (z : Typing). z.uses) e), ap (λ (z : Typing). z.bodies.functions) e)
+
 pub checked-functions : (texts : List FileText) (c : Content) (h : IsChecked texts c) → AllByRecursion IsNode (those_of entity.Function (specifications 0 (map source_of h.files))) → HasFunctions texts c h
 checked-functions texts c h nodes =
     let ss = map source_of h.files in
@@ -218,12 +226,12 @@ checked-functions texts c h nodes =
     let b = went-on (functions_from (package_of ss u.value) (surroundings_of u.value e.value) e.value.rights 0 ds) (λ b. Ok (record { uses = u.value; environment = e.value; bodies = b; specifications = all })) t.value e.went in
     let n = unless-ok (reported (map unit_of ss)) (uses (map unit_of ss)) u.value u.was in
     let made : Typing = record { uses = u.value; environment = e.value; bodies = b.value; specifications = all } in
-    let typing : made ≡ t.value = same-ok made t.value b.went in
-    let content : content_of (names_of texts) h.files ss t.value ≡ c = same-ok (content_of (names_of texts) h.files ss t.value) c t.went in
+    let typing = typing-parts made t.value (same-ok made t.value b.went) in
+    let content = content-parts (names_of texts) h.files ss t.value c (same-ok (content_of (names_of texts) h.files ss t.value) c t.went) in
+    let read = functions-good (package_of ss u.value) (surroundings_of u.value e.value) e.value.rights 0 ds b.value nodes b.was in
     record {
-      files = sym (ap (λ (z : Content). z.files) content);
+      files = content.0;
       faultless = n.0;
-      named = sym (ap (λ (z : Content). z.uses) content) ∙ (sym (ap (λ (z : Typing). z.uses) typing) ∙ sym n.1);
-      good = subst (λ (z : Content). AreGood ds z.functions) content
-          (subst (λ (z : Typing). AreGood ds z.bodies.functions) typing (functions-good (package_of ss u.value) (surroundings_of u.value e.value) e.value.rights 0 ds b.value nodes b.was));
+      named = content.1 ∙ (typing.0 ∙ sym n.1);
+      good = subst (AreGood ds) content.2 (subst (AreGood ds) typing.1 read);
     }
