@@ -64,7 +64,7 @@ five : 5 ≤ 5
 five = omega arith
 
 in_order : Ordered (type_number before) 5 body
-in_order = (tt, tt, ((tt, tt, ((tt, tt, tt), ((tt, tt, ((tt, tt, ((tt, tt, tt), tt)), ((tt, tt, ((five, tt, ((tt, tt, tt), tt)), tt)), tt))), tt))), tt))
+in_order = (tt, ((tt, ((tt, tt), ((tt, ((tt, ((tt, tt), tt)), ((tt, ((five, ((tt, tt), tt)), tt)), tt))), tt))), tt))
 
 pub order_is_met : StatementsRenamed → BodiesRead → AskedIsMet → OrderIsMet
 order_is_met renames bodies m = record {

@@ -1,6 +1,6 @@
 -- Statements whose declared types have numbers in order are steady.
 use Rattle.std.proofs.Common.{◌≡◌, ◌∙◌, ℕ, ◌<◌, ◌≤◌, Bool, true, false, [], ◌∷◌, ◌++◌, Option, Some, None, refl, sym, ap, subst, arith}
-use Rattle.std.specs.Prelude.{◌&&◌, not, slice_get}
+use Rattle.std.specs.Prelude.{slice_get}
 use Rattle.std.specs.Option.{option_map}
 use Rattle.go_grammar.specs.declared.kind.Kind.{Kind}
 use Rattle.go_grammar.specs.declared.kind.Kind.TheVariants as kind
@@ -19,8 +19,8 @@ use Rattle.go_stmts_defs.specs.Reading.{Reading, read, reading, beginning, enter
 use Rattle.go_renumbering.specs.Frames.{RenamedFrames, RenamedReadings}
 use Rattle.go_renumbering.specs.Renumbered.{part_renamed, hint_renamed}
 use Rattle.go_stmts_variables.specs.Statements.{tree_in, frame_in}
-use Rattle.go_stmts_variables.specs.Steady.{Keeps, KeepsIf, ClausesKeep, range_type, SteadyAt, Steady, PartsSteady, declares_type, is_typeless, are_typeless, goes_over}
-use Rattle.go_stmts_steady.specs.Ordered.{Numbers, next, next_at, behind, behind_all, Follows, FollowsAt, HeadTypeless, HeadAt, Ordered, AllOrdered, OrderedAreSteady}
+use Rattle.go_stmts_variables.specs.Steady.{Keeps, KeepsIf, ClausesKeep, range_type, SteadyAt, Steady, PartsSteady, goes_over}
+use Rattle.go_stmts_steady.specs.Ordered.{Numbers, next, next_at, behind, behind_all, Follows, FollowsAt, Ordered, AllOrdered, OrderedAreSteady}
 use Rattle.go_stmts_steady.proofs.Fixed.{Fixed, avoiding, to_renamed, from_renamed, known_fixed, placed_fixed, told_fixed, tag_fixed, own_fixed, range_fixed, same_underlying}
 use Rattle.go_stmts_steady.proofs.Local.{From, Kept, Alike, alike_self, alike_kept, with_types, moved, NodeAgrees, Agrees, AllAgree, NoFunction, beginning_kept, reading_moves}
 use Rattle.go_stmts_steady.proofs.Swapping.{swap, swap_low, avoid_low, hint_stays}
@@ -42,36 +42,12 @@ module _ (t : Numbers) where
 
   mutual
     grows : (k : ℕ) (x : Tree) → Ordered t k x → k ≤ behind t k x
-    grows k (node d i j ps) o = let a = at_grows d i k o.0 in let b = all_grow (next_at t d i k) ps o.2 in omega (arith, a, b)
+    grows k (node d i j ps) o = let a = at_grows d i k o.0 in let b = all_grow (next_at t d i k) ps o.1 in omega (arith, a, b)
 
     all_grow : (k : ℕ) (ps : Trees) → AllOrdered t k ps → k ≤ behind_all t k ps
     all_grow k none o = omega arith
     all_grow k (skip ps) o = all_grow k ps o
     all_grow k (more p ps) o = let a = grows k p o.0 in let b = all_grow (behind t k p) ps o.1 in omega (arith, a, b)
-
-  both_flags : (b c : Bool) → (not b && c) ≡ true → (b ≡ false) × (c ≡ true)
-  both_flags true c e = cc
-  both_flags false c e = (refl, e)
-
-  two_flags : (b c : Bool) → (b && c) ≡ true → (b ≡ true) × (c ≡ true)
-  two_flags true c e = (refl, e)
-  two_flags false c e = cc
-
-  none_at : (d : Kind) (i k : ℕ) → declares_type d ≡ false → next_at t d i k ≡ k
-  none_at (kind.Specification declaring.Type) i k e = cc
-  none_at d i k e = refl
-
-  mutual
-    -- behind a tree without types the next number is the same
-    typeless_behind : (k : ℕ) (x : Tree) → is_typeless x ≡ true → behind t k x ≡ k
-    typeless_behind k (node d i j ps) e =
-        let b = both_flags (declares_type d) (are_typeless ps) e in ap (λ n. behind_all t n ps) (none_at d i k b.0) ∙ all_typeless_behind k ps b.1
-
-    all_typeless_behind : (k : ℕ) (ps : Trees) → are_typeless ps ≡ true → behind_all t k ps ≡ k
-    all_typeless_behind k none e = refl
-    all_typeless_behind k (skip ps) e = all_typeless_behind k ps e
-    all_typeless_behind k (more p ps) e =
-        let b = two_flags (is_typeless p) (are_typeless ps) e in ap (λ n. behind_all t n ps) (typeless_behind k p b.0) ∙ all_typeless_behind k ps b.1
 
 at_most : (n : ℕ) → n ≤ n
 at_most n = omega arith
@@ -102,8 +78,8 @@ module _ (renames : StatementsRenamed) (s : Frame) (k0 : ℕ) where
     agrees : (m k b : ℕ) (x : Tree) → b ≤ k → Ordered t k x → behind t k x ≤ m → Agrees (avoiding m s.types) b s x
     agrees m k b (node d i j ps) l o n =
         let a = at_grows t d i k o.0 in
-        let c = all_grow t (next_at t d i k) ps o.2 in
-        (node_agrees m k b d i l o.0 (omega (arith, c, n)), all_agree m (next_at t d i k) b ps (omega (arith, l, a)) o.2 n)
+        let c = all_grow t (next_at t d i k) ps o.1 in
+        (node_agrees m k b d i l o.0 (omega (arith, c, n)), all_agree m (next_at t d i k) b ps (omega (arith, l, a)) o.1 n)
 
     all_agree : (m k b : ℕ) (ps : Trees) → b ≤ k → AllOrdered t k ps → behind_all t k ps ≤ m → AllAgree (avoiding m s.types) b s ps
     all_agree m k b none l o n = tt
@@ -250,22 +226,20 @@ module _ (renames : StatementsRenamed) (s : Frame) (k0 : ℕ) where
       (keeps_at low base f g o c r a b, clauses_keep low (behind t k p) base g o ps z (omega (arith, l, up)) c r (reads k f value p (omega (arith, z, l)) d (λ m l. refl) q.0).behind q.1 b)
 
   -- the body of a loop over a value
-  loop_keeps : (c : Bool) (k : ℕ) (f : Frame) (hd x : Tree) → k0 ≤ k → Inv k f → HeadTypeless c hd → Ordered t k hd → Ordered t (behind t k hd) x
-      → KeepsIf c (rights_of f) (rights_of (frame_in (reading (frame_in (reading f value hd)) value x))) (range_type (tree_in (reading f value hd)))
-  loop_keeps false k f hd x z c e o q = tt
-  loop_keeps true k f hd x z c e o q =
+  loop_keeps : (c : Bool) (k : ℕ) (f : Frame) (hd x : Tree) → k0 ≤ k → Inv k f → Ordered t k hd → Ordered t (behind t k hd) x
+      → KeepsIf c (rights_of (frame_in (reading f value hd))) (rights_of (frame_in (reading (frame_in (reading f value hd)) value x))) (range_type (tree_in (reading f value hd)))
+  loop_keeps false k f hd x z c o q = tt
+  loop_keeps true k f hd x z c o q =
       let g = frame_in (reading f value hd) in
+      let low = behind t k hd in
       let one = reads k f value hd z c (λ m l. refl) o in
-      let same = typeless_behind t k hd e in
-      let first = kept_behind k k f value hd (omega arith) c o in
-      let later = kept_behind (behind t k hd) k g value x (grows t k hd o) one.behind q in
-      keeps_at k f f (frame_in (reading g value x)) (range_type (tree_in (reading f value hd))) c
-      (λ m l. range_fixed (swap m) (tree_in (reading f value hd)) (one.tree m (subst (λ n. n ≤ m) (sym same) l))) (λ n h. refl) (λ n h. later.rights n h ∙ first.rights n h)
+      let kept = kept_behind low low g value x (at_most low) one.behind q in
+      keeps_at low g g (frame_in (reading g value x)) (range_type (tree_in (reading f value hd))) one.behind (λ m l. range_fixed (swap m) (tree_in (reading f value hd)) (one.tree m l)) (λ n h. refl) kept.rights
 
-  steady_at : (d : Kind) (i k : ℕ) (f : Frame) (ps : Trees) → k0 ≤ k → Inv k f → HeadAt d ps → AllOrdered t (next_at t d i k) ps → SteadyAt f d ps
-  steady_at kind.Switch i k f none z c e o = tt
-  steady_at kind.Switch i k f (skip ps) z c e o = tt
-  steady_at kind.Switch i k f (more hd cs) z c e o =
+  steady_at : (d : Kind) (i k : ℕ) (f : Frame) (ps : Trees) → k0 ≤ k → Inv k f → AllOrdered t (next_at t d i k) ps → SteadyAt f d ps
+  steady_at kind.Switch i k f none z c o = tt
+  steady_at kind.Switch i k f (skip ps) z c o = tt
+  steady_at kind.Switch i k f (more hd cs) z c o =
       let x = tree_in (reading f value hd) in
       let one = reads k f value hd z c (λ m l. refl) o.0 in
       let low = behind t k hd in
@@ -273,14 +247,14 @@ module _ (renames : StatementsRenamed) (s : Frame) (k0 : ℕ) where
       let base = in_switch (Some x ∷ []) (frame_in (reading f value hd)) in
       let inside = tagged low x (frame_in (reading f value hd)) one.tree one.behind in
       clauses_keep low low base base (own_type (tag_behind (Some x))) cs (omega (arith, z, up)) (omega arith) inside (λ m l. own_fixed (swap m) (tag_behind (Some x)) (tag_fixed (swap m) x (one.tree m l))) inside o.1 (λ n h. refl)
-  steady_at kind.For i k f none z c e o = tt
-  steady_at kind.For i k f (skip ps) z c e o = tt
-  steady_at kind.For i k f (more hd none) z c e o = tt
-  steady_at kind.For i k f (more hd (skip ps)) z c e o = tt
-  steady_at kind.For i k f (more hd (more x (more y ps))) z c e o = tt
-  steady_at kind.For i k f (more hd (more x (skip ps))) z c e o = tt
-  steady_at kind.For i k f (more hd (more x none)) z c e o = loop_keeps (goes_over (more hd (more x none))) k f hd x z c e o.0 o.1.0
-  steady_at d i k f ps z c e o = tt
+  steady_at kind.For i k f none z c o = tt
+  steady_at kind.For i k f (skip ps) z c o = tt
+  steady_at kind.For i k f (more hd none) z c o = tt
+  steady_at kind.For i k f (more hd (skip ps)) z c o = tt
+  steady_at kind.For i k f (more hd (more x (more y ps))) z c o = tt
+  steady_at kind.For i k f (more hd (more x (skip ps))) z c o = tt
+  steady_at kind.For i k f (more hd (more x none)) z c o = loop_keeps (goes_over (more hd (more x none))) k f hd x z c o.0 o.1.0
+  steady_at d i k f ps z c o = tt
 
   no_function_at : (d : Kind) (i k : ℕ) → FollowsAt t d i k → NoFunction (λ n. n) 0 d
   no_function_at kind.FunctionDeclaration i k h = h
@@ -295,7 +269,7 @@ module _ (renames : StatementsRenamed) (s : Frame) (k0 : ℕ) where
     steady : (k : ℕ) (f : Frame) (h : Hint) (x : Tree) → k0 ≤ k → Inv k f → Told h → Ordered t k x → Steady f h x
     steady k f h (node d i j ps) z c g o =
         let up = at_grows t d i k o.0 in
-        (steady_at d i k f ps z c o.1 o.2, parts_steady d (next_at t d i k) (beginning d i f) h ps [] ps (omega (arith, z, up)) (no_function_at d i k o.0) (none_ready d (next_at t d i k)) (begun d k i f o.0 c) g o.2)
+        (steady_at d i k f ps z c o.1, parts_steady d (next_at t d i k) (beginning d i f) h ps [] ps (omega (arith, z, up)) (no_function_at d i k o.0) (none_ready d (next_at t d i k)) (begun d k i f o.0 c) g o.1)
 
     parts_steady : (d : Kind) (k : ℕ) (f : Frame) (h : Hint) (all : Trees) (xs : Parts) (ps : Trees) → k0 ≤ k → NoFunction (λ n. n) 0 d → Ready d k xs → Inv k f → Told h → AllOrdered t k ps → PartsSteady f d h all xs ps
     parts_steady d k f h all xs none z n r c g o = tt

@@ -1,5 +1,5 @@
 -- Statements whose declared types have numbers in order, behind those of all types that are known where they begin.
-use Rattle.std.specs.Prelude.{◌≡◌, ℕ, suc, ◌<◌, ◌≤◌, Bool, true, false, nat_lt, List, [], ◌∷◌, Option, Some, None}
+use Rattle.std.specs.Prelude.{◌≡◌, ℕ, suc, ◌<◌, ◌≤◌, Bool, nat_lt, List, [], ◌∷◌, Option, Some, None}
 use Rattle.go_grammar.specs.declared.kind.Kind.{Kind}
 use Rattle.go_grammar.specs.declared.kind.Kind.TheVariants as kind
 use Rattle.go_grammar.specs.declared.kind.Sort.TheVariants as declaring
@@ -11,7 +11,7 @@ use Rattle.go_exprs_rules.specs.Scopes.{Needed, Hint}
 use Rattle.go_package_laws.specs.Reach.{Within, MaybeWithin, StandsWithin, HintWithin}
 use Rattle.go_stmts_defs.specs.Frames.{Frame, Locals}
 use Rattle.go_stmts_defs.specs.Laying.{type_number}
-use Rattle.go_stmts_variables.specs.Steady.{is_typeless, goes_over, Steady}
+use Rattle.go_stmts_variables.specs.Steady.{Steady}
 
 -- ---- numbers in order
 
@@ -46,19 +46,10 @@ FollowsAt t (kind.Specification declaring.Type) i k = Follows (t i) k
 FollowsAt t kind.FunctionDeclaration i k = ⊥
 FollowsAt t d i k = Unit {0}
 
--- a range clause declares no types
-abbrev pub HeadTypeless : Bool → Tree → Type 0
-HeadTypeless true hd = is_typeless hd ≡ true
-HeadTypeless false hd = Unit {0}
-
-abbrev pub HeadAt : Kind → Trees → Type 0
-HeadAt kind.For (more hd ps) = HeadTypeless (goes_over (more hd ps)) hd
-HeadAt d ps = Unit {0}
-
 abbrev mutual
-  -- The types that are declared have numbers in order, from k on. No function is declared, and no type in a range clause.
+  -- The types that are declared have numbers in order, from k on. No function is declared.
   pub Ordered : Numbers → ℕ → Tree → Type 0
-  Ordered t k (node d i j ps) = FollowsAt t d i k × HeadAt d ps × AllOrdered t (next_at t d i k) ps
+  Ordered t k (node d i j ps) = FollowsAt t d i k × AllOrdered t (next_at t d i k) ps
 
   pub AllOrdered : Numbers → ℕ → Trees → Type 0
   AllOrdered t k none = Unit {0}

@@ -84,7 +84,7 @@ names_rights : (xs : Parts) (s : Frame) → rights_of (declares_all xs s) ≡ ri
 names_rights [] s = refl
 names_rights (x ∷ xs) s = names_rights xs (declares_name x s) ∙ name_rights x s
 
-leaving_rights : (k : Kind) (i : ℕ) (ps : Trees) (x : Part) (s : Frame) → declares_type k ≡ false → rights_of (leaving k i ps x s) ≡ rights_of s
+pub leaving_rights : (k : Kind) (i : ℕ) (ps : Trees) (x : Part) (s : Frame) → declares_type k ≡ false → rights_of (leaving k i ps x s) ≡ rights_of s
 leaving_rights (kind.Specification declaring.Type) i ps x s e = cc
 leaving_rights (kind.Specification declaring.Variable) i ps x s e = names_rights (list_of (parts_of x)) s
 leaving_rights (kind.Specification declaring.Constant) i ps x s e = names_rights (list_of (parts_of x)) (record s { source = part_source ps s.source })

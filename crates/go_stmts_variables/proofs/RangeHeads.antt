@@ -35,6 +35,7 @@ use Rattle.go_stmts_variables.proofs.Frames.{back_stands}
 use Rattle.go_stmts_variables.proofs.Headers.{reading_unheld, begun_plain_part}
 use Rattle.go_stmts_variables.proofs.Lists.{AreExpressions, expression_operands, list_row, list_parts, list_values, list_reads}
 use Rattle.go_stmts_variables.proofs.Nodes.{Old, old_closed, old_rules, sound_node, node_reads}
+use Rattle.go_stmts_variables.proofs.Operates.{same_rights}
 use Rattle.go_stmts_variables.proofs.RangeLoops.{range_take, RangeHead, RangeRead, range_will}
 use Rattle.go_stmts_variables.proofs.Roles.{IsPlainRow, row_parts, row_found, row_behind, any_row, parts_read, value_reads, held_node}
 use Rattle.go_stmts_variables.proofs.Rows.{after_is, news_two}
@@ -126,9 +127,14 @@ module _ (w : Standins) where
           kept = no_target;
         }
 
+    alone_still : rights_of (frame_in (reading f value (node kind.Range a b (more q none)))) ≡ rights_of f
+    unfolding alone_old
+    alone_still = ap (λ r. rights_of (frame_in r)) (old_closed w f value kind.Range a b (more q none) refl alone_old) ∙ same_rights w f p q shape
+
     pub range_alone : ExpressionsTyped → Proper w q → RangeHead w f (node kind.Range a b (more q none))
     range_alone law proper = record {
       goes = refl;
+      still = alone_still;
       defines = false;
       targets = [];
       x = x;
@@ -224,9 +230,15 @@ module _ (w : Standins) where
           kept = kept_targets R ns l.values closed tf;
         }
 
+    assigning_still : rights_of (frame_in (reading f value hd)) ≡ rights_of f
+    unfolding assigning_old
+    assigning_still =
+        ap (λ r. rights_of (frame_in r)) (old_closed w f value kind.AssigningRange a b (more (node kind.Targets c d (more (node kind.ExpressionList e k qs) none)) (more q none)) refl assigning_old) ∙ same_rights w f r q shape
+
     pub range_assigning : ExpressionsTyped → AllProper w qs → Proper w q → RangeHead w f (node kind.AssigningRange a b (more (node kind.Targets c d (more (node kind.ExpressionList e k qs) none)) (more q none)))
     range_assigning law pq px = record {
       goes = refl;
+      still = assigning_still;
       defines = false;
       targets = ns;
       x = v;

@@ -163,6 +163,7 @@ module _ (w : Standins) where
 
   pub record RangeHead (f : Frame) (hd : Tree) : Type 0 where
     pub goes : is_clause (kind_of hd) ≡ false
+    pub still : rights_of (frame_in (reading f value hd)) ≡ rights_of f
     pub defines : Bool
     pub targets : List Part
     pub x : Part
@@ -234,8 +235,8 @@ module _ (w : Standins) where
         let found = all_of (found_in (reading f value hd)) (row_found middle (more b none)) own.0 in
         let takes_is : range_type (tree_in (reading f value hd)) ≡ type_taken (takes k) =
         ap (λ z. number_type z (loop_header (Some (tree_in (reading f value hd))))) head.form ∙ ap (number_type fm) head.flat ∙ ap type_taken (operand_is ts x []) in
-        let steady_head = subst (λ b. KeepsIf (not b) (rights_of f) R (range_type (tree_in (reading f value hd)))) head.goes steady.0 in
-        let keeps = subst (Keeps (rights_of f) R) takes_is steady_head in
+        let steady_head = subst (λ b. KeepsIf (not b) (rights_of middle) R (range_type (tree_in (reading f value hd)))) head.goes steady.0 in
+        let keeps = subst (λ q. Keeps q R (type_taken (takes k))) head.still (subst (Keeps (rights_of middle) R) takes_is steady_head) in
         let hr = head.read g R i j st found.0 both.1 two.1.0 keeps both.0 two.0 in
         let r = parts_read w f g ps ((λ g st good. (head.read g R i j st good both.1 two.1.0 keeps both.0 two.0).reads), ((λ g st good. sb.reads middle g value st good two.1.1.0 tagged.1.0 steady.1.1.0), tt)) st own.0 in
         let T = row_behind g (all_with_variables w ps) in

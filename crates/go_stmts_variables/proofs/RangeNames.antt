@@ -22,7 +22,7 @@ use Rattle.go_stmts_defs.specs.Assigning.{Taking, takes, stands, rests}
 use Rattle.go_stmts_defs.specs.Frames.{Frame, rights_of, scope_of}
 use Rattle.go_stmts_defs.specs.Laying.{new_form, new_name, loop_header, loop_form}
 use Rattle.go_stmts_defs.specs.Reading.{Found, all_read, list_node, holdings, all_held_faults, reading, back, is_new, declares_sort, declares_name, declares_all}
-use Rattle.go_stmts_defs.specs.Rules.{is_open_number, number_target, range_types, range_assigned, last_part, type_stands, elements_stand, range_stands, all_given, given_part, taking}
+use Rattle.go_stmts_defs.specs.Rules.{is_open_number, number_target, range_types, range_assigned, last_part, type_stands, elements_stand, range_stands, all_given, given_part, taking, own_faults, built_by}
 use Rattle.clone_window.specs.Masses.{is_hole, is_inside}
 use Rattle.go_exprs_variables.specs.Over.{any_varies, varies_over}
 use Rattle.go_exprs_variables.specs.Shapes.{IsShaped}
@@ -37,6 +37,7 @@ use Rattle.go_stmts_variables.proofs.Defines.{name_faults, new_are_names, name_o
 use Rattle.go_stmts_variables.proofs.Expressions.{IsValuePart}
 use Rattle.go_stmts_variables.proofs.Frames.{back_stands}
 use Rattle.go_stmts_variables.proofs.Headers.{reading_unheld, begun_plain_part}
+use Rattle.go_stmts_variables.proofs.Left.{leaving_rights}
 use Rattle.go_stmts_variables.proofs.Lists.{values_of, list_row, list_parts, list_faults}
 use Rattle.go_stmts_variables.proofs.Names.{IsName, name_label, name_held, name_fresh, names_of, AreNames, named_list, all_names, same_names, names_begun, DeclaresFresh, sort_stands}
 use Rattle.go_stmts_variables.proofs.Nodes.{Old, old_closed, old_rules, sound_node, node_reads}
@@ -323,9 +324,16 @@ module _ (w : Standins) where
           kept = subst (Targets Q ts) (sym (given_new ts given_facts)) (self_targets Q ts);
         }
 
+    defining_still : rights_of (frame_in (reading f value hd)) ≡ rights_of f
+    unfolding defining_old
+    defining_still =
+        ap (λ r. rights_of (frame_in r)) (old_closed w f value kind.DefiningRange a b ps refl defining_old)
+        ∙ leaving_rights kind.DefiningRange a ps (built_by S kind.DefiningRange (form.Held kind.DefiningRange) a b ys (own_faults S kind.DefiningRange (form.Held kind.DefiningRange) a b ys)) (back f S) refl ∙ same_rights w f r q shape
+
     pub range_defining : ExpressionsTyped → Proper w q → RangeHead w f (node kind.DefiningRange a b (more (node kind.NewNames c d (more (node kind.ExpressionList e k qs) none)) (more q none)))
     range_defining law px = record {
       goes = refl;
+      still = defining_still;
       defines = true;
       targets = ts;
       x = v;

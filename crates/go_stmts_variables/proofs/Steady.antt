@@ -1,5 +1,5 @@
 -- Statements in which switches and loops declare no types are steady.
-use Rattle.std.proofs.Common.{◌≡◌, ◌∙◌, Bool, true, false, ◌∷◌, ◌++◌, [], Option, Some, None, refl, ap}
+use Rattle.std.proofs.Common.{◌≡◌, Bool, true, false, ◌∷◌, ◌++◌, [], Option, Some, None, refl, ap}
 use Rattle.std.specs.Prelude.{◌&&◌}
 use Rattle.go_grammar.specs.declared.kind.Kind.{Kind}
 use Rattle.go_grammar.specs.declared.kind.Kind.TheVariants as kind
@@ -32,13 +32,13 @@ clauses_keep t f (more p ps) e =
     let both = both_true (is_typeless p) (are_typeless ps) e in
     (same_keeps (rights_of f) (rights_of (frame_in (reading f value p))) t (reading_rights f value p both.0), clauses_keep t (frame_in (reading f value p)) ps both.1)
 
-keeps_if : (b : Bool) (f : Frame) (hd x : Tree) → TypelessIf b (more hd (more x none)) → KeepsIf b (rights_of f) (rights_of (frame_in (reading (frame_in (reading f value hd)) value x))) (range_type (tree_in (reading f value hd)))
+keeps_if : (b : Bool) (f : Frame) (hd x : Tree) → TypelessIf b (more hd (more x none)) → KeepsIf b (rights_of (frame_in (reading f value hd))) (rights_of (frame_in (reading (frame_in (reading f value hd)) value x))) (range_type (tree_in (reading f value hd)))
 keeps_if false f hd x e = tt
 keeps_if true f hd x e =
     let one = both_true (is_typeless hd) (is_typeless x && true) e in
     let two = both_true (is_typeless x) true one.1 in
     let g = frame_in (reading f value hd) in
-    same_keeps (rights_of f) (rights_of (frame_in (reading g value x))) (range_type (tree_in (reading f value hd))) (reading_rights g value x two.0 ∙ reading_rights f value hd one.0)
+    same_keeps (rights_of g) (rights_of (frame_in (reading g value x))) (range_type (tree_in (reading f value hd))) (reading_rights g value x two.0)
 
 steady_at : (f : Frame) (k : Kind) (ps : Trees) → HeadTypeless k ps → SteadyAt f k ps
 steady_at f kind.Switch none e = tt

@@ -67,7 +67,8 @@ KeepsIf false old new t = Unit {0}
 -- Of a switch the type of the tag, and of a loop over an untyped number the type that this takes.
 abbrev pub SteadyAt : Frame → Kind → Trees → Type 0
 SteadyAt f kind.Switch (more hd cs) = ClausesKeep (own_type (tag_behind (Some (tree_in (reading f value hd))))) (in_switch (Some (tree_in (reading f value hd)) ∷ []) (frame_in (reading f value hd))) cs
-SteadyAt f kind.For (more hd (more b none)) = KeepsIf (goes_over (more hd (more b none))) (rights_of f) (rights_of (frame_in (reading (frame_in (reading f value hd)) value b))) (range_type (tree_in (reading f value hd)))
+SteadyAt f kind.For (more hd (more b none)) =
+    KeepsIf (goes_over (more hd (more b none))) (rights_of (frame_in (reading f value hd))) (rights_of (frame_in (reading (frame_in (reading f value hd)) value b))) (range_type (tree_in (reading f value hd)))
 SteadyAt f k ps = Unit {0}
 
 abbrev mutual
