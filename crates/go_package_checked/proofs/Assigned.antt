@@ -1,6 +1,6 @@
 -- A name of the package block is assigned something known where its value is known and no rule fails at its specification.
-use Rattle.std.proofs.Common.{◌≡◌, ℕ, zero, suc, ◌<◌, Bool, true, false, cond, List, [], ◌∷◌, ◌++◌, length, map, Option, Some, None, refl, sym, ap, subst, ◌∙◌, arith}
-use Rattle.std.specs.Prelude.{◌==◌, ◌&&◌, is_some, replicate, slice_get}
+use Rattle.std.proofs.Common.{◌≡◌, ℕ, zero, suc, ◌<◌, Bool, true, false, cond, List, [], ◌∷◌, ◌++◌, length, Option, Some, None, refl, sym, ap, subst, ◌∙◌, arith}
+use Rattle.std.specs.Prelude.{◌==◌, is_some, replicate, slice_get}
 use Rattle.std.proofs.lemmas.Bool.Decides.{nat_tests}
 use Rattle.go_base.specs.declared.fault.FaultCode.{FaultCode}
 use Rattle.go_base.specs.declared.fault.FaultCode.TheVariants as code
@@ -12,13 +12,12 @@ use Rattle.go_types_relations.specs.Tests.{is_assignable, underlying_of}
 use Rattle.go_typed.specs.Trees.{typed, sort_of}
 use Rattle.go_typed.specs.Trees as sort
 use Rattle.go_exprs_rules.specs.declared.fault.TypeFault.{TypeFault}
-use Rattle.go_exprs_rules.specs.Calls.{keeps_value}
 use Rattle.go_exprs_rules.specs.Faults.{fault_at}
 use Rattle.go_exprs_rules.specs.Settling.{Part, at_part, unrepresented, unassignable, unassignable_by}
-use Rattle.go_exprs_rules.specs.Sorts.{Stands, is_unknown, is_open, is_constant, is_family, family_of_const, family_of_type, family_of_open, kind_of_const, suits, value_type, open_kind}
-use Rattle.go_stmts_defs.specs.Assigning.{Wanted, called_results, whole_results, unassigned, all_unassigned, result_unassigned, results_unassigned, assignment_by, assignment_failing, constant_failing, constants_failing, constant_in, first_known, variable}
+use Rattle.go_exprs_rules.specs.Sorts.{Stands, is_unknown, is_open, is_constant, is_family, family_of_const, family_of_type, family_of_open, kind_of_const, suits, value_type}
+use Rattle.go_stmts_defs.specs.Assigning.{called_results, unassigned, all_unassigned, result_unassigned, results_unassigned, assignment_by, constant_failing, constants_failing, constant_in, first_known, variable}
 use Rattle.go_stmts_defs.specs.Rules.{variables_failing}
-use Rattle.go_package_defs.specs.Verdicts.{known_parts, counted, Assigned, assigned, constant_assigned, result_assigned, value_assigned, shared_value, variable_by, variable_assigned, function_assigned}
+use Rattle.go_package_defs.specs.Verdicts.{known_parts, Assigned, assigned, constant_assigned, result_assigned, value_assigned, variable_by, variable_assigned, function_assigned}
 use Rattle.go_stmts_final_types.specs.Names.{alone, is_fit, KeepsFamily}
 use Rattle.go_stmts_final_types.specs.Placed.{IsKnownObject}
 use Rattle.go_stmts_final_types.proofs.Public.{Given, Single, is_single, constant_is, unassigned_type, assignable_families}

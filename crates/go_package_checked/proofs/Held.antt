@@ -1,5 +1,5 @@
 -- What the answer of a check says of the specifications and the objects of the package block.
-use Rattle.std.proofs.Common.{◌≡◌, ℕ, zero, suc, false, List, [], ◌∷◌, length, map, Option, Some, None, Ok, sym, ap, subst, ◌∙◌, refl, arith}
+use Rattle.std.proofs.Common.{◌≡◌, ℕ, zero, suc, false, List, [], ◌∷◌, length, map, Some, Ok, subst, refl, arith}
 use Rattle.std.specs.Prelude.{slice_get}
 use Rattle.std.specs.List.{AllByRecursion}
 use Rattle.go_grammar.specs.Grammar.{IsFile}
@@ -16,7 +16,7 @@ use Rattle.go_package_settled.specs.Ordered.{IsSettled}
 use Rattle.go_package_checked.specs.Names.{NamesStand}
 use Rattle.go_stmts_final_types.specs.Placed.{IsKnownObject}
 use Rattle.go_package_checked.specs.Objects.{ObjectsAreKnown}
-use Rattle.go_package_checked.specs.Rules.{RulesHold, AllRulesHold}
+use Rattle.go_package_checked.specs.Rules.{AllRulesHold}
 use Rattle.go_package_checked.proofs.Failing.{IsFine, IsRuled, answered}
 use Rattle.go_package_checked.proofs.Objects.{object_known, object_typed}
 use Rattle.go_package_checked.proofs.Shapes.{Derivations}

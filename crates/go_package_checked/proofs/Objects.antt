@@ -5,9 +5,8 @@ use Rattle.std.specs.List.{AllByRecursion}
 use Rattle.std.proofs.lemmas.Bool.Decides.{nat_tests}
 use Rattle.go_base.specs.declared.fault.FaultCode.TheVariants as code
 use Rattle.go_grammar.specs.declared.kind.Category.TheVariants as category
-use Rattle.go_grammar.specs.declared.kind.Level.TheVariants as level
 use Rattle.go_grammar.specs.declared.kind.Place.TheVariants as place
-use Rattle.go_grammar.specs.Trees.{Tree, kind_of}
+use Rattle.go_grammar.specs.Trees.{Tree}
 use Rattle.go_grammar.specs.Grammar.{any}
 use Rattle.go_tree.specs.declared.context.Entity.{Entity}
 use Rattle.go_tree.specs.declared.context.Entity.TheVariants as entity
@@ -15,17 +14,16 @@ use Rattle.go_tree.specs.declared.object.Object.{Object}
 use Rattle.go_tree.specs.declared.object.Object.TheVariants as object
 use Rattle.go_tree.specs.Declarations.{is_variable}
 use Rattle.go_tree.specs.Uses.{object_of}
-use Rattle.go_types.specs.Trees.{TypeTree}
 use Rattle.go_types.specs.Relations.{Rights}
 use Rattle.go_typed.specs.declared.form.Referent.TheVariants as referent
 use Rattle.go_typed.specs.Trees.{sort_of}
 use Rattle.go_typed.specs.Trees as sort
 use Rattle.go_exprs_rules.specs.declared.fault.TypeFault.{TypeFault}
 use Rattle.go_exprs_rules.specs.Faults.{fault_at, joined, reported}
-use Rattle.go_exprs_rules.specs.Scopes.{Needed, in_full, Scope, Hint, value, several, type_place, free}
+use Rattle.go_exprs_rules.specs.Scopes.{in_full, Scope, Hint, value, several, type_place, free}
 use Rattle.go_exprs_rules.specs.Settling.{Part}
 use Rattle.go_exprs_rules.specs.Sorts.{Stands, is_unknown, is_open}
-use Rattle.go_exprs_rules.specs.Tables.{no_faults, is_lost, is_type}
+use Rattle.go_exprs_rules.specs.Tables.{no_faults, is_lost}
 use Rattle.go_exprs_rules.specs.TypeNodes.{part_type}
 use Rattle.go_exprs_rules.specs.Typing.{typing, faults}
 use Rattle.go_stmts_defs.specs.Assigning.{constants_failing}
@@ -35,13 +33,13 @@ use Rattle.go_package_defs.specs.Declarations.{Specification, is_alone}
 use Rattle.go_package_defs.specs.Knowledge.{Outline, outlines, State, state_there, state_of, no_state, is_sound, all_pass, passes, needs_of, need_in, stands_if, stands_where, rights_of, referent_at, free_scope}
 use Rattle.go_package_defs.specs.Knowledge as knowledge
 use Rattle.go_package_defs.specs.Sources.{Package}
-use Rattle.go_package_defs.specs.Verdicts.{type_hint, value_hint, part_in, faults_in, typed_type, typed_values, type_faults, values_faults, expression_faults, own_value, own_faults, Assigned, assigned_as, assigned_if, are_judged, assigned_of, own_type, type_state, state_with, value_state, known_parts, counted, constants_failing_in, specification_failing, specification_rule}
+use Rattle.go_package_defs.specs.Verdicts.{type_hint, value_hint, part_in, faults_in, typed_type, typed_values, type_faults, values_faults, expression_faults, own_value, own_faults, Assigned, assigned_as, assigned_if, are_judged, own_type, state_with, value_state, known_parts, counted, constants_failing_in, specification_failing, specification_rule}
 use Rattle.go_package_laws.specs.Names.{EachName}
 use Rattle.go_package_laws.specs.Ranks.{Ranks, AllBefore, ReachedBefore, NamesBefore, IsFound, IsFoundType, IsFoundAs, AreFound}
 use Rattle.go_stmts_final_types.specs.Names.{alone, ExpressionIsKnown}
 use Rattle.go_stmts_final_types.specs.Placed.{IsKnownObject, IsGood, ExpressionIsPlaced}
 use Rattle.go_stmts_final_types.specs.Shapes.{IsShaped}
-use Rattle.go_stmts_final_types.proofs.Public.{MeansGood, Clear, Given, Single, clear_given, clear_single, typing_known, known_sort, reads, type_named}
+use Rattle.go_stmts_final_types.proofs.Public.{MeansGood, Clear, clear_given, clear_single, typing_known, known_sort, reads, type_named}
 use Rattle.go_package_checked.specs.Names.{MaybeStands, AllStand, SpecificationStands, NamesStand}
 use Rattle.go_package_checked.proofs.Assigned.{IsAssigned, IsTyped, constant_good, known_passes, KnownValue, variable_good, function_good}
 use Rattle.go_package_checked.proofs.Derived.{type_category, MaybeShaped, HasParts, is_parameter, IsDerived, IsDerivedIfNamed}

@@ -1,18 +1,16 @@
 -- Specifications of files that are derived have types and values that are derived.
-use Rattle.std.proofs.Common.{◌≡◌, ℕ, suc, ◌<◌, true, false, List, [], ◌∷◌, ◌++◌, length, Option, Some, None, refl, sym, subst}
+use Rattle.std.proofs.Common.{◌≡◌, ℕ, suc, true, List, [], ◌∷◌, ◌++◌, Option, Some, None, refl, sym, subst}
 use Rattle.std.specs.Prelude.{is_some}
 use Rattle.std.specs.List.{AllByRecursion}
-use Rattle.go_tokens.specs.declared.token.TokenKind.{TokenKind}
 use Rattle.go_tokens.specs.declared.token.TokenKind.TheVariants as token
 use Rattle.go_tokens.specs.Tokens.{kinds}
-use Rattle.go_grammar.specs.declared.kind.Category.{Category}
 use Rattle.go_grammar.specs.declared.kind.Category.TheVariants as category
 use Rattle.go_grammar.specs.declared.kind.Kind.TheVariants as kind
 use Rattle.go_grammar.specs.declared.kind.Place.TheVariants as place
 use Rattle.go_grammar.specs.declared.kind.Sort.{Sort}
 use Rattle.go_grammar.specs.declared.kind.Sort.TheVariants as declaring
 use Rattle.go_grammar.specs.Grammar.{IsFile, any, rule}
-use Rattle.go_grammar.specs.Rules.{Many, Lines, Each, Again}
+use Rattle.go_grammar.specs.Rules.{Many, Each, Again}
 use Rattle.go_grammar.specs.Trees.{Tree, node, Trees, none, more, skip}
 use Rattle.go_tree.specs.declared.context.Entity.TheVariants as entity
 use Rattle.go_stmts_defs.specs.Reading.{part_source}
