@@ -3,4 +3,10 @@ mod Failing
 mod Shapes
 mod Rights
 mod Environments
+mod Derived
+mod Sorts
+mod Known
+mod Assigned
+mod Objects
+mod Held
 mod Examples

@@ -1,2 +1,5 @@
 pub mod Checked
+pub mod Rules
+pub mod Names
+pub mod Objects
 pub mod Examples

@@ -9,11 +9,18 @@ ghost use Rattle.go_types_relations.specs.Renaming.{AreRenamed};
 ghost use Rattle.go_typed.specs.Contents.{Content, content};
 ghost use Rattle.go_typed.specs.Packages.{PackageView};
 ghost use Rattle.go_exprs_rules.specs.Scopes.{Scope};
+ghost use Rattle.go_tree.specs.Uses.{uses};
+ghost use Rattle.go_package_defs.specs.Answer.{specifications, environment_of};
+ghost use Rattle.go_package_defs.specs.Knowledge.{outlines};
+ghost use Rattle.go_package_defs.specs.Verdicts.{known};
 ghost use Rattle.go_package_defs.specs.Checked.{Typing, sources_answer, IsChecked, IsCheckedPackage};
-ghost use Rattle.go_package_defs.specs.Sources.{Source, source_of};
+ghost use Rattle.go_package_defs.specs.Sources.{Source, source_of, package_of, unit_of, rounds};
 ghost use Rattle.go_stmts_limits.specs.Packages.{AllFunctionsWithin};
 ghost use Rattle.go_package_checked.specs.Examples.{Examples};
 ghost use Rattle.go_package_checked.specs.Checked.{HasSettled, PackageIsWithin};
+ghost use Rattle.go_package_checked.specs.Names.{NamesStand};
+ghost use Rattle.go_package_checked.specs.Objects.{ObjectsAreKnown};
+ghost use Rattle.go_package_checked.specs.Rules.{AllRulesHold};
 
 use go_package_settled::laws::{faultless_packages_settle, settled_packages_are_within_limits};
 use go_stmts_final_types::laws::{derivations_are_shaped, less_known_types_are_the_same};
@@ -26,6 +33,24 @@ pub fn checked_packages_settle()
     ensures checked { (texts : List FileText) (c : Content) (h : IsChecked texts c) → HasSettled (map source_of h.files) }
 {
     faultless_packages_settle();
+}
+
+/// In a package that type-checks every rule of every specification holds, whether another one's fault could block it or not, and what its
+/// objects stand for is what is answered (Go specification: Declarations and scope).
+pub fn rules_of_checked_packages_hold()
+    ensures { (ss : List Source) (t : Typing) → sources_answer ss ≡ Ok t → let p = package_of ss (uses (map unit_of ss)) in let ds = specifications 0 ss in let found = known p (outlines p ds) (rounds p) in
+        AllRulesHold p (outlines p ds) found ds × (environment_of p found ≡ t.environment) }
+{}
+
+/// In a package that type-checks each object stands for something known, a constant for a value of its type's family, and a variable has a
+/// type, where the names in its specifications stand as they may (Go specification: Constant declarations, Variable declarations, Function
+/// declarations).
+pub fn objects_of_checked_packages_are_known()
+    ensures { (ss : List Source) (t : Typing) → let p = package_of ss (uses (map unit_of ss)) in let ds = specifications 0 ss in
+        AllByRecursion (λ s. IsFile (kinds s.tokens.tokens) s.tree) ss → sources_answer ss ≡ Ok t → NamesStand p ds (known p (outlines p ds) (rounds p)) → ObjectsAreKnown p t.environment }
+{
+    checked_packages_settle();
+    derivations_are_shaped();
 }
 
 /// In every package that type-checks the right sides of its declared types, all that its objects stand for, and all that its functions stand for
@@ -45,8 +70,7 @@ pub fn checked_packages_are_within_limits()
     limits::checked_packages_are_within_limits();
 }
 
-/// Worked examples: specifications of constants that need one another in a ring, so that no fault of theirs is reported, and a hole behind them
-/// that has no final type.
+/// Worked examples: specifications of constants that need one another in a ring. The fault of the first one is reported.
 pub fn examples()
     ensures { Examples }
 {}

@@ -158,7 +158,7 @@ results_stand (t ∷ ts) [] e = no_more (length ts) e
 results_stand (t ∷ ts) (r ∷ rs) e = (variable_known (first_known t (Some r)) (first_is t (Some r) refl), results_stand ts rs (same_less (length ts) (length rs) e))
 
 -- a value for a variable that has no type yet
-unassigned_type : (rights : Rights) (t : Option TypeTree) (x : Part) → Given x → Single x → unassigned rights t x ≡ [] → is_some (first_known t (value_type (sort_of x))) ≡ true
+pub unassigned_type : (rights : Rights) (t : Option TypeTree) (x : Part) → Given x → Single x → unassigned rights t x ≡ [] → is_some (first_known t (value_type (sort_of x))) ≡ true
 unassigned_type rights (Some t) x g s e = refl
 unassigned_type rights None x g s e = by (sort_of x) g s e
   where
@@ -214,7 +214,7 @@ constant_known (Some t) (sort.Constant u c) e = refl
 constant_known (Some t) (sort.OpenConstant c) e = refl
 constant_known t x e = cc
 
-constant_is : (rights : Rights) (t : Option TypeTree) (x : Part) → constant_failing rights t x ≡ [] → is_constant (sort_of x) ≡ true
+pub constant_is : (rights : Rights) (t : Option TypeTree) (x : Part) → constant_failing rights t x ≡ [] → is_constant (sort_of x) ≡ true
 constant_is rights (Some t) x e = by (is_constant (sort_of x)) _ e
   where
     by : (b : Bool) (fs : List TypeFault) → cond b fs (at_part code.Operands x) ≡ [] → b ≡ true

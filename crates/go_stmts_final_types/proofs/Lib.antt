@@ -36,3 +36,5 @@ mod Bodies
 mod Named
 mod Examples
 mod Fewer
+mod Placed
+pub mod Public

@@ -6,3 +6,4 @@ pub mod Names
 pub mod PackageNames
 pub mod Examples
 pub mod Fewer
+pub mod Placed

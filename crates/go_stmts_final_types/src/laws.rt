@@ -1,6 +1,6 @@
 //! Laws of final types, for the crates above. The functions do nothing: their contracts are the laws.
 
-ghost use Rattle.std.specs.Prelude.{◌≡◌, ℕ, ◌⊎◌, true, false, List, map, Ok};
+ghost use Rattle.std.specs.Prelude.{◌≡◌, ℕ, ◌⊎◌, true, false, List, None, map, Ok};
 ghost use Rattle.go_tokens.specs.declared.token.TokenKind.{TokenKind};
 ghost use Rattle.go_grammar.specs.declared.kind.Category.{Category};
 ghost use Rattle.go_grammar.specs.declared.kind.Category.TheVariants as category;
@@ -13,15 +13,18 @@ ghost use Rattle.go_typed.specs.Packages.{PackageView};
 ghost use Rattle.go_package_defs.specs.Checked.{IsCheckedPackage};
 ghost use Rattle.go_package_defs.specs.Sources.{source_of};
 ghost use Rattle.go_stmts_final_types.specs.Packages.{AllTyped};
-ghost use Rattle.go_exprs_rules.specs.Scopes.{Needed, Scope, Hint, free};
+ghost use Rattle.go_exprs_rules.specs.Scopes.{Needed, in_full, Scope, Hint, free};
 ghost use Rattle.go_exprs_rules.specs.Sorts.{Stands, is_unknown};
-ghost use Rattle.go_exprs_rules.specs.Typing.{typing};
+ghost use Rattle.go_exprs_rules.specs.Faults.{reported};
+ghost use Rattle.go_exprs_rules.specs.Typing.{typing, faults};
 ghost use Rattle.go_stmts_final_types.specs.Fewer.{KnowsLess, knowing};
+ghost use Rattle.go_stmts_defs.specs.Frames.{Locals};
 ghost use Rattle.go_stmts_defs.specs.Bodies.{based, start, body_answer};
 ghost use Rattle.go_stmts_final_types.specs.Examples.{Examples};
 ghost use Rattle.go_stmts_final_types.specs.Holes.{HolesTyped};
 ghost use Rattle.go_stmts_final_types.specs.Known.{IsKnown};
-ghost use Rattle.go_stmts_final_types.specs.Names.{NamesAreKnown};
+ghost use Rattle.go_stmts_final_types.specs.Names.{Standing, NamesAreKnown};
+ghost use Rattle.go_stmts_final_types.specs.Placed.{ObjectsAreGood, LocalsAreGood, ExpressionIsPlaced};
 ghost use Rattle.go_stmts_final_types.specs.PackageNames.{PackageIsNamed, AllFinal};
 ghost use Rattle.go_stmts_final_types.specs.Shapes.{IsShaped};
 
@@ -57,6 +60,13 @@ pub fn names_make_known()
 /// So the holes of a package that is told to be good have final types, where its names stand for something known.
 pub fn named_packages_have_types()
     ensures { (p : PackageView) (h : IsCheckedPackage p) → PackageIsNamed (map source_of h.checked.files) → AllFinal (content p).functions }
+{}
+
+/// An expression without faults stands for something known, and so do all its parts, where all does so that is around it, and what its names
+/// mean is declared in front of them. Nothing is asked of what the names stand for (Go specification: Declarations and scope, Expressions).
+pub fn placed_expressions_are_known()
+    ensures { (count : ℕ) (ls : Locals) (r : Standing) (s : Scope) (h : Hint) (c : Category) (t : Tree) → IsShaped c t → s.needed ≡ in_full → ObjectsAreGood count s → LocalsAreGood ls s
+        → ExpressionIsPlaced count ls r s h t → reported (faults s h t) ≡ None → IsKnown (typing s h t) }
 {}
 
 /// A function whose names stand for something known, and one that names a local which isn't declared.
