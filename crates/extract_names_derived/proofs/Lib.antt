@@ -20,6 +20,8 @@ mod DerivedSites
 mod Placing
 mod News
 mod TypeEvents
+mod FieldsOnce
+mod CallFields
 mod CallEvents
 mod CallSites
 mod SiteRuns
