@@ -12,6 +12,7 @@ use Rattle.go_tree.specs.declared.context.Role.{Role}
 use Rattle.go_tree.specs.declared.context.Role.TheVariants as role
 use Rattle.go_tree.specs.declared.event.Event.{Event}
 use Rattle.go_tree.specs.declared.event.Event.TheVariants as event
+use Rattle.go_tree.specs.declared.event.Member.{Member}
 use Rattle.go_tree.specs.declared.event.Member.TheVariants as member
 use Rattle.go_tree.specs.Contexts.{entry_role, source_in, source_at, enter}
 use Rattle.go_tree.specs.Duplicates.{same_member}
@@ -48,7 +49,7 @@ mutual
   behind_ends i none = omega arith
   behind_ends i (more t ts) = omega (arith, type_ends (suc i) t, behind_ends (last (type_tree (suc i) t)) ts)
 
-  results_end : (i : ℕ) (ts : TypeRow) → i ≤ result_end i ts
+  pub results_end : (i : ℕ) (ts : TypeRow) → i ≤ result_end i ts
   results_end i none = omega arith
   results_end i (more t none) = omega (arith, type_ends i t)
   results_end i (more t (more u us)) = omega (arith, type_ends (suc i) t, type_ends (suc (last (type_tree (suc i) t))) u, behind_ends (last (type_tree (suc (last (type_tree (suc i) t))) u)) us)
@@ -67,10 +68,10 @@ module _ (w : ℕ → List ℕ) where
   abbrev F : List Event → List Event → Type 0
   F before es = second_members_by w before es ≡ []
 
-  both_off : (a b : Bool) → a ≡ false → b ≡ false → (a || b) ≡ false
+  pub both_off : (a b : Bool) → a ≡ false → b ≡ false → (a || b) ≡ false
   both_off a b e f = ap (λ x. x || b) e ∙ f
 
-  place_off : (b : Bool) (ps : List Place) → b ≡ false → ps ≡ [] → place_if b no_place ps ≡ []
+  pub place_off : (b : Bool) (ps : List Place) → b ≡ false → ps ≡ [] → place_if b no_place ps ≡ []
   place_off b ps e f = ap (λ x. place_if x no_place ps) e ∙ f
 
   place_tells : (b : Bool) (ps : List Place) → place_if b no_place ps ≡ [] → (b ≡ false) × (ps ≡ [])
@@ -97,7 +98,7 @@ module _ (w : ℕ → List ℕ) where
   Between lo hi (event.Member m g x) = (lo ≤ g) × (g < hi)
   Between lo hi e = Unit {0}
 
-  between_wide : (lo hi low high : ℕ) (e : Event) → low ≤ lo → hi ≤ high → Between lo hi e → Between low high e
+  pub between_wide : (lo hi low high : ℕ) (e : Event) → low ≤ lo → hi ≤ high → Between lo hi e → Between low high e
   between_wide lo hi low high (event.Member m g x) a b h = (omega (arith, a, h.0), omega (arith, b, h.1))
   between_wide lo hi low high (event.Declaration d) a b h = tt
   between_wide lo hi low high (event.Use u) a b h = tt
@@ -151,25 +152,25 @@ module _ (w : ℕ → List ℕ) where
 
   -- ---- members of one group
 
-  abbrev Lacks : ℕ → List ℕ → List Event → Type 0
-  Lacks g u es = own_has_member w member.Field g u es ≡ false
+  abbrev pub Lacks : Member → ℕ → List ℕ → List Event → Type 0
+  Lacks mk g u es = own_has_member w mk g u es ≡ false
 
   or_parts : (a b : Bool) → (a || b) ≡ false → (a ≡ false) × (b ≡ false)
   or_parts true b e = cc
   or_parts false b e = (refl, e)
 
-  lacks_append : (g : ℕ) (u : List ℕ) (es fs : List Event) → Lacks g u es → Lacks g u fs → Lacks g u (es ++ fs)
-  lacks_append g u [] fs h k = k
-  lacks_append g u (event.Member m x y ∷ es) fs h k =
-      let t = or_parts (same_member member.Field m && nat_eq g x && same_text u (w y)) (own_has_member w member.Field g u es) h in
-      both_off (same_member member.Field m && nat_eq g x && same_text u (w y)) (own_has_member w member.Field g u (es ++ fs)) t.0 (lacks_append g u es fs t.1 k)
-  lacks_append g u (event.Declaration d ∷ es) fs h k = lacks_append g u es fs h k
-  lacks_append g u (event.Use x ∷ es) fs h k = lacks_append g u es fs h k
-  lacks_append g u (event.Import i ∷ es) fs h k = lacks_append g u es fs h k
-  lacks_append g u (event.Bodiless i j ∷ es) fs h k = lacks_append g u es fs h k
-  lacks_append g u (event.Statement i j ∷ es) fs h k = lacks_append g u es fs h k
-  lacks_append g u (event.Misplaced i j ∷ es) fs h k = lacks_append g u es fs h k
-  lacks_append g u (event.SecondDefault i ∷ es) fs h k = lacks_append g u es fs h k
+  pub lacks_append : (mk : Member) (g : ℕ) (u : List ℕ) (es fs : List Event) → Lacks mk g u es → Lacks mk g u fs → Lacks mk g u (es ++ fs)
+  lacks_append mk g u [] fs h k = k
+  lacks_append mk g u (event.Member m x y ∷ es) fs h k =
+      let t = or_parts (same_member mk m && nat_eq g x && same_text u (w y)) (own_has_member w mk g u es) h in
+      both_off (same_member mk m && nat_eq g x && same_text u (w y)) (own_has_member w mk g u (es ++ fs)) t.0 (lacks_append mk g u es fs t.1 k)
+  lacks_append mk g u (event.Declaration d ∷ es) fs h k = lacks_append mk g u es fs h k
+  lacks_append mk g u (event.Use x ∷ es) fs h k = lacks_append mk g u es fs h k
+  lacks_append mk g u (event.Import i ∷ es) fs h k = lacks_append mk g u es fs h k
+  lacks_append mk g u (event.Bodiless i j ∷ es) fs h k = lacks_append mk g u es fs h k
+  lacks_append mk g u (event.Statement i j ∷ es) fs h k = lacks_append mk g u es fs h k
+  lacks_append mk g u (event.Misplaced i j ∷ es) fs h k = lacks_append mk g u es fs h k
+  lacks_append mk g u (event.SecondDefault i ∷ es) fs h k = lacks_append mk g u es fs h k
 
   and_off : (a b c : Bool) → b ≡ false → ((a && b) && c) ≡ false
   and_off true b c e = ap (λ x. x && c) e
@@ -181,31 +182,31 @@ module _ (w : ℕ → List ℕ) where
   last_off false b c e = refl
 
   -- members of other groups
-  other_groups : (g : ℕ) (u : List ℕ) (lo hi : ℕ) (es : List Event) → ((x : ℕ) → lo ≤ x → x < hi → g ≡ x → ⊥) → EachEvent (Between lo hi) es → Lacks g u es
-  other_groups g u lo hi [] f h = refl
-  other_groups g u lo hi (event.Member m x y ∷ es) f h =
-      both_off (same_member member.Field m && nat_eq g x && same_text u (w y)) (own_has_member w member.Field g u es) (and_off (same_member member.Field m) (nat_eq g x) (same_text u (w y)) (ne_eqb g x (f x h.0.0 h.0.1)))
-      (other_groups g u lo hi es f h.1)
-  other_groups g u lo hi (event.Declaration d ∷ es) f h = other_groups g u lo hi es f h.1
-  other_groups g u lo hi (event.Use x ∷ es) f h = other_groups g u lo hi es f h.1
-  other_groups g u lo hi (event.Import i ∷ es) f h = other_groups g u lo hi es f h.1
-  other_groups g u lo hi (event.Bodiless i j ∷ es) f h = other_groups g u lo hi es f h.1
-  other_groups g u lo hi (event.Statement i j ∷ es) f h = other_groups g u lo hi es f h.1
-  other_groups g u lo hi (event.Misplaced i j ∷ es) f h = other_groups g u lo hi es f h.1
-  other_groups g u lo hi (event.SecondDefault i ∷ es) f h = other_groups g u lo hi es f h.1
+  pub other_groups : (mk : Member) (g : ℕ) (u : List ℕ) (lo hi : ℕ) (es : List Event) → ((x : ℕ) → lo ≤ x → x < hi → g ≡ x → ⊥) → EachEvent (Between lo hi) es → Lacks mk g u es
+  other_groups mk g u lo hi [] f h = refl
+  other_groups mk g u lo hi (event.Member m x y ∷ es) f h =
+      both_off (same_member mk m && nat_eq g x && same_text u (w y)) (own_has_member w mk g u es) (and_off (same_member mk m) (nat_eq g x) (same_text u (w y)) (ne_eqb g x (f x h.0.0 h.0.1)))
+      (other_groups mk g u lo hi es f h.1)
+  other_groups mk g u lo hi (event.Declaration d ∷ es) f h = other_groups mk g u lo hi es f h.1
+  other_groups mk g u lo hi (event.Use x ∷ es) f h = other_groups mk g u lo hi es f h.1
+  other_groups mk g u lo hi (event.Import i ∷ es) f h = other_groups mk g u lo hi es f h.1
+  other_groups mk g u lo hi (event.Bodiless i j ∷ es) f h = other_groups mk g u lo hi es f h.1
+  other_groups mk g u lo hi (event.Statement i j ∷ es) f h = other_groups mk g u lo hi es f h.1
+  other_groups mk g u lo hi (event.Misplaced i j ∷ es) f h = other_groups mk g u lo hi es f h.1
+  other_groups mk g u lo hi (event.SecondDefault i ∷ es) f h = other_groups mk g u lo hi es f h.1
 
   -- in front stand of the group only fields of these names
-  abbrev Known : ℕ → List ℕ → List Event → Type 0
-  Known g front before = (x : ℕ) → IsOther w x front → Lacks g (w x) before
+  abbrev pub Known : Member → ℕ → List ℕ → List Event → Type 0
+  Known mk g front before = (x : ℕ) → IsOther w x front → Lacks mk g (w x) before
 
-  known_next : (g y : ℕ) (front : List ℕ) (before es : List Event) (hi : ℕ) → Known g front before → EachEvent (Between (suc g) hi) es → Known g (y ∷ front) (before ++ event.Member member.Field g y ∷ es)
-  known_next g y front before es hi k h x o =
-      lacks_append g (w x) before (event.Member member.Field g y ∷ es) (k x o.1)
-      (both_off (same_member member.Field member.Field && nat_eq g g && same_text (w x) (w y)) (own_has_member w member.Field g (w x) es) (last_off (same_member member.Field member.Field) (nat_eq g g) (same_text (w x) (w y)) o.0)
-      (other_groups g (w x) (suc g) hi es (λ z lo lt e. omega (arith, lo, e)) h))
+  pub known_next : (mk : Member) (g y : ℕ) (front : List ℕ) (before es : List Event) (hi : ℕ) → Known mk g front before → EachEvent (Between (suc g) hi) es → Known mk g (y ∷ front) (before ++ event.Member mk g y ∷ es)
+  known_next mk g y front before es hi k h x o =
+      lacks_append mk g (w x) before (event.Member mk g y ∷ es) (k x o.1)
+      (both_off (same_member mk mk && nat_eq g g && same_text (w x) (w y)) (own_has_member w mk g (w x) es) (last_off (same_member mk mk) (nat_eq g g) (same_text (w x) (w y)) o.0)
+      (other_groups mk g (w x) (suc g) hi es (λ z lo lt e. omega (arith, lo, e)) h))
 
   -- a field, and then what its type tells
-  field_once : (g y hi : ℕ) (before es : List Event) (front : List ℕ) → g < hi → is_blank (w y) ≡ false → IsOther w y front → Known g front before → Once (suc g) hi (before ++ event.Member member.Field g y ∷ []) es → Once g hi before (event.Member member.Field g y ∷ es)
+  field_once : (g y hi : ℕ) (before es : List Event) (front : List ℕ) → g < hi → is_blank (w y) ≡ false → IsOther w y front → Known member.Field g front before → Once (suc g) hi (before ++ event.Member member.Field g y ∷ []) es → Once g hi before (event.Member member.Field g y ∷ es)
   field_once g y hi before es front lt blank other k h = record {
     free = place_off (own_is_duplicate w member.Field g (w y) before) (second_members_by w (before ++ event.Member member.Field g y ∷ []) es) (both_off (is_blank (w y)) (own_has_member w member.Field g (w y) before) blank (k y other)) h.free;
     between = ((omega arith, lt), each_event_map (Between (suc g) hi) (Between g hi) es (λ e. between_wide (suc g) hi g hi e (omega arith) (omega arith)) h.between);
@@ -220,10 +221,10 @@ module _ (w : ℕ → List ℕ) where
   list_holds : (c : Context) (i j x : ℕ) (ts : TypeRow) → Holds c kind.Parameters i j (list_trees x ts)
   list_holds c i j x ts s n p y = subst (λ b. entry_role b p i c.parameters ≡ role.Operand) (sym (list_unnamed x ts)) refl
 
-  abbrev Below : ℕ → List Event → Type 0
+  abbrev pub Below : ℕ → List Event → Type 0
   Below i es = EachEvent (Between 0 i) es
 
-  below_wide : (lo hi : ℕ) (es : List Event) → lo ≤ hi → Below lo es → Below hi es
+  pub below_wide : (lo hi : ℕ) (es : List Event) → lo ≤ hi → Below lo es → Below hi es
   below_wide lo hi es le b = each_event_map (Between 0 lo) (Between 0 hi) es (λ e. between_wide 0 lo 0 hi e (omega arith) le) b
 
   mutual
@@ -260,7 +261,7 @@ module _ (w : ℕ → List ℕ) where
         node_once i j before c.listed i j (events_of (begin c kind.StructType) kind.StructType i j ps 0 ps)
         (λ after f.
         fields_once c i j ps (source_in c kind.StructType) 0 (suc (suc i)) ns ts [] after (omega arith) (below_wide i (suc (suc i)) after (omega arith) (f b))
-        (λ x o. other_groups i (w x) 0 i after (λ z lo hi e. omega (arith, hi, e)) (f b)) h)
+        (λ x o. other_groups member.Field i (w x) 0 i after (λ z lo hi e. omega (arith, hi, e)) (f b)) h)
     type_once c i (function ps rs) before r h b =
         let k : ℕ = suc (list_end (suc (suc i)) ps) in
         let j : ℕ = result_end k rs in
@@ -313,7 +314,7 @@ module _ (w : ℕ → List ℕ) where
         (once_wide (last of) hi x hi (before ++ events here of) (events_of (record c { source = src }) k i j all (suc n) rest) (omega (arith, grows)) (omega arith)
         (behind_once c k i j all src (suc n) (last of) ts (before ++ events here of) h.1 f (below_append x (last of) (suc x) before (events here of) b one.between (omega (arith, grows)))))
 
-    results_once : (c : Context) (i j : ℕ) (all : Trees) (s : Option ℕ) (x : ℕ) (ts : TypeRow) (before : List Event) → ResultsOnce w x ts → Below x before → Once x (result_end x ts) before (events_of (record c { source = s }) kind.Signature i j all 1 (result_trees x ts))
+    pub results_once : (c : Context) (i j : ℕ) (all : Trees) (s : Option ℕ) (x : ℕ) (ts : TypeRow) (before : List Event) → ResultsOnce w x ts → Below x before → Once x (result_end x ts) before (events_of (record c { source = s }) kind.Signature i j all 1 (result_trees x ts))
     results_once c i j all s x none before h b = once_none x x before
     results_once c i j all s x (more t none) before h b =
         let of : Tree = type_tree x t in
@@ -338,7 +339,7 @@ module _ (w : ℕ → List ℕ) where
         (behind_once here kind.Results x ends ps (source_at (begin here kind.Results) one) 1 (last one) (more u us) (before ++ events first one) h.1 (λ z n p y. refl) (below_append x (last one) (suc x) before (events first one) b it.between (omega (arith, grows))))))
         (once_none x ends (before ++ events here results))
 
-    fields_once : (c : Context) (i j : ℕ) (all : Trees) (s : Option ℕ) (n x : ℕ) (ns : List (List ℕ)) (ts : TypeRow) (front : List ℕ) (before : List Event) → i < x → Below x before → Known i front before → FieldsApart w front x ns ts
+    fields_once : (c : Context) (i j : ℕ) (all : Trees) (s : Option ℕ) (n x : ℕ) (ns : List (List ℕ)) (ts : TypeRow) (front : List ℕ) (before : List Event) → i < x → Below x before → Known member.Field i front before → FieldsApart w front x ns ts
         → Once i (suc (field_end x ns ts)) before (events_of (record c { source = s }) kind.StructType i j all n (field_trees x ns ts))
     fields_once c i j all s n x [] ts front before lt b k h = once_none i (suc x) before
     fields_once c i j all s n x (f ∷ ns) none front before lt b k h = once_none i (suc x) before
@@ -359,9 +360,9 @@ module _ (w : ℕ → List ℕ) where
         let hi : ℕ = suc (later_end (last of) ns ts) in
         once_append i hi before (events here (field_at x of)) (events_of (record c { source = src }) kind.StructType i j all (suc n) rest) (once_wide i (last of) i hi before (events here (field_at x of)) (omega arith) (omega (arith, up)) one)
         (later_once c i j all src (suc n) (last of) ns ts (x ∷ front) (before ++ events here (field_at x of)) (omega (arith, lt, grows)) (below_append x (last of) i before (events here (field_at x of)) b one.between (omega (arith, grows)))
-        (known_next i x front before (events second of ++ []) (last of) k told.between) h.3)
+        (known_next member.Field i x front before (events second of ++ []) (last of) k told.between) h.3)
 
-    later_once : (c : Context) (i j : ℕ) (all : Trees) (s : Option ℕ) (n x : ℕ) (ns : List (List ℕ)) (ts : TypeRow) (front : List ℕ) (before : List Event) → i < x → Below x before → Known i front before → LaterApart w front x ns ts
+    later_once : (c : Context) (i j : ℕ) (all : Trees) (s : Option ℕ) (n x : ℕ) (ns : List (List ℕ)) (ts : TypeRow) (front : List ℕ) (before : List Event) → i < x → Below x before → Known member.Field i front before → LaterApart w front x ns ts
         → Once i (suc (later_end x ns ts)) before (events_of (record c { source = s }) kind.StructType i j all n (later_trees x ns ts))
     later_once c i j all s n x [] ts front before lt b k h = once_none i (suc x) before
     later_once c i j all s n x (f ∷ ns) none front before lt b k h = once_none i (suc x) before
@@ -382,7 +383,7 @@ module _ (w : ℕ → List ℕ) where
         let hi : ℕ = suc (later_end (last of) ns ts) in
         once_append i hi before (events here (field_at (suc x) of)) (events_of (record c { source = src }) kind.StructType i j all (suc n) rest) (once_wide i (last of) i hi before (events here (field_at (suc x) of)) (omega arith) (omega (arith, up)) one)
         (later_once c i j all src (suc n) (last of) ns ts (suc x ∷ front) (before ++ events here (field_at (suc x) of)) (omega (arith, lt, grows)) (below_append x (last of) i before (events here (field_at (suc x) of)) b one.between (omega (arith, grows)))
-        (known_next i (suc x) front before (events second of ++ []) (last of) k told.between) h.3)
+        (known_next member.Field i (suc x) front before (events second of ++ []) (last of) k told.between) h.3)
 
   pub type_free : (c : Context) (i : ℕ) (t : TypeTree) → c.role ≡ role.Operand → FieldsOnce w i t → second_members_by w [] (events c (type_tree i t)) ≡ []
   type_free c i t r h = (type_once c i t [] r h tt).free

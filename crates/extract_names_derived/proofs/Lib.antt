@@ -22,6 +22,7 @@ mod News
 mod TypeEvents
 mod FieldsOnce
 mod CallFields
+mod ParametersOnce
 mod CallEvents
 mod CallSites
 mod SiteRuns

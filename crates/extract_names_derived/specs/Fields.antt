@@ -2,6 +2,7 @@
 use Rattle.std.specs.Prelude.{◌≡◌, ℕ, suc, false, List, [], ◌∷◌}
 use Rattle.go_grammar.specs.Trees.{last}
 use Rattle.go_print_laws.specs.Calls.{Call}
+use Rattle.go_print_laws.specs.Headers.{Header, parameters_end}
 use Rattle.go_print_laws.specs.Trees.{type_tree, list_end}
 use Rattle.go_tokens.specs.Spellings.{same_text}
 use Rattle.go_tree.specs.Units.{is_blank}
@@ -51,6 +52,21 @@ abbrev mutual
   LaterApart w front i [] ts = Unit {0}
   LaterApart w front i (n ∷ ns) none = Unit {0}
   LaterApart w front i (n ∷ ns) (more t ts) = (is_blank (w (suc i)) ≡ false) × IsOther w (suc i) front × FieldsOnce w (suc (suc i)) t × LaterApart w (suc i ∷ front) (last (type_tree (suc (suc i)) t)) ns ts
+
+-- No parameter that stands behind one which ends here is spelled like another one, nor stands a field twice in its type.
+abbrev pub FurtherOnce : (ℕ → List ℕ) → List ℕ → ℕ → List (List ℕ) → TypeRow → Type 0
+FurtherOnce w front i [] ts = Unit {0}
+FurtherOnce w front i (n ∷ ns) none = Unit {0}
+FurtherOnce w front i (n ∷ ns) (more t ts) = IsOther w (suc i) front × FieldsOnce w (suc (suc i)) t × FurtherOnce w (suc i ∷ front) (last (type_tree (suc (suc i)) t)) ns ts
+
+abbrev pub ParametersOnce : (ℕ → List ℕ) → ℕ → List (List ℕ) → TypeRow → Type 0
+ParametersOnce w i [] ts = Unit {0}
+ParametersOnce w i (n ∷ ns) none = Unit {0}
+ParametersOnce w i (n ∷ ns) (more t ts) = FieldsOnce w (suc i) t × FurtherOnce w (i ∷ []) (last (type_tree (suc i) t)) ns ts
+
+-- of the signature whose first token has this number
+abbrev pub SignatureOnce : (ℕ → List ℕ) → ℕ → Header → Type 0
+SignatureOnce w i h = ParametersOnce w (suc i) h.parameters h.types × ResultsOnce w (suc (parameters_end (suc i) h.parameters h.types)) h.results
 
 -- the types of the variables that are declared in front of a call, from a token on
 abbrev pub DeclaredOnce : (ℕ → List ℕ) → ℕ → List (List ℕ) → TypeRow → Type 0
