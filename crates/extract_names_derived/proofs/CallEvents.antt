@@ -22,9 +22,11 @@ use Rattle.go_tree.specs.declared.event.Member.TheVariants as member
 use Rattle.go_tree.specs.Contexts.{column_site, source_at, enter}
 use Rattle.go_tree.specs.Events.{statement_events, is_more, begin, events, events_of}
 use Rattle.go_heads.specs.Functions.{Alone}
+use Rattle.go_heads.specs.Names.{own_text}
 use Rattle.go_print_laws.specs.Calls.{Call, Argument, variable, constant, argument_tree, further_trees, arguments_trees, arguments_end, call_tree, names_behind, names_end, statement_tree, declaration_at, statement_trees, call_trees}
 use Rattle.go_print_laws.specs.Trees.{name_at, number_at, names_at, type_tree}
 use Rattle.go_scopes_bodies.specs.Carried.{carried_block, carried_context, carried_site}
+use Rattle.go_scopes_bodies.specs.Faults.{second_members_by}
 use Rattle.go_scopes_bodies.specs.Listed.{told_list}
 use Rattle.go_scopes_bodies.specs.Meant.{Meant, outside}
 use Rattle.go_types.specs.Trees.{TypeTree, TypeRow}
@@ -34,6 +36,7 @@ use Rattle.extract_names.specs.Sites.{EachEvent, specification_at, EventGoes, De
 use Rattle.extract_names_derived.specs.Calls.{MeansOuter, MeansPlain, TypeMeans, ArgumentMeans, FurtherMean, ArgumentsMean, CallMeans, TargetMeans, TargetsMean, StatementMeans, DeclaresOne, DeclaresEach, gap_means, gap_text, CallStands}
 use Rattle.extract_names_derived.specs.News.{EventAsked, StatementsAsked}
 use Rattle.extract_names_derived.specs.Sites.{RunStands}
+use Rattle.extract_names_derived.proofs.CallFields.{call_free}
 use Rattle.extract_names_derived.proofs.Lying.{each_event_append}
 use Rattle.extract_names_derived.proofs.TypeEvents.{node_asked, use_in, leaf_asked, number_asked, IsLookedUp, type_asked}
 
@@ -299,5 +302,5 @@ module _ (a : Alone) (v : ℕ → ℕ) (g : Gap) (old : List Event) where
               subst Each (sym told)
               (each_asked here x.followed (v g.from) call.declared call.types g.declared call.results call.arguments (record { site = site_elsewhere x.context.site x.site; constant = x.constant }) again (λ z k. k) h.each);
           all = λ z k. subst (IsDeclared (v g.from + z.token)) (sym told) (each_declared here x.followed (v g.from) call.declared call.types g.declared call.results call.arguments h.each z k);
-          members_once = h.members_once;
+          members_once = ap (second_members_by (own_text new) []) told ∙ call_free (own_text new) here x.followed (v g.from) call h.fields;
         }

@@ -11,12 +11,8 @@ use Rattle.go_tree.specs.declared.event.Event.TheVariants as event
 use Rattle.go_tree.specs.Contexts.{file_context}
 use Rattle.go_heads.specs.Bodies.{function_events}
 use Rattle.go_heads.specs.Functions.{Alone}
-use Rattle.go_heads.specs.Names.{own_text}
 use Rattle.go_print_laws.specs.Calls.{Call, Argument}
 use Rattle.go_print_laws.specs.Trees.{type_tree}
-use Rattle.go_scopes_bodies.specs.Carried.{carried_context}
-use Rattle.go_scopes_bodies.specs.Faults.{second_members_by}
-use Rattle.go_scopes_bodies.specs.Listed.{told_list}
 use Rattle.go_scopes_bodies.specs.Meant.{Meant, Outer}
 use Rattle.go_types.specs.Trees.{TypeRow}
 use Rattle.go_types.specs.Trees as types
@@ -197,8 +193,7 @@ module _ (tells : Tells) (tell : TellPieces) (ts us : List TokenKind) (a : Alone
               each =
                   each_told a g (function_events a) old (gap_text g (v g.from)) (gap_means g (v g.from)) (v g.from) (v g.from) (calls g).declared (calls g).types g.declared (calls g).results (calls g).arguments
                   (λ d n r. told_here P v gaps d g gs ps old i j s m r k.2 (f g (inl refl) d n r)) (c.each g m);
-              members_once =
-                  ap (second_members_by (own_text new) []) (x.told ∙ ap (told_list (carried_context v x.context) x.followed) place.0) ∙ c.members_once g m (carried_context v x.context) x.followed;
+              fields = c.fields g m;
             })),
         walk gs ps g.upto j s.2 (λ y n. into y (inr n)) k.2
             (λ y n d o r. told_later P v gaps d y g gs ps old i j s n r (λ e. (among_each (EventGoes g k.0.block k.0.end) (event.Declaration d) old k.0.each e).name) (f y (inr n) d o r)),

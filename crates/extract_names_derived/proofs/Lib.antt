@@ -20,6 +20,9 @@ mod DerivedSites
 mod Placing
 mod News
 mod TypeEvents
+mod FieldsOnce
+mod CallFields
+mod ParametersOnce
 mod CallEvents
 mod CallSites
 mod SiteRuns

@@ -13,6 +13,7 @@ use Rattle.extract_names_derived.specs.PrintedCopies.{copied_run, IsPrintedCopy}
 use Rattle.extract_names_derived.proofs.CopyTelling.{copy_told}
 use Rattle.extract_names_derived.proofs.DerivedCopies.{is_copy}
 use Rattle.extract_names_derived.proofs.ParameterEvents.{parameter_stands}
+use Rattle.extract_names_derived.proofs.ParametersOnce.{head_free}
 use Rattle.extract_names_derived.proofs.SignatureEvents.{signature_tells, return_tells}
 use Rattle.extract_names_derived.proofs.Whole.{Tells}
 
@@ -38,7 +39,7 @@ taken a outer c new s x h =
       head_tells = head.head;
       tail_tells = tail.tail;
       signature = head.signature;
-      members_once = h.members_once;
+      members_once = head_free new c.body c.close (become_all c.place s.run_told.statements x.holes) x.others x.split h.header h.signature.tree h.members;
       returns = tail.returns;
       parameters = λ u m. parameter_stands new c.body c.close (become_all c.place s.run_told.statements x.holes) x.others x.split h.header u h.signature.tree (h.listed u m) (h.some u m);
       distinct = h.distinct;

@@ -34,7 +34,7 @@ behind_unnamed : (b : Bool) (i : ℕ) (ts : TypeRow) → b ≡ false → ends_fr
 behind_unnamed b i none e = e
 behind_unnamed b i (more t ts) e = behind_unnamed (is_parameter (kind_of (type_tree (suc i) t))) (last (type_tree (suc i) t)) ts (type_is_no_parameter (suc i) t)
 
-list_unnamed : (i : ℕ) (ts : TypeRow) → ends_named (list_trees i ts) ≡ false
+pub list_unnamed : (i : ℕ) (ts : TypeRow) → ends_named (list_trees i ts) ≡ false
 list_unnamed i none = refl
 list_unnamed i (more t ts) = behind_unnamed (is_parameter (kind_of (type_tree i t))) (last (type_tree i t)) ts (type_is_no_parameter i t)
 

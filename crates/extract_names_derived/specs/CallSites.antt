@@ -1,10 +1,9 @@
 -- Calls in the place of all runs of a function: what is asked of what they name and declare.
-use Rattle.std.specs.Prelude.{◌≡◌, ℕ, ◌+◌, Bool, true, false, List, [], ◌∷◌, length, Some, slice_get}
+use Rattle.std.specs.Prelude.{◌≡◌, ℕ, ◌+◌, true, false, List, [], ◌∷◌, length, Some, slice_get}
 use Rattle.go_tokens.specs.declared.token.TokenKind.{TokenKind}
 use Rattle.go_grammar.specs.Trees.{Tree, Trees}
 use Rattle.go_rewriting.specs.Places.{Patch}
 use Rattle.go_rewriting.specs.Sites.{Site, items, site_range}
-use Rattle.go_tree.specs.declared.context.Context.{Context}
 use Rattle.go_tree.specs.declared.context.Entity.TheVariants as entity
 use Rattle.go_tree.specs.declared.context.Manner.TheVariants as manner
 use Rattle.go_tree.specs.declared.event.Declaration.{Declaration}
@@ -15,12 +14,11 @@ use Rattle.go_heads.specs.Bodies.{function_events}
 use Rattle.go_heads.specs.Functions.{Alone}
 use Rattle.go_heads.specs.Names.{own_text, own_names}
 use Rattle.go_print_laws.specs.Calls.{Call, call_trees}
-use Rattle.go_scopes_bodies.specs.Faults.{second_members_by}
-use Rattle.go_scopes_bodies.specs.Listed.{told_list}
 use Rattle.go_scopes_bodies.specs.Meant.{Meant, Outer}
 use Rattle.extract_names.specs.Gaps.{Redeclared, Gap, moved_by, Among, IsInRun, Stays}
 use Rattle.extract_names.specs.Sites.{declared_at, found_as, NamedThere, Says, DeclaredStill, DeclaredAgainIn, UsedThere}
 use Rattle.extract_names_derived.specs.Calls.{DeclaresEach, gap_means, gap_text}
+use Rattle.extract_names_derived.specs.Fields.{CallFieldsOnce}
 use Rattle.extract_names_derived.specs.News.{DeriveWithin}
 use Rattle.extract_names_derived.specs.Patches.{EachRun}
 
@@ -34,10 +32,6 @@ abbrev pub CallsAtSites : List TokenKind → List Gap → (Gap → Call) → Tre
 CallsAtSites us gaps calls t [] = Unit {0}
 CallsAtSites us gaps calls t (x ∷ xs) = ((f n : ℕ) (new : Trees) → x.change ≡ items f n new → CallInPlace us gaps calls (site_range t x).from new) × CallsAtSites us gaps calls t xs
 
--- No field stands twice in a type that is written down with the call, wherever its statements stand.
-abbrev pub MembersOnce : Alone → List Gap → (Gap → Call) → Gap → Type 0
-MembersOnce new gaps calls g = (cx : Context) (followed : Bool) → second_members_by (own_text new) [] (told_list cx followed (call_trees (moved_by gaps g.from) (calls g))) ≡ []
-
 -- What is asked of the calls in the place of runs.
 pub record CallsAsked (us : List TokenKind) (a : Alone) (outer : Outer) (gaps : List Gap) (new : Alone) (patch : Patch) (calls : Gap → Call) : Type 0 where
   pub trees : EachRun (CallInPlace us gaps calls) a.tree patch
@@ -45,7 +39,8 @@ pub record CallsAsked (us : List TokenKind) (a : Alone) (outer : Outer) (gaps : 
   pub each : (g : Gap) → Among g gaps
       → DeclaresEach a g (function_events a) (gap_text g (moved_by gaps g.from)) (gap_means g (moved_by gaps g.from)) (moved_by gaps g.from) (moved_by gaps g.from) (calls g).declared
       (calls g).types g.declared (calls g).results (calls g).arguments
-  pub members_once : (g : Gap) → Among g gaps → MembersOnce new gaps calls g
+  -- No field stands twice in a type that is written down with a call.
+  pub fields : (g : Gap) → Among g gaps → CallFieldsOnce (own_text new) (moved_by gaps g.from) (calls g)
   -- Each name of a gap says what it has to.
   pub says : (g : Gap) → Among g gaps → (i : ℕ) (w : List ℕ) → slice_get g.texts i ≡ Some w → (o : Meant) → g.means i ≡ Some o → Says a outer g i w
   -- A local of a run that is named elsewhere is declared in its gap, and none twice.

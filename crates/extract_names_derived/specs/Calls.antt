@@ -14,11 +14,11 @@ use Rattle.go_heads.specs.Functions.{Alone}
 use Rattle.go_heads.specs.Names.{text_there, own_text, own_names}
 use Rattle.go_print_laws.specs.Calls.{Argument, variable, constant, Call, argument_tree, names_end, call_trees}
 use Rattle.go_print_laws.specs.Trees.{type_tree, list_end}
-use Rattle.go_scopes_bodies.specs.Faults.{second_members_by}
 use Rattle.go_scopes_bodies.specs.Meant.{Meant, outside}
 use Rattle.go_types.specs.Trees.{TypeTree, boolean, text, integer, array, slice, structure, function, declared, TypeRow, none, more}
 use Rattle.extract_names.specs.Gaps.{Redeclared, Gap, Among, IsInRun}
 use Rattle.extract_names.specs.Sites.{found_as, IsPlain}
+use Rattle.extract_names_derived.specs.Fields.{CallFieldsOnce}
 use Rattle.extract_names_derived.specs.News.{DeriveWithin}
 use Rattle.extract_names_derived.specs.Sites.{RunStands}
 
@@ -146,9 +146,9 @@ abbrev pub gap_text : Gap → ℕ → ℕ → List ℕ
 gap_text g b i = text_there (slice_get g.texts (i - b))
 
 -- The statements in the place of a run are those of a call, with the variables that are declared in front of it. They are derived over the
--- gap's tokens; what they name has to mean what may be named there, and what they declare are the gap's variables, each one of the run again.
+-- gap's tokens; what they name has to mean what may be named there, and what they declare are the gap's variables, each one of the run again. No field stands twice in their types.
 pub record CallStands (us : List TokenKind) (a new : Alone) (v : ℕ → ℕ) (g : Gap) (old news : List Event) (x : RunStands v g old news) (call : Call) : Type 0 where
   pub trees : x.new ≡ call_trees (v g.from) call
   pub derive : DeriveWithin us (v g.from) (v g.from + length g.texts) x.new
   pub each : DeclaresEach a g old (gap_text g (v g.from)) (gap_means g (v g.from)) (v g.from) (v g.from) call.declared call.types g.declared call.results call.arguments
-  pub members_once : second_members_by (own_text new) [] news ≡ []
+  pub fields : CallFieldsOnce (own_text new) (v g.from) call

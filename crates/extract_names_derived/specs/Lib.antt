@@ -5,6 +5,7 @@ pub mod Sites
 pub mod Copies
 pub mod Holes
 pub mod News
+pub mod Fields
 pub mod Calls
 pub mod CallSites
 pub mod Examples

@@ -1,5 +1,5 @@
 -- A printed function that begins with a copy of a run: what is left to ask of the choice.
-use Rattle.std.specs.Prelude.{◌≡◌, ℕ, ◌<◌, ◌≤◌, ◌⊎◌, true, false, List, []}
+use Rattle.std.specs.Prelude.{◌≡◌, ℕ, ◌<◌, ◌≤◌, ◌⊎◌, true, false, List}
 use Rattle.go_rewriting.specs.Places.{become_all}
 use Rattle.go_tree.specs.declared.context.Entity.TheVariants as entity
 use Rattle.go_tree.specs.declared.context.Manner.TheVariants as manner
@@ -12,7 +12,6 @@ use Rattle.go_heads.specs.Bodies.{function_events}
 use Rattle.go_heads.specs.Functions.{Alone}
 use Rattle.go_heads.specs.Names.{own_text, own_names}
 use Rattle.go_print_laws.specs.Headers.{Header}
-use Rattle.go_scopes_bodies.specs.Faults.{second_members_by}
 use Rattle.go_scopes_bodies.specs.Listed.{told_list}
 use Rattle.go_scopes_bodies.specs.Meant.{Outer}
 use Rattle.extract_names.specs.Copies.{Replaced, Free, Copy, IsIn, IsKept, AllCopied, UsedInCopy, NamesLocal, NamesFree, NamesOuter, is_around}
@@ -21,6 +20,7 @@ use Rattle.extract_names.specs.Pieces.{told_before}
 use Rattle.extract_names.specs.Sites.{found_as, IsNamed}
 use Rattle.extract_names_derived.specs.Copied.{CopyStands, copy_pieces}
 use Rattle.extract_names_derived.specs.Copies.{SplitsAt, PlacesRun}
+use Rattle.extract_names_derived.specs.Fields.{SignatureOnce}
 use Rattle.extract_names_derived.specs.Signatures.{parameter_tokens, SignatureStands, ReturnStands}
 
 -- what the copied run tells of the old function
@@ -39,7 +39,7 @@ pub record IsPrintedCopy (a : Alone) (outer : Outer) (c : Copy) (new : Alone) (s
   pub placed : PlacesRun a new c
   pub close : c.place c.upto ≤ c.close
   pub copied : AllCopied c c.holes (copy_pieces a new c s x)
-  pub members_once : second_members_by (own_text new) [] x.split.head ≡ []
+  pub members : SignatureOnce (own_text new) 2 header
   pub named : (h : Replaced) → Among h c.holes → Among h.parameter c.parameters
   pub fresh : (h : Replaced) → Among h c.holes → (d : Declaration) → Among (event.Declaration d) (copied_run a new c s x) → own_text new h.parameter ≡ own_text a d.name → ⊥
   -- Its parameters are those of the signature, and none is blank.

@@ -29,6 +29,13 @@ ghost use Rattle.extract_names_derived.specs.CallSites.{CallInPlace, CallsAtSite
 ghost use Rattle.extract_names_derived.specs.Copied.{CopyStands, CopyTold};
 ghost use Rattle.extract_names_derived.specs.Copies.{SplitsAt, IsTaken, PlacesRun, RunPlaced};
 ghost use Rattle.extract_names_derived.specs.Examples.{Examples};
+ghost use Rattle.extract_names_derived.specs.Fields.{FieldsOnce};
+ghost use Rattle.go_print_laws.specs.Trees.{type_tree};
+ghost use Rattle.go_scopes_bodies.specs.Faults.{second_members_by};
+ghost use Rattle.go_tree.specs.declared.context.Context.{Context};
+ghost use Rattle.go_tree.specs.declared.context.Role.TheVariants as role;
+ghost use Rattle.go_tree.specs.Events.{events};
+ghost use Rattle.go_types.specs.Trees.{TypeTree};
 ghost use Rattle.extract_names_derived.specs.Functions.{IsDerivedFunction, own_kinds};
 ghost use Rattle.extract_names_derived.specs.News.{AreNewStatements, IsAskedFor, StatementsAsked};
 ghost use Rattle.extract_names_derived.specs.Patches.{EachRun, InLists, ReplaceRuns, PatchesRuns};
@@ -82,6 +89,12 @@ pub fn gaps_tell_one_by_one()
 pub fn statements_tell_their_gap()
     ensures { (us : List TokenKind) (v : ℕ → ℕ) (g : Gap) (old news : List Event) (x : RunStands v g old news) (a new : Alone) → v g.from + length g.texts ≤ v x.context.end → StatementsAsked us a new v g old news x
         → GapTells a new v g old news }
+{}
+
+/// Where no field of a struct type is blank or stands twice, none does in what a printed type tells, wherever it stands (Go specification:
+/// Struct types).
+pub fn printed_types_tell_members_once()
+    ensures { (w : ℕ → List ℕ) (c : Context) (i : ℕ) (t : TypeTree) → c.role ≡ role.Operand → FieldsOnce w i t → second_members_by w [] (events c (type_tree i t)) ≡ [] }
 {}
 
 /// The statements of a call, with the variables that are declared in front of it, tell what is asked where they stand in the place of a run:
