@@ -15,3 +15,4 @@ mod Keeping
 mod Signed
 mod Unchanged
 mod Surrounding
+mod Closing

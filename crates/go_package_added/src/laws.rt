@@ -9,6 +9,7 @@ ghost use Rattle.go_tree.specs.Uses.{object_of, uses};
 ghost use Rattle.go_types.specs.Relations.{Rights};
 ghost use Rattle.go_package_defs.specs.Checked.{surroundings_of};
 ghost use Rattle.go_heads_added.specs.Kept.{KeepsPackage};
+ghost use Rattle.go_package_added.specs.Closed.{DeclaresShared, NamesAreShared, NeedsStayShared};
 ghost use Rattle.go_package_added.specs.Unchanged.{StaysTyped};
 ghost use Rattle.go_exprs_rules.specs.Sorts.{Stands};
 ghost use Rattle.go_heads_added.specs.Added.{Gap, NoneSays, shifted};
@@ -17,7 +18,7 @@ ghost use Rattle.go_package_defs.specs.Declarations.{Specification};
 ghost use Rattle.go_package_defs.specs.Knowledge.{outlines};
 ghost use Rattle.go_package_defs.specs.Sources.{Package, Source, rounds, text_at, unit_of};
 ghost use Rattle.go_package_defs.specs.Verdicts.{known};
-ghost use Rattle.go_package_added.specs.Appended.{AnswersWith, FitsNames, IsAppended, function_name, package_in};
+ghost use Rattle.go_package_added.specs.Appended.{AnswersWith, AreClosed, FitsNames, IsAppended, IsClosed, function_name, package_in};
 ghost use Rattle.go_package_added.specs.Examples.{ClosedExamples, Examples};
 ghost use Rattle.go_package_settled.specs.Read.{IsFaultless};
 ghost use Rattle.go_package_added.specs.OneMore.{IsOneMore, IsSignature, IsSignatureBefore, MaybeReadAt, Settles, with_function};
@@ -66,6 +67,13 @@ pub fn signatures_follow_from_their_names()
     trees_spelled_the_same_keep_it();
     expressions_follow_from_their_tokens();
 }
+
+/// Where the declarations of the package block need no others at once, as many rounds as there are of them, twice, find all that they need.
+pub fn shared_needs_are_closed()
+    ensures token { (ss : List Source) → NeedsStayShared (map unit_of ss) → (m t : ℕ) → DeclaresShared (map unit_of ss) m t → IsClosed (package_in ss) m t }
+    ensures all { (ss : List Source) → NeedsStayShared (map unit_of ss) → NamesAreShared (map unit_of ss) (specifications 0 ss)
+        → AreClosed (package_in ss) (specifications 0 ss) }
+{}
 
 /// Behind a function with an empty body that is appended to a file, and whose name no token says, the declarations of a package without faults
 /// of names need what they needed; and if it is closed and has an answer, the longer package has it too, with the function's type at its
