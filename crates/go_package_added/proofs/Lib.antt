@@ -16,3 +16,4 @@ mod Signed
 mod Unchanged
 mod Surrounding
 mod Closing
+mod Shared

@@ -30,6 +30,7 @@ use go_heads_added::laws::{
 };
 use go_package_alike::laws::expressions_follow_from_their_tokens;
 use go_package_settled::laws::faultless_packages_settle;
+use go_scopes_events::laws::files_are_orderly;
 use go_stmts_elsewhere::laws::functions_are_typed_elsewhere;
 
 /// Worked examples: the package of two functions with a third, at the end of its one file and of the first of two; and a package that is
@@ -66,6 +67,13 @@ pub fn signatures_follow_from_their_names()
     expressions_are_typed_elsewhere();
     trees_spelled_the_same_keep_it();
     expressions_follow_from_their_tokens();
+}
+
+/// The tokens that declare the objects of a package without faults of names declare nothing else (Go specification: Declarations and scope).
+pub fn objects_are_declared_once()
+    ensures { (ss : List Source) → IsFaultless ss → AllByRecursion (λ d. DeclaresShared (map unit_of ss) d.file d.name) (uses (map unit_of ss)).package_level }
+{
+    files_are_orderly();
 }
 
 /// Where the declarations of the package block need no others at once, as many rounds as there are of them, twice, find all that they need.
