@@ -7,16 +7,14 @@ use Rattle.go_tree.specs.Declarations.{Found, declarations, found}
 use Rattle.go_tree.specs.Lookups.{Asked}
 use Rattle.go_tree.specs.Needs.{Needed, is_same, same_way, is_known, with_one, with_all, needs, needs_of, all_needed}
 use Rattle.go_tree.specs.Units as names
-use Rattle.go_tree.specs.Uses.{declared_by, declared_in_package}
+use Rattle.go_tree.specs.Uses.{declared_by, declared_in_package, uses}
 use Rattle.go_scopes_cycles.proofs.Public.{AllKnown, all_same, each_known, itself, known_all, or_last, there_all}
 use Rattle.go_heads_added.specs.Kept.{looked_up}
 use Rattle.go_package_defs.specs.Sources.{Source, Package, unit_of, needed_numbers, rounds, declared_at, needed_from}
 use Rattle.go_tree.specs.declared.object.Declared.{Declared}
-use Rattle.go_package_defs.specs.Declarations.{Specification}
-use Rattle.go_package_defs.specs.Verdicts.{first_name}
 use Rattle.go_package_settled.specs.Resolved.{IsIn, package_declarations}
 use Rattle.go_package_added.specs.Appended.{AreClosed, IsClosed, further_from, package_in}
-use Rattle.go_package_added.specs.Closed.{IsShared, in_column, NeedsStayShared, DeclaresShared, NamesAreShared}
+use Rattle.go_package_added.specs.Closed.{IsShared, in_column, NeedsStayShared, DeclaresShared}
 
 -- ---- what is not known yet
 
@@ -241,8 +239,5 @@ module _ (ss : List Source) (stay : NeedsStayShared (map unit_of ss)) where
   each_closed file name [] h = tt
   each_closed file name (x ∷ xs) h = (closed_at (file x) (name x) h.0, each_closed file name xs h.1)
 
-  pub all_closed : (ds : List Specification) → NamesAreShared us ds → AreClosed p ds
-  all_closed ds h = record {
-    objects = each_closed (λ (d : Declared). d.file) (λ (d : Declared). d.name) p.uses.package_level h.objects;
-    names = each_closed (λ (d : Specification). d.file) (λ (d : Specification). first_name d.names) ds h.names;
-  }
+  pub all_closed : AllByRecursion (λ d. DeclaresShared us d.file d.name) (uses us).package_level → AreClosed p
+  all_closed h = each_closed (λ (d : Declared). d.file) (λ (d : Declared). d.name) p.uses.package_level h

@@ -6,10 +6,7 @@ use Rattle.go_tree.specs.Declarations.{Found, declarations, found}
 use Rattle.go_tree.specs.Needs.{Needed, needs}
 use Rattle.go_tree.specs.Units.{Unit}
 use Rattle.go_heads_added.specs.Kept.{looked_up}
-use Rattle.go_tree.specs.Uses.{uses}
-use Rattle.go_package_defs.specs.Declarations.{Specification}
 use Rattle.go_package_defs.specs.Sources.{declared_at}
-use Rattle.go_package_defs.specs.Verdicts.{first_name}
 use Rattle.go_package_settled.specs.Resolved.{IsIn, package_declarations}
 
 -- what is needed is declared in the package block
@@ -29,8 +26,3 @@ pub record NeedsStayShared (us : List Unit) : Type 0 where
 -- the token declares nothing but in the package block
 abbrev pub DeclaresShared : List Unit → ℕ → ℕ → Type 0
 DeclaresShared us m t = (d : Found) → declared_at m t (found us) ≡ Some d → is_package d.it.block ≡ true
-
--- So do the names of the objects of the package, and the first names of its specifications.
-pub record NamesAreShared (us : List Unit) (ds : List Specification) : Type 0 where
-  pub objects : AllByRecursion (λ d. DeclaresShared us d.file d.name) (uses us).package_level
-  pub names : AllByRecursion (λ d. DeclaresShared us d.file (first_name d.names)) ds

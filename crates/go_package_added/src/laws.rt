@@ -9,7 +9,7 @@ ghost use Rattle.go_tree.specs.Uses.{object_of, uses};
 ghost use Rattle.go_types.specs.Relations.{Rights};
 ghost use Rattle.go_package_defs.specs.Checked.{surroundings_of};
 ghost use Rattle.go_heads_added.specs.Kept.{KeepsPackage};
-ghost use Rattle.go_package_added.specs.Closed.{DeclaresShared, NamesAreShared, NeedsStayShared};
+ghost use Rattle.go_package_added.specs.Closed.{DeclaresShared, NeedsStayShared};
 ghost use Rattle.go_package_added.specs.Unchanged.{StaysTyped};
 ghost use Rattle.go_exprs_rules.specs.Sorts.{Stands};
 ghost use Rattle.go_heads_added.specs.Added.{Gap, NoneSays, shifted};
@@ -79,9 +79,10 @@ pub fn objects_are_declared_once()
 /// Where the declarations of the package block need no others at once, as many rounds as there are of them, twice, find all that they need.
 pub fn shared_needs_are_closed()
     ensures token { (ss : List Source) → NeedsStayShared (map unit_of ss) → (m t : ℕ) → DeclaresShared (map unit_of ss) m t → IsClosed (package_in ss) m t }
-    ensures all { (ss : List Source) → NeedsStayShared (map unit_of ss) → NamesAreShared (map unit_of ss) (specifications 0 ss)
-        → AreClosed (package_in ss) (specifications 0 ss) }
-{}
+    ensures all { (ss : List Source) → IsFaultless ss → NeedsStayShared (map unit_of ss) → AreClosed (package_in ss) }
+{
+    objects_are_declared_once();
+}
 
 /// Behind a function with an empty body that is appended to a file, and whose name no token says, the declarations of a package without faults
 /// of names need what they needed; and if it is closed and has an answer, the longer package has it too, with the function's type at its
