@@ -1,8 +1,7 @@
 -- The answer of a package with one function more.
-use Rattle.std.proofs.Common.{◌≡◌, ◌∙◌, ℕ, zero, suc, ◌+◌, ◌≤◌, Bool, true, false, ◌&&◌, ◌||◌, List, [], ◌∷◌, ◌++◌, length, map, Option, Some, None, refl, sym, ap, subst, arith}
-use Rattle.std.specs.Prelude.{not, if◌then◌else◌, slice_get, Ok}
-use Rattle.std.specs.Option.{option_map}
-use Rattle.std.specs.List.{AllByRecursion, list_any}
+use Rattle.std.proofs.Common.{◌≡◌, ◌∙◌, ℕ, zero, suc, ◌+◌, ◌≤◌, Bool, true, false, ◌&&◌, List, [], ◌∷◌, ◌++◌, length, map, Some, None, refl, sym, ap, arith}
+use Rattle.std.specs.Prelude.{not, if◌then◌else◌, Ok}
+use Rattle.std.specs.List.{AllByRecursion}
 use Rattle.go_tree.specs.declared.context.Entity.{Entity}
 use Rattle.go_tree.specs.declared.context.Entity.TheVariants as entity
 use Rattle.go_tree.specs.declared.object.Declared.{Declared}
@@ -15,13 +14,13 @@ use Rattle.go_package_defs.specs.Answer.{Environment, failures_at, is_procedure,
 use Rattle.go_package_defs.specs.Declarations.{Specification}
 use Rattle.go_package_defs.specs.Knowledge.{Outline, outlines, State, state_of, passes, is_sound, free_scope, rights_of}
 use Rattle.go_package_defs.specs.Sources.{Package, rounds}
-use Rattle.go_package_defs.specs.Verdicts.{known, own_faults, value_state, state_by, type_faults, expression_faults, specification_rule, specification_failing, typed_type, typed_values, needed_by_all, numbers_of, is_in, needs_one, blocks, is_blocked, rule_unless, specification_faults_on, specification_faults, unblocked_faults_on, unblocked_faults, values_faults, value_hint, faults_in, own_value}
+use Rattle.go_package_defs.specs.Verdicts.{known, own_faults, value_state, state_by, type_faults, expression_faults, specification_rule, specification_failing, typed_type, typed_values, is_blocked, rule_unless, specification_faults_on, specification_faults, unblocked_faults_on, unblocked_faults, values_faults, value_hint, faults_in, own_value}
 use Rattle.go_exprs_rules.specs.TypeNodes.{part_type}
 use Rattle.go_heads_added.specs.Added.{Gap, beyond}
-use Rattle.go_package_added.specs.OneMore.{inserted, all_beyond, outline_beyond, IsKept, IsOneMore, IsSignature, Settles, function_state, with_function}
-use Rattle.go_package_added.proofs.Inserted.{in_beyond, any_beyond, map_inserted, length_inserted, mapped_count}
+use Rattle.go_package_added.specs.OneMore.{inserted, outline_beyond, IsKept, IsOneMore, IsSignature, Settles, function_state, with_function}
+use Rattle.go_package_added.proofs.Inserted.{map_inserted, length_inserted, mapped_count}
 use Rattle.go_package_added.proofs.Judged.{IsTypedAnew, expressions_anew, rule_anew}
-use Rattle.go_package_added.proofs.Scopes.{MovesTyped, KeepsWords, FollowsTokens, scopes_anew, rights_same, state_beyond, outline_there, passes_beyond}
+use Rattle.go_package_added.proofs.Scopes.{MovesTyped, KeepsWords, FollowsTokens, scopes_anew, rights_same, state_beyond, passes_beyond}
 use Rattle.go_package_added.proofs.Rounds.{in_front, behind_it, function_known, known_with, long_enough}
 
 -- ---- lists of failures
@@ -47,11 +46,62 @@ both_none p q m n us xs fs gs e h =
 skip_none : (q : Package) (n : ℕ) (us : List TypeFault) (fs : List Failure) → us ≡ [] → none_of (failures_at q n us ++ fs) ≡ none_of fs
 skip_none q n us fs e = ap (λ zs. none_of (failures_at q n zs ++ fs)) e
 
-else_none : (us vs fs gs : List Failure) → none_of us ≡ none_of fs → none_of vs ≡ none_of gs → none_of (or_else us vs) ≡ none_of (or_else fs gs)
-else_none [] vs [] gs e h = h
-else_none [] vs (f ∷ fs) gs e h = cc
-else_none (u ∷ us) vs [] gs e h = cc
-else_none (u ∷ us) vs (f ∷ fs) gs e h = refl
+or_none : (fs gs : List Failure) → none_of (or_else fs gs) ≡ (none_of fs && none_of gs)
+or_none [] gs = refl
+or_none (f ∷ fs) gs = refl
+
+false_true : {A : Type 0} → false ≡ true → A
+false_true e = cc
+
+exchange : (a h m : Bool) → (a ≡ true → m ≡ true) → (h ≡ true → m ≡ true → a ≡ true) → (a && h) ≡ (h && m)
+exchange true true m f g = sym (f refl)
+exchange true false m f g = refl
+exchange false true true f g = g refl refl
+exchange false true false f g = refl
+exchange false false m f g = refl
+
+both_left : (a b : Bool) → (a && b) ≡ true → a ≡ true
+both_left true b e = refl
+both_left false b e = e
+
+both_right : (a b : Bool) → (a && b) ≡ true → b ≡ true
+both_right true b e = e
+both_right false b e = false_true e
+
+-- No rule fails in a package where none fails at its specifications, blocked or not, and at `main`.
+module _ (r : Package) (os : List Outline) (zs : List State) where
+  rule_none : (b : Bool) (fs : List TypeFault) → no_faults fs ≡ true → no_faults (rule_unless b fs) ≡ true
+  rule_none true fs e = refl
+  rule_none false fs e = e
+
+  on_none : (d : Specification) (fs : List TypeFault) → no_faults (unblocked_faults_on (free_scope r os zs d) d fs) ≡ true → no_faults (specification_faults_on r os zs (free_scope r os zs d) d fs) ≡ true
+  on_none d [] e = rule_none (is_blocked r os zs d) (specification_rule (free_scope r os zs d) d) e
+  on_none d (f ∷ fs) e = e
+
+  abbrev mains : List Failure
+  mains = mains_from r os zs 0 r.uses.package_level
+
+  all_none : (us : List Specification) → none_of (hidden_failures r os zs us) ≡ true → none_of mains ≡ true → none_of (all_failures r os zs us) ≡ true
+  all_none [] e m = m
+  all_none (u ∷ us) e m =
+      let here = failures_at r u.file (unblocked_faults r os zs u) in
+      let parts = sym (append_none here (hidden_failures r os zs us)) ∙ e in
+      let own = sym (placed_none r u.file (unblocked_faults r os zs u)) ∙ both_left (none_of here) (none_of (hidden_failures r os zs us)) parts in
+      let rest = both_right (none_of here) (none_of (hidden_failures r os zs us)) parts in
+      append_none (failures_at r u.file (specification_faults r os zs u)) (all_failures r os zs us)
+      ∙ ap (λ b. b && none_of (all_failures r os zs us)) (placed_none r u.file (specification_faults r os zs u) ∙ on_none u (expression_faults (free_scope r os zs u) u) own)
+      ∙ all_none us rest m
+
+  mains_none : (us : List Specification) → none_of (all_failures r os zs us) ≡ true → none_of mains ≡ true
+  mains_none [] e = e
+  mains_none (u ∷ us) e =
+      let here = failures_at r u.file (specification_faults r os zs u) in
+      mains_none us (both_right (none_of here) (none_of (all_failures r os zs us)) (sym (append_none here (all_failures r os zs us)) ∙ e))
+
+  whole_none : (us : List Specification) → none_of (package_failures r os zs us) ≡ (none_of (hidden_failures r os zs us) && none_of mains)
+  whole_none us =
+      or_none (all_failures r os zs us) (hidden_failures r os zs us)
+      ∙ exchange (none_of (all_failures r os zs us)) (none_of (hidden_failures r os zs us)) (none_of mains) (mains_none us) (all_none us)
 
 never_answered : (f : Failure) (fs : List Failure) (x z : Environment) → unless (least_from (Some f) fs) x ≡ Ok z → ⊥
 never_answered f [] x z e = cc
@@ -104,57 +154,15 @@ module _ (moves : MovesTyped) (keeps : KeepsWords) (follows : FollowsTokens) (p 
     abbrev ts : List State
     ts = inserted g.shared y ss
 
-    one_needed : (own : List ℕ) (o : Option Outline) → ((z : Outline) → o ≡ Some z → IsKept p q g z.specification)
-        → needs_one q (all_beyond g.shared own) (option_map (outline_beyond g.shared) o) ≡ needs_one p own o
-    one_needed own None k = refl
-    one_needed own (Some z) k =
-        ap (list_any (is_in (all_beyond g.shared own))) ((k z refl).needed)
-        ∙ any_beyond g.shared (is_in own) (is_in (all_beyond g.shared own)) (in_beyond g.shared own) (needed_by_all p z.specification)
-
-    kept_there : (us : List Outline) (n : ℕ) (z : Outline) → AllByRecursion (λ o. IsKept p q g o.specification) us → slice_get us n ≡ Some z → IsKept p q g z.specification
-    kept_there [] n z k e = absurd (impossible_there n e)
-      where
-        impossible_there : (i : ℕ) → slice_get [] i ≡ Some z → ⊥
-        impossible_there i e = cc
-    kept_there (u ∷ us) zero z k e = subst (λ o. IsKept p q g o.specification) (same_there e) k.0
-      where
-        same_there : Some u ≡ Some z → u ≡ z
-        same_there e = cc
-    kept_there (u ∷ us) (suc n) z k e = kept_there us n z k.1 e
-
-    blocks_same : (own : List ℕ) (n : ℕ) → blocks q os ts (all_beyond g.shared own) (beyond g.shared n) ≡ blocks p xs ss own n
-    blocks_same own n =
-        ap (λ b. not b && (not (no_faults (state_of ts (beyond g.shared n)).faults) || (not (no_faults (state_of ts (beyond g.shared n)).assigning) && not (needs_one q (all_beyond g.shared own) (slice_get os (beyond g.shared n))))))
-        (in_beyond g.shared own n)
-        ∙ ap (λ (s : State). not (is_in own n) && (not (no_faults s.faults) || (not (no_faults s.assigning) && not (needs_one q (all_beyond g.shared own) (slice_get os (beyond g.shared n))))))
-        (state_beyond g.shared h.function xs inside y ss as_many n)
-        ∙ ap (λ o. not (is_in own n) && (not (no_faults (state_of ss n).faults) || (not (no_faults (state_of ss n).assigning) && not (needs_one q (all_beyond g.shared own) o))))
-        (outline_there g.shared h.function xs inside y ss as_many n)
-        ∙ ap (λ b. not (is_in own n) && (not (no_faults (state_of ss n).faults) || (not (no_faults (state_of ss n).assigning) && not b)))
-        (one_needed own (slice_get xs n) (λ z e. kept_there xs n z h.outlines_kept e))
-
     module _ (d : Specification) (k : IsKept p q g d) where
       anew : IsTypedAnew g k.test (free_scope p xs ss d) (free_scope q os ts d)
       anew = scopes_anew moves keeps follows p q ds es g h inside y ss as_many is_sound true d k
-
-      blocked_same : is_blocked q os ts d ≡ is_blocked p xs ss d
-      blocked_same =
-          ap (λ own. list_any (blocks q os ts own) (needed_by_all q d)) k.numbers
-          ∙ ap (list_any (blocks q os ts (all_beyond g.shared (numbers_of p d.file d.names)))) k.needed
-          ∙ any_beyond g.shared (blocks p xs ss (numbers_of p d.file d.names)) (blocks q os ts (all_beyond g.shared (numbers_of p d.file d.names))) (blocks_same (numbers_of p d.file d.names)) (needed_by_all p d)
 
       expressions_same : expression_faults (free_scope q os ts d) d ≡ expression_faults (free_scope p xs ss d) d
       expressions_same = expressions_anew g k.test (free_scope p xs ss d) (free_scope q os ts d) anew d k.type_read k.values_read
 
       rule_same : specification_rule (free_scope q os ts d) d ≡ specification_rule (free_scope p xs ss d) d
       rule_same = rule_anew g k.test (free_scope p xs ss d) (free_scope q os ts d) anew d k.type_read k.values_read
-
-      on_same : (fs : List TypeFault) → specification_faults_on q os ts (free_scope q os ts d) d fs ≡ specification_faults_on p xs ss (free_scope p xs ss d) d fs
-      on_same [] = ap (λ b. rule_unless b (specification_rule (free_scope q os ts d) d)) blocked_same ∙ ap (rule_unless (is_blocked p xs ss d)) rule_same
-      on_same (f ∷ fs) = refl
-
-      specification_same : specification_faults q os ts d ≡ specification_faults p xs ss d
-      specification_same = ap (specification_faults_on q os ts (free_scope q os ts d) d) expressions_same ∙ on_same (expression_faults (free_scope p xs ss d) d)
 
       unblocked_on_same : (fs : List TypeFault) → unblocked_faults_on (free_scope q os ts d) d fs ≡ unblocked_faults_on (free_scope p xs ss d) d fs
       unblocked_on_same [] = rule_same
@@ -185,13 +193,6 @@ module _ (moves : MovesTyped) (keeps : KeepsWords) (follows : FollowsTokens) (p 
 
       no_rule : specification_rule around f ≡ []
       no_rule = ap (λ e. specification_failing e around.rights f (part_type (typed_type around f)) (typed_values around f)) h.is_function
-
-      unless_none : (b : Bool) (fs : List TypeFault) → fs ≡ [] → rule_unless b fs ≡ []
-      unless_none true fs e = refl
-      unless_none false fs e = e
-
-      function_fine : specification_faults q os ts f ≡ []
-      function_fine = ap (specification_faults_on q os ts around f) sound ∙ unless_none (is_blocked q os ts f) (specification_rule around f) no_rule
 
       function_unblocked : unblocked_faults q os ts f ≡ []
       function_unblocked = ap (unblocked_faults_on around f) sound ∙ no_rule
@@ -248,17 +249,6 @@ module _ (moves : MovesTyped) (keeps : KeepsWords) (follows : FollowsTokens) (p 
 
       -- ---- all of it
 
-      all_rest : (us : List Specification) → AllByRecursion (IsKept p q g) us → none_of (all_failures q os ts us) ≡ none_of (all_failures p xs ss us)
-      all_rest [] k = mains_same
-      all_rest (u ∷ us) k =
-          both_none p q u.file u.file (specification_faults q os ts u) (specification_faults p xs ss u) (all_failures q os ts us) (all_failures p xs ss us) (ap no_faults (specification_same u k.0)) (all_rest us k.1)
-
-      all_front : (us vs : List Specification) → AllByRecursion (IsKept p q g) us → AllByRecursion (IsKept p q g) vs → none_of (all_failures q os ts (us ++ f ∷ vs)) ≡ none_of (all_failures p xs ss (us ++ vs))
-      all_front [] vs k l = skip_none q f.file (specification_faults q os ts f) (all_failures q os ts vs) function_fine ∙ all_rest vs l
-      all_front (u ∷ us) vs k l =
-          both_none p q u.file u.file (specification_faults q os ts u) (specification_faults p xs ss u) (all_failures q os ts (us ++ f ∷ vs)) (all_failures p xs ss (us ++ vs))
-          (ap no_faults (specification_same u k.0)) (all_front us vs k.1 l)
-
       hidden_rest : (us : List Specification) → AllByRecursion (IsKept p q g) us → none_of (hidden_failures q os ts us) ≡ none_of (hidden_failures p xs ss us)
       hidden_rest [] k = refl
       hidden_rest (u ∷ us) k =
@@ -272,10 +262,10 @@ module _ (moves : MovesTyped) (keeps : KeepsWords) (follows : FollowsTokens) (p 
 
       failures_same : none_of (package_failures q os ts es) ≡ none_of (package_failures p xs ss ds)
       failures_same =
-          ap (λ us. none_of (package_failures q os ts us)) h.are
-          ∙ else_none (all_failures q os ts (h.front ++ f ∷ h.rest)) (hidden_failures q os ts (h.front ++ f ∷ h.rest)) (all_failures p xs ss (h.front ++ h.rest)) (hidden_failures p xs ss (h.front ++ h.rest))
-          (all_front h.front h.rest h.front_kept h.rest_kept) (hidden_front h.front h.rest h.front_kept h.rest_kept)
-          ∙ ap (λ us. none_of (package_failures p xs ss us)) (sym h.were)
+          whole_none q os ts es ∙ ap (λ us. none_of (hidden_failures q os ts us) && none_of (mains_from q os ts 0 q.uses.package_level)) h.are
+          ∙ ap (λ b. b && none_of (mains_from q os ts 0 q.uses.package_level)) (hidden_front h.front h.rest h.front_kept h.rest_kept)
+          ∙ ap (λ b. none_of (hidden_failures p xs ss (h.front ++ h.rest)) && b) mains_same
+          ∙ ap (λ us. none_of (hidden_failures p xs ss us) && none_of (mains_from p xs ss 0 p.uses.package_level)) (sym h.were) ∙ sym (whole_none p xs ss ds)
 
     environment_same : environment_of q ts ≡ with_function g.shared y.stands (environment_of p ss)
     environment_same =

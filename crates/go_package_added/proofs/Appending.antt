@@ -25,7 +25,6 @@ use Rattle.go_package_defs.specs.Answer.{is_main, is_main_package, specification
 use Rattle.go_package_defs.specs.Declarations.{Specification, declarations}
 use Rattle.go_package_defs.specs.Knowledge.{Outline, outlines, declaring, outline_by, referent_at}
 use Rattle.go_package_defs.specs.Sources.{Source, Package, unit_of, text_at, tokens_there, needed_at, rounds}
-use Rattle.go_package_defs.specs.Verdicts.{first_name}
 use Rattle.go_heads_added.specs.Added.{Stands, beyond, longer_declared, shifted}
 use Rattle.go_heads_added.specs.Appended.{IsFront}
 use Rattle.go_heads_added.specs.Kept.{KeepsPackage, StandsInFront}
@@ -33,7 +32,7 @@ use Rattle.go_heads_added.proofs.Public.{clause_behind}
 use Rattle.go_package_settled.specs.Read.{IsFaultless}
 use Rattle.go_package_added.specs.Appended.{IsAppended, AreClosed, IsClosed, function_name, function_specification, package_in, outlines_in, found_in}
 use Rattle.go_package_added.specs.OneMore.{inserted, all_beyond, outline_beyond, IsOneMore, IsSignature, IsSignatureBefore, MaybeReadAt, function_moves}
-use Rattle.go_package_added.proofs.Inserted.{front_of, mapped_count, rest_of}
+use Rattle.go_package_added.proofs.Inserted.{mapped_count}
 use Rattle.go_package_added.proofs.Needing.{needed_kept}
 use Rattle.go_package_added.proofs.Numbered.{referents_beyond}
 use Rattle.go_package_added.proofs.Outlined.{KeepsTokens, all_kept, outlines_kept, declaring_skips, not_here, function_declared, put_in}
@@ -199,7 +198,6 @@ module _ (k : ℕ) (ss us : List Source) (h : IsAppended k ss us) (keeps : Keeps
 
   tokens_kept : KeepsTokens k n p q keeps.gap
   tokens_kept = record {
-    clause = clause;
     texts = texts;
     objects = keeps.objects.objects;
     needed = λ m t s z c full. needed_kept k n keeps.end ss us keeps.gap keeps.needs keeps.objects.objects two_more m t s z c full;
@@ -236,7 +234,7 @@ module _ (k : ℕ) (ss us : List Source) (h : IsAppended k ss us) (keeps : Keeps
   referents_same =
       referents_beyond k keeps.end keeps.gap keeps.declared.function keeps.entity p q keeps.declared.first keeps.declared.second keeps.declared.were keeps.declared.are keeps.declared.place inside keeps.functions
 
-  module _ (closed : AreClosed p ds) (other : same_text (function_name k ss us h) (codes "main") ≡ false) where
+  module _ (closed : AreClosed p) (other : same_text (function_name k ss us h) (codes "main") ≡ false) where
     -- ---- outlines
 
     abbrev was_outline : Declared → Outline
@@ -267,7 +265,7 @@ module _ (k : ℕ) (ss us : List Source) (h : IsAppended k ss us) (keeps : Keeps
         ∙ function_declared k n (suc h.first) (let l = h.later in omega (arith, l)) f refl refl front rest placed_front)
 
     closed_level : AllByRecursion (λ d. IsClosed p d.file d.name) (keeps.declared.first ++ keeps.declared.second)
-    closed_level = subst (AllByRecursion (λ d. IsClosed p d.file d.name)) keeps.declared.were closed.objects
+    closed_level = subst (AllByRecursion (λ d. IsClosed p d.file d.name)) keeps.declared.were closed
 
     outlined : outlines q es ≡ inserted a function_outline (map (outline_beyond a) (outlines p ds))
     outlined =
@@ -275,9 +273,6 @@ module _ (k : ℕ) (ss us : List Source) (h : IsAppended k ss us) (keeps : Keeps
         ∙ put_in to (λ d. outline_beyond a (was_outline d)) is_outline keeps.declared.function function_outline keeps.declared.first keeps.declared.second a keeps.declared.place function_same
         (both_each (StandsThere k n) (λ d. IsClosed p d.file d.name) (λ d. is_outline (to d) ≡ outline_beyond a (was_outline d)) outline_same (keeps.declared.first ++ keeps.declared.second) both_level closed_level)
         ∙ ap (inserted a function_outline) (map_twice (outline_beyond a) was_outline (keeps.declared.first ++ keeps.declared.second) ∙ ap (λ l. map (outline_beyond a) (map was_outline l)) (sym keeps.declared.were))
-
-    closed_names : AllByRecursion (λ d. IsClosed p d.file (first_name d.names)) (front ++ rest)
-    closed_names = subst (AllByRecursion (λ d. IsClosed p d.file (first_name d.names))) were closed.names
 
     entities : map (λ (d : Declared). d.entity) q.uses.package_level ≡ inserted a entity.Function (map (λ (d : Declared). d.entity) p.uses.package_level)
     entities =
@@ -304,13 +299,13 @@ module _ (k : ℕ) (ss us : List Source) (h : IsAppended k ss us) (keeps : Keeps
       no_values = refl;
       outlined = outlined;
       outlines_kept = outlines_kept k n p q keeps.gap tokens_kept ds
-          (subst (AllByRecursion _) (sym were) (all_kept k n p q keeps.gap tokens_kept (front ++ rest) (both_of 0 (IsPlaced k n) front rest placed_front placed_rest) closed_names));
+          (subst (AllByRecursion _) (sym were) (all_kept k n p q keeps.gap tokens_kept (front ++ rest) (both_of 0 (IsPlaced k n) front rest placed_front placed_rest)));
       front = front;
       rest = rest;
       were = were;
       are = are;
-      front_kept = all_kept k n p q keeps.gap tokens_kept front placed_front (front_of (λ d. IsClosed p d.file (first_name d.names)) front rest closed_names);
-      rest_kept = all_kept k n p q keeps.gap tokens_kept rest placed_rest (rest_of (λ d. IsClosed p d.file (first_name d.names)) front rest closed_names);
+      front_kept = all_kept k n p q keeps.gap tokens_kept front placed_front;
+      rest_kept = all_kept k n p q keeps.gap tokens_kept rest placed_rest;
     }
 
     -- the function that it has is the appended one

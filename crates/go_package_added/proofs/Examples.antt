@@ -32,4 +32,4 @@ function_closed c false = refl
 
 pub closed : ClosedExamples
 unfolding is_digit_of letter_base encode_utf8 chars span known_names unknown_names
-closed = record { recursive = record { objects = (type_closed, (function_closed, tt)); names = (type_closed, (function_closed, tt)) } }
+closed = record { recursive = (type_closed, (function_closed, tt)) }

@@ -1,11 +1,10 @@
 -- Lists with one element put in, and the numbers of the others.
-use Rattle.std.proofs.Common.{◌≡◌, ◌∙◌, ℕ, zero, suc, ◌≤◌, Bool, true, false, ◌||◌, List, [], ◌∷◌, ◌++◌, length, map, Some, refl, sym, ap, arith}
-use Rattle.std.specs.Prelude.{if◌then◌else◌, nat_eq, nat_lt, slice_get}
-use Rattle.std.specs.List.{AllByRecursion, list_any}
+use Rattle.std.proofs.Common.{◌≡◌, ◌∙◌, ℕ, zero, suc, ◌≤◌, Bool, true, false, List, [], ◌∷◌, ◌++◌, length, map, Some, refl, ap, arith}
+use Rattle.std.specs.Prelude.{if◌then◌else◌, nat_lt, slice_get}
+use Rattle.std.specs.List.{AllByRecursion}
 use Rattle.std.proofs.lemmas.Bool.Decides.{nat_tests}
 use Rattle.go_heads_added.specs.Added.{beyond}
-use Rattle.go_package_defs.specs.Verdicts.{is_in}
-use Rattle.go_package_added.specs.OneMore.{inserted, all_beyond}
+use Rattle.go_package_added.specs.OneMore.{inserted}
 
 -- ---- numbers
 
@@ -21,33 +20,6 @@ beyond_suc a n = ap (λ b. if b then suc n else suc (suc n)) (let z : nat_lt (su
     by : (b : Bool) → (if b then suc n else suc (suc n)) ≡ suc (if b then n else suc n)
     by true = refl
     by false = refl
-
-same_suc : (m n : ℕ) → nat_eq (suc m) (suc n) ≡ nat_eq m n
-same_suc m n = grind (arith, nat_tests)
-
-apart_zero : (n : ℕ) → nat_eq zero (suc n) ≡ false
-apart_zero n = grind (arith, nat_tests)
-
-apart_suc : (n : ℕ) → nat_eq (suc n) zero ≡ false
-apart_suc n = grind (arith, nat_tests)
-
-pub beyond_same : (a m n : ℕ) → nat_eq (beyond a m) (beyond a n) ≡ nat_eq m n
-beyond_same zero m n = ap (λ k. nat_eq k (beyond zero n)) (beyond_first m) ∙ ap (nat_eq (suc m)) (beyond_first n) ∙ same_suc m n
-beyond_same (suc a) zero zero = ap (λ k. nat_eq k k) (beyond_zero a)
-beyond_same (suc a) zero (suc n) =
-    ap (λ k. nat_eq k (beyond (suc a) (suc n))) (beyond_zero a) ∙ ap (nat_eq zero) (beyond_suc a n) ∙ apart_zero (beyond a n) ∙ sym (apart_zero n)
-beyond_same (suc a) (suc m) zero =
-    ap (λ k. nat_eq k (beyond (suc a) zero)) (beyond_suc a m) ∙ ap (nat_eq (suc (beyond a m))) (beyond_zero a) ∙ apart_suc (beyond a m) ∙ sym (apart_suc m)
-beyond_same (suc a) (suc m) (suc n) =
-    ap (λ k. nat_eq k (beyond (suc a) (suc n))) (beyond_suc a m) ∙ ap (nat_eq (suc (beyond a m))) (beyond_suc a n) ∙ same_suc (beyond a m) (beyond a n) ∙ beyond_same a m n ∙ sym (same_suc m n)
-
-pub in_beyond : (a : ℕ) (ns : List ℕ) (n : ℕ) → is_in (all_beyond a ns) (beyond a n) ≡ is_in ns n
-in_beyond a [] n = refl
-in_beyond a (m ∷ ns) n = ap (λ b. b || is_in (all_beyond a ns) (beyond a n)) (beyond_same a n m) ∙ ap (λ b. nat_eq n m || b) (in_beyond a ns n)
-
-pub any_beyond : (a : ℕ) (f g : ℕ → Bool) → ((n : ℕ) → g (beyond a n) ≡ f n) → (ns : List ℕ) → list_any g (all_beyond a ns) ≡ list_any f ns
-any_beyond a f g e [] = refl
-any_beyond a f g e (n ∷ ns) = ap (λ b. b || list_any g (all_beyond a ns)) (e n) ∙ ap (λ b. f n || b) (any_beyond a f g e ns)
 
 -- ---- elements
 

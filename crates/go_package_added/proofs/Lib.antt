@@ -15,3 +15,5 @@ mod Keeping
 mod Signed
 mod Unchanged
 mod Surrounding
+mod Closing
+mod Shared

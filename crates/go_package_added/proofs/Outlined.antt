@@ -1,6 +1,6 @@
 -- The outlines of a package to a file of which a function is appended, and the numbers of its objects.
 use Rattle.std.proofs.Common.{◌≡◌, ◌∙◌, ℕ, zero, suc, ◌<◌, ◌≤◌, inl, inr, Bool, true, false, List, [], ◌∷◌, ◌++◌, length, map, Option, Some, None, refl, sym, ap, arith}
-use Rattle.std.specs.Prelude.{if◌then◌else◌, nat_eq, nat_lt, max}
+use Rattle.std.specs.Prelude.{if◌then◌else◌, nat_eq, nat_lt}
 use Rattle.std.specs.Option.{option_map}
 use Rattle.std.specs.List.{AllByRecursion}
 use Rattle.std.proofs.lemmas.Bool.Decides.{nat_tests}
@@ -13,7 +13,6 @@ use Rattle.go_package_alike.specs.Scopes.{AllTokens}
 use Rattle.go_package_defs.specs.Declarations.{Specification}
 use Rattle.go_package_defs.specs.Knowledge.{outlines, place_of, following, column_of, found_or, declaring, outline_by, no_specification}
 use Rattle.go_package_defs.specs.Sources.{Package, text_at, number_in, number_before, number_at, needed_at}
-use Rattle.go_package_defs.specs.Verdicts.{first_name, needed_columns, numbers_of}
 use Rattle.go_heads_added.specs.Added.{Gap, beyond, shifted, Stands}
 use Rattle.go_package_added.specs.Appended.{IsClosed}
 use Rattle.go_package_added.specs.OneMore.{inserted, all_beyond, IsKept, MaybeReadAt}
@@ -23,7 +22,6 @@ use Rattle.go_package_added.proofs.Specified.{IsBelow, MaybeBelow, IsPlaced, bel
 -- Each token but those from the token n of the file k on says the same, and names the same object by its new number; what it declares needs
 -- the same.
 pub record KeepsTokens (k n : ℕ) (p q : Package) (g : Gap) : Type 0 where
-  pub clause : 1 < n
   pub texts : (m t : ℕ) → Stands k n m t → text_at q m t ≡ text_at p m t
   pub objects : (m t : ℕ) → Stands k n m t → object_of q.uses m t ≡ option_map (shifted g) (object_of p.uses m t)
   pub needed : (m t : ℕ) → Stands k n m t → IsClosed p m t → (c : ℕ) (full : Bool) → needed_at q m t c full ≡ all_beyond g.shared (needed_at p m t c full)
@@ -54,36 +52,6 @@ pub number_moved : (p q : Package) (g : Gap) (m t : ℕ) → object_of q.uses m 
 number_moved p q g m t e = ap number_in e ∙ number_beyond g (object_of p.uses m t)
 
 module _ (k n : ℕ) (p q : Package) (g : Gap) (keeps : KeepsTokens k n p q g) where
-  number_kept : (m t : ℕ) → Stands k n m t → number_at q m t ≡ option_map (beyond g.shared) (number_at p m t)
-  number_kept m t s = number_moved p q g m t (keeps.objects m t s)
-
-  -- ---- specifications
-
-  numbers_kept : (m : ℕ) (ts : List ℕ) → AllByRecursion (λ t. Stands k n m t) ts → numbers_of q m ts ≡ all_beyond g.shared (numbers_of p m ts)
-  numbers_kept m [] h = refl
-  numbers_kept m (t ∷ ts) h =
-      ap (λ o. number_before o (numbers_of q m ts)) (number_kept m t h.0) ∙ ap (number_before (option_map (beyond g.shared) (number_at p m t))) (numbers_kept m ts h.1)
-      ∙ before_beyond g.shared (number_at p m t) (numbers_of p m ts)
-
-  columns_kept : (d : Specification) (c : ℕ) → Stands k n d.file (first_name d.names) → IsClosed p d.file (first_name d.names) → needed_columns q d c ≡ all_beyond g.shared (needed_columns p d c)
-  columns_kept d zero s z = refl
-  columns_kept d (suc c) s z =
-      ap (λ l. l ++ needed_at q d.file (first_name d.names) c false) (columns_kept d c s z)
-      ∙ ap (λ l. all_beyond g.shared (needed_columns p d c) ++ l) (keeps.needed d.file (first_name d.names) s z c false)
-      ∙ sym (beyond_append g.shared (needed_columns p d c) (needed_at p d.file (first_name d.names) c false))
-
-  each_elsewhere : (m : ℕ) (ts : List ℕ) → nat_eq m k ≡ false → AllByRecursion (λ t. Stands k n m t) ts
-  each_elsewhere m [] e = tt
-  each_elsewhere m (t ∷ ts) e = (stands_elsewhere k n m t e, each_elsewhere m ts e)
-
-  each_stands : (m : ℕ) (ts : List ℕ) → AllByRecursion (λ t. t < n) ts → AllByRecursion (λ t. Stands k n m t) ts
-  each_stands m [] h = tt
-  each_stands m (t ∷ ts) h = ((λ e. h.0), each_stands m ts h.1)
-
-  first_below : (ts : List ℕ) → AllByRecursion (λ t. t < n) ts → first_name ts < n
-  first_below [] h = let c = keeps.clause in omega (arith, c)
-  first_below (t ∷ ts) h = h.0
-
   maybe_all : (o : Option Tree) → MaybeReadAt (λ i. true) o
   maybe_all None = tt
   maybe_all (Some t) = all_of_them t
@@ -103,33 +71,29 @@ module _ (k n : ℕ) (p q : Package) (g : Gap) (keeps : KeepsTokens k n p q g) w
   test_below : (i : ℕ) → nat_lt i n ≡ true → i < n
   test_below i e = grind (arith, nat_tests)
 
-  pub is_kept : (d : Specification) → IsPlaced k n d → IsClosed p d.file (first_name d.names) → IsKept p q g d
-  is_kept d (inl e) z = record {
+  pub is_kept : (d : Specification) → IsPlaced k n d → IsKept p q g d
+  is_kept d (inl e) = record {
     test = λ i. true;
     type_read = maybe_all d.type_tree;
     values_read = each_all d.values;
     texts = λ i h. keeps.texts d.file i (stands_elsewhere k n d.file i e);
     objects = λ i h. keeps.objects d.file i (stands_elsewhere k n d.file i e);
-    numbers = numbers_kept d.file d.names (each_elsewhere d.file d.names e);
-    needed = columns_kept d (max (length d.names) (length d.values)) (stands_elsewhere k n d.file (first_name d.names) e) z;
   }
-  is_kept d (inr b) z = record {
+  is_kept d (inr b) = record {
     test = λ i. nat_lt i n;
     type_read = maybe_below d.type_tree b.type_below;
     values_read = each_below d.values b.values_below;
     texts = λ i h. keeps.texts d.file i (λ e. test_below i h);
     objects = λ i h. keeps.objects d.file i (λ e. test_below i h);
-    numbers = numbers_kept d.file d.names (each_stands d.file d.names b.names_below);
-    needed = columns_kept d (max (length d.names) (length d.values)) (λ e. first_below d.names b.names_below) z;
   }
 
-  pub all_kept : (ds : List Specification) → AllByRecursion (IsPlaced k n) ds → AllByRecursion (λ d. IsClosed p d.file (first_name d.names)) ds → AllByRecursion (IsKept p q g) ds
-  all_kept [] h z = tt
-  all_kept (d ∷ ds) h z = (is_kept d h.0 z.0, all_kept ds h.1 z.1)
+  pub all_kept : (ds : List Specification) → AllByRecursion (IsPlaced k n) ds → AllByRecursion (IsKept p q g) ds
+  all_kept [] h = tt
+  all_kept (d ∷ ds) h = (is_kept d h.0, all_kept ds h.1)
 
   -- where no specification declares a name
   none_kept : IsKept p q g no_specification
-  none_kept = record { test = λ i. false; type_read = tt; values_read = tt; texts = λ i h. absurd (never h); objects = λ i h. absurd (never h); numbers = refl; needed = refl }
+  none_kept = record { test = λ i. false; type_read = tt; values_read = tt; texts = λ i h. absurd (never h); objects = λ i h. absurd (never h) }
 
   declaring_kept : (ds : List Specification) → AllByRecursion (IsKept p q g) ds → (m t : ℕ) → IsKept p q g (declaring ds m t).0
   declaring_kept [] h m t = none_kept

@@ -27,7 +27,7 @@ use Rattle.go_package_defs.specs.Answer.{Environment, package_answer, specificat
 use Rattle.go_package_defs.specs.Declarations.{Specification, function}
 use Rattle.go_package_defs.specs.Knowledge.{Outline, outlines, State}
 use Rattle.go_package_defs.specs.Sources.{Source, Package, unit_of, package_of, text_at, needed_numbers, rounds, declared_at, needed_at}
-use Rattle.go_package_defs.specs.Verdicts.{first_name, known}
+use Rattle.go_package_defs.specs.Verdicts.{known}
 use Rattle.go_package_added.specs.OneMore.{IsSignature, IsSignatureBefore, with_function}
 
 -- The file of the number k has a function with an empty body behind what it had, and the other files are as they were.
@@ -84,10 +84,9 @@ needed_further p n t column full = further_from p column full (declared_at n t p
 abbrev pub IsClosed : Package → ℕ → ℕ → Type 0
 IsClosed p n t = (column : ℕ) (full : Bool) → needed_further p n t column full ≡ needed_at p n t column full
 
--- So it is with all that the package declares in its block.
-pub record AreClosed (p : Package) (ds : List Specification) : Type 0 where
-  pub objects : AllByRecursion (λ d. IsClosed p d.file d.name) p.uses.package_level
-  pub names : AllByRecursion (λ d. IsClosed p d.file (first_name d.names)) ds
+-- So it is with the objects of the package.
+abbrev pub AreClosed : Package → Type 0
+AreClosed p = AllByRecursion (λ d. IsClosed p d.file d.name) p.uses.package_level
 
 -- ---- the answer
 
@@ -109,15 +108,15 @@ function_specification k ss us h = function k (function_tree k ss us h) h.first 
 -- the function's type at its number, where the function isn't called `main` and no rule fails in its signature.
 pub record AnswersWith (k : ℕ) (ss us : List Source) (h : IsAppended k ss us) : Type 0 where
   pub keeps : KeepsPackage k h.count (suc h.first) (map unit_of ss) (map unit_of us)
-  pub answer : AreClosed (package_in ss) (specifications 0 ss) → same_text (function_name k ss us h) (codes "main") ≡ false → (s : Stands)
+  pub answer : AreClosed (package_in ss) → same_text (function_name k ss us h) (codes "main") ≡ false → (s : Stands)
       → IsSignature (package_in us) (outlines_in us) keeps.gap.shared (function_specification k ss us h) 0 (found_in ss) s
       → (x : Environment) → package_answer ss (uses (map unit_of ss)) ≡ Ok x → package_answer us (uses (map unit_of us)) ≡ Ok (with_function keeps.gap.shared s x)
   -- and it has no other
-  pub before : AreClosed (package_in ss) (specifications 0 ss) → same_text (function_name k ss us h) (codes "main") ≡ false → (s : Stands)
+  pub before : AreClosed (package_in ss) → same_text (function_name k ss us h) (codes "main") ≡ false → (s : Stands)
       → IsSignature (package_in us) (outlines_in us) keeps.gap.shared (function_specification k ss us h) 0 (found_in ss) s
       → (z : Environment) → package_answer us (uses (map unit_of us)) ≡ Ok z → (x : Environment) × (package_answer ss (uses (map unit_of ss)) ≡ Ok x) × (z ≡ with_function keeps.gap.shared s x)
   -- the signature may be judged by what its names mean in the package without it
-  pub signature : AreClosed (package_in ss) (specifications 0 ss) → same_text (function_name k ss us h) (codes "main") ≡ false → (test : ℕ → Bool) (meant : ℕ → Option Object)
+  pub signature : AreClosed (package_in ss) → same_text (function_name k ss us h) (codes "main") ≡ false → (test : ℕ → Bool) (meant : ℕ → Option Object)
       → ((i : ℕ) → test i ≡ true → object_of (uses (map unit_of us)) k i ≡ option_map (shifted keeps.gap) (meant i)) → AllTokens test h.signature → (s : Stands)
       → IsSignatureBefore (package_in ss) (outlines_in ss) (function_specification k ss us h) 0 (text_at (package_in us) k) meant (found_in ss) s
       → IsSignature (package_in us) (outlines_in us) keeps.gap.shared (function_specification k ss us h) 0 (found_in ss) s

@@ -5,7 +5,6 @@ use Rattle.go_tokens.specs.declared.token.TokenKind.TheVariants as token
 use Rattle.go_types.specs.Trees.{TypeTree, integer, function, row}
 use Rattle.go_exprs_rules.specs.Sorts.{Stands}
 use Rattle.go_typed.specs.Trees as sort
-use Rattle.go_package_defs.specs.Answer.{specifications}
 use Rattle.go_package_defs.specs.Sentences.{Word, sources_from, stated}
 use Rattle.go_package_defs.specs.Sources.{Source}
 use Rattle.go_package_added.specs.Appended.{AreClosed, package_in}
@@ -74,7 +73,7 @@ recursive = (
     (token.RightBrace, codes "}") ∷ (token.Semicolon, codes ";") ∷ [])
 
 abbrev pub Closed : List Source → Type 0
-Closed ss = AreClosed (package_in ss) (specifications 0 ss)
+Closed ss = AreClosed (package_in ss)
 
 -- A package with a type that needs itself, and a function that needs it: two rounds more find no further needs.
 pub record ClosedExamples : Type 0 where

@@ -16,7 +16,7 @@ use Rattle.go_package_defs.specs.Answer.{Environment, is_main}
 use Rattle.go_package_defs.specs.Declarations.{Specification}
 use Rattle.go_package_defs.specs.Knowledge.{Outline, outlines, State, free_scope, referent_at}
 use Rattle.go_package_defs.specs.Sources.{Package, text_at, rounds}
-use Rattle.go_package_defs.specs.Verdicts.{known, own_faults, value_state, numbers_of, needed_by_all}
+use Rattle.go_package_defs.specs.Verdicts.{known, own_faults, value_state}
 use Rattle.go_heads_added.specs.Added.{Gap, beyond, shifted}
 
 -- one element at a place among others
@@ -41,15 +41,13 @@ MaybeReadAt test None = Unit {0}
 MaybeReadAt test (Some t) = AllTokens test t
 
 -- The specification stands in both packages: the tokens that its type and its values are read by say the same, and name the same objects
--- under the new numbers; so do its names, and it needs the same.
+-- under the new numbers.
 pub record IsKept (p q : Package) (g : Gap) (d : Specification) : Type 0 where
   pub test : ℕ → Bool
   pub type_read : MaybeReadAt test d.type_tree
   pub values_read : AllByRecursion (AllTokens test) d.values
   pub texts : (i : ℕ) → test i ≡ true → text_at q d.file i ≡ text_at p d.file i
   pub objects : (i : ℕ) → test i ≡ true → object_of q.uses d.file i ≡ option_map (shifted g) (object_of p.uses d.file i)
-  pub numbers : numbers_of q d.file d.names ≡ all_beyond g.shared (numbers_of p d.file d.names)
-  pub needed : needed_by_all q d ≡ all_beyond g.shared (needed_by_all p d)
 
 -- The second package declares what the first one does, by the same specifications, and one function between.
 pub record IsOneMore (p q : Package) (ds es : List Specification) (g : Gap) : Type 0 where

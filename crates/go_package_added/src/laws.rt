@@ -9,6 +9,7 @@ ghost use Rattle.go_tree.specs.Uses.{object_of, uses};
 ghost use Rattle.go_types.specs.Relations.{Rights};
 ghost use Rattle.go_package_defs.specs.Checked.{surroundings_of};
 ghost use Rattle.go_heads_added.specs.Kept.{KeepsPackage};
+ghost use Rattle.go_package_added.specs.Closed.{DeclaresShared, NeedsStayShared};
 ghost use Rattle.go_package_added.specs.Unchanged.{StaysTyped};
 ghost use Rattle.go_exprs_rules.specs.Sorts.{Stands};
 ghost use Rattle.go_heads_added.specs.Added.{Gap, NoneSays, shifted};
@@ -17,7 +18,7 @@ ghost use Rattle.go_package_defs.specs.Declarations.{Specification};
 ghost use Rattle.go_package_defs.specs.Knowledge.{outlines};
 ghost use Rattle.go_package_defs.specs.Sources.{Package, Source, rounds, text_at, unit_of};
 ghost use Rattle.go_package_defs.specs.Verdicts.{known};
-ghost use Rattle.go_package_added.specs.Appended.{AnswersWith, FitsNames, IsAppended, function_name, package_in};
+ghost use Rattle.go_package_added.specs.Appended.{AnswersWith, AreClosed, FitsNames, IsAppended, IsClosed, function_name, package_in};
 ghost use Rattle.go_package_added.specs.Examples.{ClosedExamples, Examples};
 ghost use Rattle.go_package_settled.specs.Read.{IsFaultless};
 ghost use Rattle.go_package_added.specs.OneMore.{IsOneMore, IsSignature, IsSignatureBefore, MaybeReadAt, Settles, with_function};
@@ -29,6 +30,7 @@ use go_heads_added::laws::{
 };
 use go_package_alike::laws::expressions_follow_from_their_tokens;
 use go_package_settled::laws::faultless_packages_settle;
+use go_scopes_events::laws::files_are_orderly;
 use go_stmts_elsewhere::laws::functions_are_typed_elsewhere;
 
 /// Worked examples: the package of two functions with a third, at the end of its one file and of the first of two; and a package that is
@@ -65,6 +67,21 @@ pub fn signatures_follow_from_their_names()
     expressions_are_typed_elsewhere();
     trees_spelled_the_same_keep_it();
     expressions_follow_from_their_tokens();
+}
+
+/// The tokens that declare the objects of a package without faults of names declare nothing else (Go specification: Declarations and scope).
+pub fn objects_are_declared_once()
+    ensures { (ss : List Source) → IsFaultless ss → AllByRecursion (λ d. DeclaresShared (map unit_of ss) d.file d.name) (uses (map unit_of ss)).package_level }
+{
+    files_are_orderly();
+}
+
+/// Where the declarations of the package block need no others at once, as many rounds as there are of them, twice, find all that they need.
+pub fn shared_needs_are_closed()
+    ensures token { (ss : List Source) → NeedsStayShared (map unit_of ss) → (m t : ℕ) → DeclaresShared (map unit_of ss) m t → IsClosed (package_in ss) m t }
+    ensures all { (ss : List Source) → IsFaultless ss → NeedsStayShared (map unit_of ss) → AreClosed (package_in ss) }
+{
+    objects_are_declared_once();
 }
 
 /// Behind a function with an empty body that is appended to a file, and whose name no token says, the declarations of a package without faults
