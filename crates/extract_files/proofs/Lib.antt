@@ -14,3 +14,4 @@ mod Appended
 mod Levels
 mod Fronts
 mod Extracted
+mod Letters
