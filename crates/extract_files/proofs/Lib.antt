@@ -15,3 +15,4 @@ mod Levels
 mod Fronts
 mod Extracted
 mod Letters
+mod Before
