@@ -356,3 +356,12 @@ token_seam (x ∷ b) more h g f = record {
     not_line : Longer (x ∷ b) [] → ⊥
     not_line (next y ys e h) = cc
     not_line (line e c h) = f c
+
+line_longer : (b : List ℕ) (z : ℕ) → (z == 10) ≡ false → is_some (after InLine b) ≡ true → is_some (after InLine (b ++ z ∷ [])) ≡ true
+line_longer [] z n h = line_more z [] n refl
+line_longer (x ∷ b) z n h = let s = line_step x b h in line_more x (b ++ z ∷ []) s.0 (line_longer b z n s.1)
+
+-- a line comment ends in front of a newline alone
+pub line_stops : (p : List ℕ) (z : ℕ) (zs : List ℕ) → is_piece p ≡ true → kind p ≡ LineComment → (z == 10) ≡ false → IsLongest p (z ∷ zs) → ⊥
+line_stops [] z zs h k n l = cc
+line_stops (x ∷ b) z zs h k n l = one_too_long (x ∷ b) z zs (z ∷ zs) l refl (line_one x b z k (line_longer b z n (subst (λ k. has_shape k x b ≡ true) k h)))

@@ -1,17 +1,19 @@
 -- A file with calls at its windows is a rewriting of the file.
-use Rattle.std.proofs.Common.{◌≡◌, ℕ, suc, ◌+◌, ◌⊎◌, inl, inr, Bool, true, false, ◌==◌, ◌||◌, List, [], ◌∷◌, ◌++◌, length, Option, Some, None, refl, sym, ap, ◌∙◌, subst, arith, eqb-true}
-use Rattle.std.specs.Prelude.{slice_get, if◌then◌else◌}
+use Rattle.std.proofs.Common.{append_assoc, ◌≡◌, ℕ, suc, ◌+◌, ◌⊎◌, inl, inr, Bool, true, false, ◌==◌, ◌||◌, List, [], ◌∷◌, ◌++◌, length, Option, Some, None, refl, sym, ap, ◌∙◌, subst, arith, eqb-true}
+use Rattle.std.specs.Prelude.{map, not, slice_get, if◌then◌else◌}
 use Rattle.std.specs.Str.{chars}
 use Rattle.std.proofs.lemmas.Str.{chars-encodes}
 use Rattle.go_tokens.specs.declared.token.Token.{Token}
 use Rattle.go_tokens.specs.declared.token.TokenKind.{TokenKind}
 use Rattle.go_tokens.specs.declared.token.TokenKind.TheVariants as token
-use Rattle.go_tokens.specs.Editing.{old_text, new_text}
+use Rattle.go_tokens.specs.Editing.{Spans, old_text, new_text}
 use Rattle.go_tokens.specs.Encoding.{IsText}
-use Rattle.go_tokens.specs.Lexing.{width, Lexes}
-use Rattle.go_tokens.specs.Replacing.{are_apart}
+use Rattle.go_tokens.specs.Characters.{is_letter}
+use Rattle.go_tokens.specs.Lexing.{join, width, Cut, Lexes, tokens}
+use Rattle.go_tokens.specs.Pieces.{is_good}
+use Rattle.go_tokens.specs.Replacing.{are_apart, last_joins, pieces_of}
 use Rattle.go_tokens.specs.Spellings.{ends_statement_kind}
-use Rattle.go_tokens.specs.Tokens.{kinds}
+use Rattle.go_tokens.specs.Tokens.{AreOrdered, kinds, span_of}
 use Rattle.go_grammar.specs.declared.kind.Category.{Category}
 use Rattle.go_grammar.specs.declared.kind.Category.TheVariants as category
 use Rattle.go_grammar.specs.Categories.{place_of}
@@ -22,14 +24,19 @@ use Rattle.go_rewriting.specs.Endings.{Ending}
 use Rattle.go_rewriting.specs.Lists.{IsRun, in_block, items_at, has_run, run_at}
 use Rattle.go_rewriting.specs.Places.{range, Range}
 use Rattle.go_rewriting.specs.Replacing.{Edge, Run}
-use Rattle.go_rewriting.specs.Rewriting.{Rewrite, words, TextFits, TextsFit, ChangeFits, TreeFits, TreesFit, agreeing, sites_alone, edits, behind}
+use Rattle.go_rewriting.specs.Rewriting.{IsRange, Rewrite, words, TextFits, TextsFit, ChangeFits, TreeFits, TreesFit, agreeing, sites_alone, edits, behind}
 use Rattle.go_rewriting.specs.Sites.{items, all_clear, local_range, run_range}
 use Rattle.go_print_laws.specs.Calls.{CallsStand, call_lexemes, call_text, call_trees}
 use Rattle.go_print_laws.specs.Standing.{EndsHere, StandsAsRun}
 use Rattle.extract_files.specs.Enclosed.{opens, IsEnclosed, RunsAreEnclosed}
 use Rattle.extract_files.specs.Files.{Window, file_text, call_chars, called_text, call_sites, IsWindow, AreWindows, StandsFor, AllStandFor, CalledFilesAreRewritten}
 use Rattle.extract_files.proofs.Calls.{first_word, EndsIn, call_ends, text_ends, closed_apart}
+use Rattle.extract_files.proofs.Before.{range_free}
+use Rattle.extract_files.proofs.Letters.{call_begins, text_begins}
 use Rattle.extract_files.proofs.Named.{Known, in_blocks}
+use Rattle.extract_files.proofs.Numbers.{spans_of}
+use Rattle.go_tokens.proofs.Public.{join_two, old_range, tokens_ordered, width-append, width-nil}
+use Rattle.std.specs.List.{list_all}
 
 -- what is known besides
 pub record Facts : Type 0 where
@@ -116,9 +123,12 @@ module _ (k : Facts) (name : ℕ → List ℕ) (file : ℕ) (ts : List Token) (t
         let word : e.word ≡ ending.word = same_word e.word ending.word (sym e.is ∙ ap (slice_get (kinds ts)) place ∙ ending.is) in
         no_opening e.word e.opens (ap ends_statement_kind word ∙ ending.ends)
 
-    apart_more : (l a b : List ℕ) → EndsIn 41 a → are_apart l a ≡ true → are_apart l (a ++ b) ≡ true
-    apart_more l [] b e p = absurd e
-    apart_more l (c ∷ a) b e p = p
+    -- a call joins nothing in front that joins no letter
+    apart_front : (more : List ℕ) → ((y : ℕ) → is_letter y ≡ true → last_joins x.kept y ≡ false) → are_apart x.kept (call.alone.text ++ more) ≡ true
+    apart_front more free =
+        let b = call_begins name x.call y.written in
+        let c = text_begins call.alone.text (call_text name x.call) call.alone.is_text.encoded b in
+        subst (λ l. are_apart x.kept (l ++ more) ≡ true) (sym c.1) (ap not (free b.letter b.good))
 
     -- with ranges behind it
     module _ (rs : List Rewrite) (rest tail : List ℕ) (behind_is : (behind (kinds ts) rs x.upto ≡ Some token.Semicolon) ⊎ (behind (kinds ts) rs x.upto ≡ Some token.RightBrace)) where
@@ -138,12 +148,12 @@ module _ (k : Facts) (name : ℕ → List ℕ) (file : ℕ) (ts : List Token) (t
       stands_for : StandsFor name rewrite x
       stands_for = record { kept = refl; old = refl; from = refl; upto = refl; new = text_is; bytes = call.alone.is_text.encoded; words_are = call.alone.kinds_are }
 
-      text_fits : TextFits file ts at rewrite (old_text (edits rs rest)) (new_text (edits rs rest) tail)
-      text_fits = record {
+      text_fits : ((y : ℕ) → is_letter y ≡ true → last_joins x.kept y ≡ false) → TextFits file ts at rewrite (old_text (edits rs rest)) (new_text (edits rs rest) tail)
+      text_fits free = record {
         range = y.at_tokens;
         stands = call.alone.stands;
         tokens = refl;
-        apart_before = apart_more x.kept call.alone.text (new_text (edits rs rest) tail) ends_closed (ap (are_apart x.kept) text_is ∙ y.apart);
+        apart_before = apart_front (new_text (edits rs rest) tail) free;
         apart_behind = or_true (are_apart call.alone.text (new_text (edits rs rest) tail)) _ (closed_apart call.alone.text ends_closed (new_text (edits rs rest) tail));
         line = λ e. k.known.ranges ts x.from x.upto _ _ y.at_tokens ending ∙ sym call.alone.closes;
       }
@@ -188,6 +198,34 @@ module _ (k : Facts) (name : ℕ → List ℕ) (file : ℕ) (ts : List Token) (t
 
   -- ---- all of them
 
+  -- in front of each window nothing joins a letter
+  abbrev AllApart : List Window → Type 0
+  AllApart [] = Unit {0}
+  AllApart (x ∷ xs) = ((y : ℕ) → is_letter y ≡ true → last_joins x.kept y ≡ false) × AllApart xs
+
+  module _ (whole : List (List ℕ)) (cut : Cut whole []) (good : list_all is_good whole ≡ true) (spelled : ts ≡ tokens file 0 whole true) where
+    ordered : AreOrdered 0 (map span_of (tokens file 0 whole true)) (0 + width (join whole))
+    ordered = tokens_ordered file 0 whole true
+
+    all_apart : (xs : List Window) (rest : List ℕ) (front ps : List (List ℕ)) (at : ℕ) → whole ≡ front ++ ps → join ps ≡ file_text xs rest → at ≡ width (join front) → AreWindows name ts t at xs → AllApart xs
+    all_apart [] rest front ps at w j a r = tt
+    all_apart (x ∷ xs) rest front ps at w j a y =
+        let range : IsRange (tokens file 0 whole true) x.from x.upto (at + width x.kept) (at + width x.kept + width x.old) = subst (λ us. IsRange us x.from x.upto (at + width x.kept) (at + width x.kept + width x.old)) spelled y.0.at_tokens in
+        let spans : Spans (tokens file 0 whole true) (at + width x.kept) (at + width x.kept + width x.old) = spans_of (0 + width (join whole)) (tokens file 0 whole true) x.from x.upto (at + width x.kept) (at + width x.kept + width x.old) ordered range in
+        let r = old_range file whole front ps x.kept x.old (file_text xs rest) at cut w j a spans in
+        let w' : whole ≡ (front ++ (r.first_pieces ++ pieces_of r.range)) ++ r.rest_pieces = w ∙ ap (λ x. front ++ x) (r.is ∙ sym (append_assoc r.first_pieces (pieces_of r.range) r.rest_pieces)) ∙ sym (append_assoc front (r.first_pieces ++ pieces_of r.range) r.rest_pieces) in
+        let len : width (join (front ++ (r.first_pieces ++ pieces_of r.range))) ≡ width (join front ++ (x.kept ++ x.old)) = ap width (join_two front (r.first_pieces ++ pieces_of r.range) ∙ ap (λ l. join front ++ l) (join_two r.first_pieces (pieces_of r.range) ∙ ap (λ l. l ++ join (pieces_of r.range)) r.kept_is ∙ ap (λ l. x.kept ++ l) r.old_is)) in
+        let place : at + width x.kept + width x.old ≡ width (join (front ++ (r.first_pieces ++ pieces_of r.range))) = omega (arith, len, a, width-append (join front) (x.kept ++ x.old), width-append x.kept x.old) in
+        let n : width (join (front ++ r.first_pieces)) ≡ width (join front ++ x.kept) = ap width (join_two front r.first_pieces ∙ ap (λ l. join front ++ l) r.kept_is) in
+        let start : at + width x.kept ≡ width (join (front ++ r.first_pieces)) = omega (arith, a, n, width-append (join front) x.kept) in
+        let long : width (join (pieces_of r.range)) ≡ width x.old = ap width r.old_is in
+        let end : at + width x.kept + width x.old ≡ at + width x.kept + width (join (pieces_of r.range)) = omega (arith, long) in
+        let e : IsEnclosed (kinds (tokens file 0 whole true)) x.from x.upto = subst (λ us. IsEnclosed (kinds us) x.from x.upto) spelled (enclosed at x y.0) in
+        (
+          (λ z l. range_free file whole cut good z l front ps x.kept x.old (file_text xs rest) spans.last w r x.from x.upto (at + width x.kept) (at + width x.kept + width x.old) range start end e),
+          all_apart xs rest (front ++ (r.first_pieces ++ pieces_of r.range)) r.rest_pieces (at + width x.kept + width x.old) w' r.rest_is place y.1,
+        )
+
   record Made (at : ℕ) (xs : List Window) (rest tail : List ℕ) : Type 0 where
     ranges : List Rewrite
     calls : AllStandFor name ranges xs
@@ -208,10 +246,10 @@ module _ (k : Facts) (name : ℕ → List ℕ) (file : ℕ) (ts : List Token) (t
       by true e = absurd (not_adjoining at x y at' z (enclosed at' z a.0) (sym s.0.from ∙ sym (eqb-true x.upto r.from e)))
       by false e = (enclosed at x y).behind
 
-  made : (at : ℕ) (xs : List Window) (rest tail : List ℕ) → AreWindows name ts t at xs → Made at xs rest tail
-  made at [] rest tail a = record { ranges = []; calls = tt; sites = refl; old = refl; new = refl; texts = tt; trees = tt }
-  made at (x ∷ xs) rest tail a =
-      let m = made (at + width x.kept + width x.old) xs rest tail a.1 in
+  made : (at : ℕ) (xs : List Window) (rest tail : List ℕ) → AreWindows name ts t at xs → AllApart xs → Made at xs rest tail
+  made at [] rest tail a free = record { ranges = []; calls = tt; sites = refl; old = refl; new = refl; texts = tt; trees = tt }
+  made at (x ∷ xs) rest tail a free =
+      let m = made (at + width x.kept + width x.old) xs rest tail a.1 free.1 in
       let b = word_behind at (at + width x.kept + width x.old) x a.0 xs a.1 m.ranges m.calls in
       record {
         ranges = rewrite at x a.0 m.ranges rest tail b ∷ m.ranges;
@@ -219,13 +257,15 @@ module _ (k : Facts) (name : ℕ → List ℕ) (file : ℕ) (ts : List Token) (t
         sites = ap (λ l. record { path = x.path; change = items x.front x.others (call_trees 0 x.call) } ∷ l) m.sites;
         old = ap (λ l. x.kept ++ (x.old ++ l)) m.old;
         new = ap (λ l. x.kept ++ ((call at x a.0).alone.text ++ l)) m.new ∙ ap (λ l. x.kept ++ (l ++ called_text name xs (rest ++ tail))) (text_is at x a.0);
-        texts = (text_fits at x a.0 m.ranges rest tail b, m.texts);
+        texts = (text_fits at x a.0 m.ranges rest tail b free.0, m.texts);
         trees = (tree_fits at x a.0 m.ranges rest tail b, m.trees);
       }
 
 pub called_files : Facts → CalledFilesAreRewritten
 called_files k w h =
-    let m = made k w.name w.file w.tokens w.tree h.derives 0 w.windows w.rest w.tail h.windows in
+    let l = h.lexes in
+    let free = all_apart k w.name w.file w.tokens w.tree h.derives l.pieces l.cut l.good l.spelled w.windows w.rest [] l.pieces 0 refl l.whole (sym width-nil) h.windows in
+    let m = made k w.name w.file w.tokens w.tree h.derives 0 w.windows w.rest w.tail h.windows free in
     let agrees : agreeing m.ranges w.tree ≡ true = k.clear (kinds w.tokens) category.File w.tree m.ranges h.derives (ap (all_clear w.tree) m.sites ∙ h.clear) in
     record {
       ranges = m.ranges;

@@ -179,7 +179,7 @@ newline_no_token : (p : List ℕ) → is_token (10 ∷ p) ≡ false
 unfolding begun_by is_white
 newline_no_token p = refl
 
-no_newline : (x : ℕ) (p : List ℕ) → is_token (x ∷ p) ≡ true → (x == 10) ≡ false
+pub no_newline : (x : ℕ) (p : List ℕ) → is_token (x ∷ p) ≡ true → (x == 10) ≡ false
 no_newline x p h = by (x == 10) refl
   where
     by : (b : Bool) → (x == 10) ≡ b → b ≡ false

@@ -14,3 +14,5 @@ mod Appended
 mod Levels
 mod Fronts
 mod Extracted
+mod Letters
+mod Before

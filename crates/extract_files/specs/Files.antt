@@ -6,7 +6,6 @@ use Rattle.go_tokens.specs.declared.token.Token.{Token}
 use Rattle.go_tokens.specs.Encoding.{IsText}
 use Rattle.go_tokens.specs.Files.{IsLexing}
 use Rattle.go_tokens.specs.Lexing.{width, Lexes}
-use Rattle.go_tokens.specs.Replacing.{are_apart}
 use Rattle.go_tokens.specs.Tokens.{kinds}
 use Rattle.go_grammar.specs.declared.kind.Category.{Category}
 use Rattle.go_grammar.specs.declared.kind.Category.TheVariants as categories
@@ -57,7 +56,7 @@ call_sites [] = []
 call_sites (x ∷ xs) = record { path = x.path; change = items x.front x.others (call_trees 0 x.call) } ∷ call_sites xs
 
 -- The window is a run of statements of a block or a clause, whose characters stand behind others from a place on, and the call can be
--- written and doesn't join what stands in front.
+-- written.
 pub record IsWindow (name : ℕ → List ℕ) (ts : List Token) (t : Tree) (at : ℕ) (x : Window) : Type 0 where
   pub at_tokens : IsRange ts x.from x.upto (at + width x.kept) (at + width x.kept + width x.old)
   pub stood : Tree
@@ -70,7 +69,6 @@ pub record IsWindow (name : ℕ → List ℕ) (ts : List Token) (t : Tree) (at :
   pub has : has_run x.front x.others (parts stood) ≡ true
   pub place : run_range x.front x.others (parts stood) ≡ range x.from x.upto
   pub written : CallCanBeWritten name x.call
-  pub apart : are_apart x.kept (call_chars name x) ≡ true
 
 -- one behind the other
 abbrev pub AreWindows : (ℕ → List ℕ) → List Token → Tree → ℕ → List Window → Type 0
