@@ -76,7 +76,7 @@ function_state s = record { right = None; stands = s; faults = []; assigning = [
 pub record IsSignature (q : Package) (os : List Outline) (a : ℕ) (d : Specification) (column : ℕ) (found : List State) (s : Stands) : Type 0 where
   pub state : (y : State) → let scope = free_scope q os (inserted a y found) d in value_state scope d column (own_faults scope d column) ≡ function_state s
 
--- A round behind the last one, and one behind that, find the same.
+-- Rounds behind the last one find the same.
 pub record Settles (p : Package) (os : List Outline) : Type 0 where
   pub further : (k : ℕ) → known p os (k + rounds p) ≡ known p os (rounds p)
 
