@@ -9,4 +9,5 @@ mod Known
 mod Assigned
 mod Objects
 mod Held
+mod Around
 mod Examples

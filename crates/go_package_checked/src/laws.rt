@@ -1,10 +1,12 @@
 //! Laws, for the crates above. The functions do nothing: their contracts are the laws.
 
-ghost use Rattle.std.specs.Prelude.{◌≡◌, List, map, Ok};
+ghost use Rattle.std.specs.Prelude.{◌≡◌, ℕ, List, length, map, Ok};
 ghost use Rattle.std.specs.List.{AllByRecursion};
 ghost use Rattle.go_base.specs.declared.bytes.FileText.{FileText};
 ghost use Rattle.go_grammar.specs.Grammar.{IsFile};
 ghost use Rattle.go_tokens.specs.Tokens.{kinds};
+ghost use Rattle.go_types.specs.Trees.{TypeTree};
+ghost use Rattle.go_types.specs.Relations.{Rights, HasRight};
 ghost use Rattle.go_types_relations.specs.Renaming.{AreRenamed};
 ghost use Rattle.go_typed.specs.Contents.{Content, content};
 ghost use Rattle.go_typed.specs.Packages.{PackageView};
@@ -13,8 +15,10 @@ ghost use Rattle.go_tree.specs.Uses.{uses};
 ghost use Rattle.go_package_defs.specs.Answer.{specifications, environment_of};
 ghost use Rattle.go_package_defs.specs.Knowledge.{outlines};
 ghost use Rattle.go_package_defs.specs.Verdicts.{known};
-ghost use Rattle.go_package_defs.specs.Checked.{Typing, sources_answer, IsChecked, IsCheckedPackage};
+ghost use Rattle.go_package_defs.specs.Bodies.{Portion, scope_of};
+ghost use Rattle.go_package_defs.specs.Checked.{Typing, surroundings_of, sources_answer, IsChecked, IsCheckedPackage};
 ghost use Rattle.go_package_defs.specs.Sources.{Source, source_of, package_of, unit_of, rounds};
+ghost use Rattle.go_stmts_final_types.specs.Placed.{ObjectsAreGood};
 ghost use Rattle.go_stmts_limits.specs.Packages.{AllFunctionsWithin};
 ghost use Rattle.go_package_checked.specs.Examples.{Examples};
 ghost use Rattle.go_package_checked.specs.Checked.{HasSettled, PackageIsWithin};
@@ -43,11 +47,15 @@ pub fn rules_of_checked_packages_hold()
 {}
 
 /// In a package that type-checks each object stands for something known, a constant for a value of its type's family, and a variable has a
-/// type, where the names in its specifications stand as they may (Go specification: Constant declarations, Variable declarations, Function
-/// declarations).
+/// type, where the names in its specifications stand as they may. So it is around each function, under right sides that keep those of the
+/// package (Go specification: Constant declarations, Variable declarations, Function declarations).
 pub fn objects_of_checked_packages_are_known()
-    ensures { (ss : List Source) (t : Typing) → let p = package_of ss (uses (map unit_of ss)) in let ds = specifications 0 ss in
+    ensures objects { (ss : List Source) (t : Typing) → let p = package_of ss (uses (map unit_of ss)) in let ds = specifications 0 ss in
         AllByRecursion (λ s. IsFile (kinds s.tokens.tokens) s.tree) ss → sources_answer ss ≡ Ok t → NamesStand p ds (known p (outlines p ds) (rounds p)) → ObjectsAreKnown p t.environment }
+    ensures around { (ss : List Source) (t : Typing) → let u = uses (map unit_of ss) in let p = package_of ss u in let ds = specifications 0 ss in
+        AllByRecursion (λ s. IsFile (kinds s.tokens.tokens) s.tree) ss → sources_answer ss ≡ Ok t → NamesStand p ds (known p (outlines p ds) (rounds p))
+        → (rights : Rights) (o : Portion) → ((n : ℕ) (r : TypeTree) → HasRight t.environment.rights n r → HasRight rights n r)
+        → ObjectsAreGood (length t.environment.objects) (scope_of (surroundings_of u t.environment) rights o) }
 {
     checked_packages_settle();
     derivations_are_shaped();

@@ -20,7 +20,7 @@ use Rattle.go_exprs_rules.specs.Tables.{Parts, hint, part_scope}
 use Rattle.go_exprs_rules.specs.Typing.{typing}
 use Rattle.go_stmts_defs.specs.Frames.{Locals}
 use Rattle.go_stmts_final_types.specs.Known.{is_package_variable, VariableIsTyped}
-use Rattle.go_stmts_final_types.specs.Names.{Standing, alone, called, selected, is_fit, KeepsFamily, IsKnownName, NameIsKnown, NodeIsKnown, standing_in, ExpressionIsKnown, ExpressionsAreKnown}
+use Rattle.go_stmts_final_types.specs.Names.{Standing, alone, is_fit, KeepsFamily, IsKnownName, NameIsKnown, NodeIsKnown, standing_in, ExpressionIsKnown, ExpressionsAreKnown}
 use Rattle.go_stmts_final_types.specs.Placed.{IsKnownObject, IsGood, ObjectsAreGood, LocalsAreGood, IsDeclared, MayStand, NameIsPlaced, NodeIsPlaced, ExpressionIsPlaced, ExpressionsArePlaced}
 use Rattle.go_stmts_final_types.proofs.Facts.{alone_fits}
 
