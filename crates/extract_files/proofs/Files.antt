@@ -220,8 +220,7 @@ module _ (k : Facts) (name : ℕ → List ℕ) (file : ℕ) (ts : List Token) (t
         let start : at + width x.kept ≡ width (join (front ++ r.first_pieces)) = omega (arith, a, n, width-append (join front) x.kept) in
         let long : width (join (pieces_of r.range)) ≡ width x.old = ap width r.old_is in
         let end : at + width x.kept + width x.old ≡ at + width x.kept + width (join (pieces_of r.range)) = omega (arith, long) in
-        let e : IsEnclosed (kinds (tokens file 0 whole true)) x.from x.upto = subst (λ us. IsEnclosed (kinds us) x.from x.upto) spelled (enclosed at x y.0) in
-        (
+        let e : IsEnclosed (kinds (tokens file 0 whole true)) x.from x.upto = subst (λ us. IsEnclosed (kinds us) x.from x.upto) spelled (enclosed at x y.0) in (
           (λ z l. range_free file whole cut good z l front ps x.kept x.old (file_text xs rest) spans.last w r x.from x.upto (at + width x.kept) (at + width x.kept + width x.old) range start end e),
           all_apart xs rest (front ++ (r.first_pieces ++ pieces_of r.range)) r.rest_pieces (at + width x.kept + width x.old) w' r.rest_is place y.1,
         )

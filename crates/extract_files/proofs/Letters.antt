@@ -1,5 +1,5 @@
 -- A call begins with a letter, and a letter joins nothing but words.
-use Rattle.std.proofs.Common.{◌≡◌, ℕ, zero, suc, ◌+◌, ◌<◌, ◌≤◌, ◌⊎◌, inl, inr, Bool, true, false, not, ◌&&◌, ◌||◌, ◌==◌, cond, List, [], ◌∷◌, ◌++◌, append_assoc, codes, Option, Some, None, refl, sym, ap, ◌∙◌, subst, arith, eqb-true}
+use Rattle.std.proofs.Common.{◌≡◌, ℕ, Bool, true, false, not, ◌&&◌, ◌||◌, ◌==◌, cond, List, [], ◌∷◌, ◌++◌, append_assoc, codes, Some, refl, sym, ap, ◌∙◌, subst, arith, eqb-true}
 use Rattle.std.specs.Prelude.{unwrap_or, map}
 use Rattle.std.specs.List.{list_any, list_all}
 use Rattle.std.specs.Char.{encode_utf8}
@@ -12,7 +12,7 @@ use Rattle.go_tokens.specs.declared.piece.PieceKind.{PieceKind}
 use Rattle.go_tokens.specs.declared.piece.PieceKind.TheVariants.{White, LineComment, BlockComment, Word, Number, HexNumber, Rune, Text, RawText, Operator, Stray}
 use Rattle.go_tokens.specs.declared.token.TokenKind.{TokenKind}
 use Rattle.go_tokens.specs.declared.token.TokenKind.TheVariants as token
-use Rattle.go_tokens.specs.Characters.{is_white, is_letter, is_digit, is_in_word, is_in_run}
+use Rattle.go_tokens.specs.Characters.{is_white, is_letter, is_digit, is_in_word}
 use Rattle.go_tokens.specs.Editing.{is_identifier}
 use Rattle.go_tokens.specs.Lexing.{token_kind, token_kind_as}
 use Rattle.go_tokens.specs.Pieces.{begun_by, kind, is_piece}
