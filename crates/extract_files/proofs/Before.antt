@@ -1,14 +1,13 @@
 -- What stands in front of statements joins no letter.
-use Rattle.std.proofs.Common.{◌≡◌, ℕ, zero, suc, ◌+◌, ◌<◌, ◌≤◌, ◌⊎◌, inl, inr, Bool, true, false, not, ◌&&◌, ◌||◌, ◌==◌, cond, List, [], ◌∷◌, ◌++◌, length, append_assoc, append-nil, codes, Option, Some, None, is_some, refl, sym, ap, ◌∙◌, subst, arith, eqb-true}
+use Rattle.std.proofs.Common.{◌≡◌, ℕ, zero, suc, ◌+◌, ◌⊎◌, inl, inr, Bool, true, false, not, ◌&&◌, ◌||◌, ◌==◌, cond, List, [], ◌∷◌, ◌++◌, length, append_assoc, append-nil, Some, is_some, refl, sym, ap, ◌∙◌, subst, arith, eqb-true}
 use Rattle.std.specs.Prelude.{slice_get, unwrap_or}
-use Rattle.std.specs.List.{list_any, list_all}
+use Rattle.std.specs.List.{list_all}
 use Rattle.std.specs.Option.{option_and_then}
 use Rattle.std.specs.Str.{encode_utf8_all}
 use Rattle.std.proofs.lemmas.List.{length-append}
 use Rattle.ucd_category.specs.GeneralCategory.{general_category}
 use Rattle.ucd_category.specs.GeneralCategoryRows.{general_category_rows}
 use Rattle.ucd_table.specs.Rows.{value_in}
-use Rattle.go_tokens.specs.declared.piece.Mode.{Mode}
 use Rattle.go_tokens.specs.declared.piece.Mode.TheVariants.{Opened, InBlock, AfterStar, Whole}
 use Rattle.go_tokens.specs.declared.piece.PieceKind.{PieceKind}
 use Rattle.go_tokens.specs.declared.piece.PieceKind.TheVariants.{White, LineComment, BlockComment, Word, Number, HexNumber, Rune, Text, RawText, Operator, Stray}
@@ -18,11 +17,11 @@ use Rattle.go_tokens.specs.declared.token.TokenKind.TheVariants as token
 use Rattle.go_tokens.specs.Characters.{is_white, is_letter, is_digit, is_in_word}
 use Rattle.go_tokens.specs.Lexing.{join, width, IsLongest, Cut, is_token, token_kind, token_kind_as, tokens}
 use Rattle.go_tokens.specs.Lexing as lexing
-use Rattle.go_tokens.specs.Pieces.{after, begins, begun_by, goes, has_shape, if_outside, kind, is_end, is_ended, is_piece, is_good, defect_by, unless_lexical}
+use Rattle.go_tokens.specs.Pieces.{after, begun_by, goes, has_shape, if_outside, kind, is_end, is_ended, is_piece, is_good, defect_by, unless_lexical}
 use Rattle.go_tokens.specs.Replacing.{joins, last_joins, items, pieces_of, begins_with_token}
 use Rattle.go_tokens.specs.Spellings.{same_text, keywords, listed, operator_kind, operators, outside_operators, punctuation, spelled}
 use Rattle.go_tokens.specs.Tokens.{kinds}
-use Rattle.go_tokens.proofs.Public.{OldRange, all_both, both, cut_first, cut_second, items_append, join_two, line_ends_token, no_semicolon, same_text-true, token_items, true_false}
+use Rattle.go_tokens.proofs.Public.{OldRange, all_both, both, cut_second, items_append, join_two, line_ends_token, no_semicolon, same_text-true, token_items, true_false}
 use Rattle.go_rewriting.specs.Rewriting.{IsRange}
 use Rattle.extract_files.specs.Enclosed.{opens, IsEnclosed}
 use Rattle.extract_files.proofs.Blanks.{line_stops}

@@ -1,5 +1,5 @@
 -- The files of an extraction are rewritten.
-use Rattle.std.proofs.Common.{◌≡◌, ℕ, ◌+◌, List, [], ◌∷◌, ◌++◌, length, drop, map, append_assoc, append-nil, refl, sym, ap, ◌∙◌, subst, arith}
+use Rattle.std.proofs.Common.{◌≡◌, ℕ, ◌+◌, List, [], ◌∷◌, ◌++◌, drop, map, append_assoc, refl, sym, ap, ◌∙◌, subst, arith}
 use Rattle.std.specs.Prelude.{slice_range}
 use Rattle.std.specs.Str.{encode_utf8_all}
 use Rattle.std.proofs.lemmas.List.{drop_at}
@@ -14,8 +14,8 @@ use Rattle.param_choose.specs.Members.{Member}
 use Rattle.escape_check.specs.Places.{Sources}
 use Rattle.escape_check.specs.Types.{declared_text}
 use Rattle.extract_texts.specs.Texts.{call_of, call_text, window_bytes}
-use Rattle.extract_files.specs.Files.{Window, Called, IsRewritten, AllStandFor, CalledFilesAreRewritten, call_chars, called_text, file_text}
-use Rattle.extract_files.specs.Extracted.{with_texts, AreMembers, IsExtracted, IsRewrittenFor, ExtractedFilesAreRewritten}
+use Rattle.extract_files.specs.Files.{Window, AllStandFor, CalledFilesAreRewritten, call_chars, called_text, file_text}
+use Rattle.extract_files.specs.Extracted.{with_texts, AreMembers, ExtractedFilesAreRewritten}
 use Rattle.extract_files.proofs.Functions.{part_bytes}
 
 -- the bytes behind a place

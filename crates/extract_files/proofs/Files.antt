@@ -1,17 +1,17 @@
 -- A file with calls at its windows is a rewriting of the file.
-use Rattle.std.proofs.Common.{append_assoc, ◌≡◌, ℕ, suc, ◌+◌, ◌⊎◌, inl, inr, Bool, true, false, ◌==◌, ◌||◌, List, [], ◌∷◌, ◌++◌, length, Option, Some, None, refl, sym, ap, ◌∙◌, subst, arith, eqb-true}
+use Rattle.std.proofs.Common.{append_assoc, ◌&&◌, ◌≡◌, ℕ, suc, ◌+◌, ◌⊎◌, inl, inr, Bool, true, false, ◌==◌, ◌||◌, List, [], ◌∷◌, ◌++◌, length, Option, Some, None, refl, sym, ap, ◌∙◌, subst, arith, eqb-true}
 use Rattle.std.specs.Prelude.{map, not, slice_get, if◌then◌else◌}
-use Rattle.std.specs.Str.{chars}
+use Rattle.std.specs.Str.{all_scalars, chars, encode_utf8_all}
 use Rattle.std.proofs.lemmas.Str.{chars-encodes}
 use Rattle.go_tokens.specs.declared.token.Token.{Token}
 use Rattle.go_tokens.specs.declared.token.TokenKind.{TokenKind}
 use Rattle.go_tokens.specs.declared.token.TokenKind.TheVariants as token
 use Rattle.go_tokens.specs.Editing.{Spans, old_text, new_text}
-use Rattle.go_tokens.specs.Encoding.{IsText}
+use Rattle.go_tokens.specs.Encoding.{IsText, are_allowed, is_plain}
 use Rattle.go_tokens.specs.Characters.{is_letter}
 use Rattle.go_tokens.specs.Lexing.{join, width, Cut, Lexes, tokens}
 use Rattle.go_tokens.specs.Pieces.{is_good}
-use Rattle.go_tokens.specs.Replacing.{are_apart, last_joins, pieces_of}
+use Rattle.go_tokens.specs.Replacing.{are_apart, is_at_line_end, last_joins, pieces_of}
 use Rattle.go_tokens.specs.Spellings.{ends_statement_kind}
 use Rattle.go_tokens.specs.Tokens.{AreOrdered, kinds, span_of}
 use Rattle.go_grammar.specs.declared.kind.Category.{Category}
@@ -32,10 +32,11 @@ use Rattle.extract_files.specs.Enclosed.{opens, IsEnclosed, RunsAreEnclosed}
 use Rattle.extract_files.specs.Files.{Window, file_text, call_chars, called_text, call_sites, IsWindow, AreWindows, StandsFor, AllStandFor, CalledFilesAreRewritten}
 use Rattle.extract_files.proofs.Calls.{first_word, EndsIn, call_ends, text_ends, closed_apart}
 use Rattle.extract_files.proofs.Before.{range_free}
-use Rattle.extract_files.proofs.Letters.{call_begins, text_begins}
+use Rattle.extract_files.proofs.Letters.{call_begins, letter_plain, text_begins}
 use Rattle.extract_files.proofs.Named.{Known, in_blocks}
-use Rattle.extract_files.proofs.Numbers.{spans_of}
-use Rattle.go_tokens.proofs.Public.{join_two, old_range, tokens_ordered, width-append, width-nil}
+use Rattle.extract_files.proofs.Numbers.{some_range, spans_of}
+use Rattle.extract_files.proofs.Templates.{plain_both, plain_join, scalars_both, scalars_join}
+use Rattle.go_tokens.proofs.Public.{both, join_two, old_range, tokens_ordered, width-append, width-nil}
 use Rattle.std.specs.List.{list_all}
 
 -- what is known besides
@@ -67,6 +68,10 @@ not_word o (inr e) h = let k : is_word (Some token.Identifier) token.LeftBrace �
 no_result : (o : Option TokenKind) → (o ≡ Some token.Semicolon) ⊎ (o ≡ Some token.RightBrace) → is_among o result_words ≡ false
 no_result o (inl e) = subst (λ w. is_among w result_words ≡ false) (sym e) refl
 no_result o (inr e) = subst (λ w. is_among w result_words ≡ false) (sym e) refl
+
+and_true : (a b : Bool) → a ≡ true → b ≡ true → (a && b) ≡ true
+and_true true b e f = f
+and_true false b e f = cc
 
 or_true : (a b : Bool) → a ≡ true → (a || b) ≡ true
 or_true true b e = refl
@@ -220,8 +225,7 @@ module _ (k : Facts) (name : ℕ → List ℕ) (file : ℕ) (ts : List Token) (t
         let start : at + width x.kept ≡ width (join (front ++ r.first_pieces)) = omega (arith, a, n, width-append (join front) x.kept) in
         let long : width (join (pieces_of r.range)) ≡ width x.old = ap width r.old_is in
         let end : at + width x.kept + width x.old ≡ at + width x.kept + width (join (pieces_of r.range)) = omega (arith, long) in
-        let e : IsEnclosed (kinds (tokens file 0 whole true)) x.from x.upto = subst (λ us. IsEnclosed (kinds us) x.from x.upto) spelled (enclosed at x y.0) in
-        (
+        let e : IsEnclosed (kinds (tokens file 0 whole true)) x.from x.upto = subst (λ us. IsEnclosed (kinds us) x.from x.upto) spelled (enclosed at x y.0) in (
           (λ z l. range_free file whole cut good z l front ps x.kept x.old (file_text xs rest) spans.last w r x.from x.upto (at + width x.kept) (at + width x.kept + width x.old) range start end e),
           all_apart xs rest (front ++ (r.first_pieces ++ pieces_of r.range)) r.rest_pieces (at + width x.kept + width x.old) w' r.rest_is place y.1,
         )
@@ -246,6 +250,59 @@ module _ (k : Facts) (name : ℕ → List ℕ) (file : ℕ) (ts : List Token) (t
       by true e = absurd (not_adjoining at x y at' z (enclosed at' z a.0) (sym s.0.from ∙ sym (eqb-true x.upto r.from e)))
       by false e = (enclosed at x y).behind
 
+  -- ---- the characters
+
+  call_scalars : (at : ℕ) (x : Window) (y : IsWindow name ts t at x) → all_scalars (call_chars name x) ≡ true
+  call_scalars at x y = ap all_scalars (sym (text_is at x y)) ∙ (call at x y).alone.is_text.scalars
+
+  call_plain : (at : ℕ) (x : Window) (y : IsWindow name ts t at x) → list_all is_plain (call_chars name x) ≡ true
+  call_plain at x y =
+      let b = call_begins name x.call y.written in
+      let c = text_begins (call at x y).alone.text (call_text name x.call) (call at x y).alone.is_text.encoded b in
+      let allowed : are_allowed (b.letter ∷ c.0) ≡ true = ap are_allowed (sym c.1) ∙ (call at x y).alone.is_text.allowed in
+      ap (list_all is_plain) (sym (text_is at x y) ∙ c.1) ∙ plain_join (b.letter ∷ []) c.0 (plain_join (b.letter ∷ []) [] (one_plain b.letter (letter_plain b.letter b.good)) refl) (both (not (b.letter == 0)) (list_all is_plain c.0) allowed).1
+    where
+      one_plain : (n : ℕ) → is_plain n ≡ true → list_all is_plain (n ∷ []) ≡ true
+      one_plain n e = ap (λ b. b && true) e
+
+  called_scalars : (at : ℕ) (xs : List Window) (rest tail : List ℕ) → AreWindows name ts t at xs → all_scalars (file_text xs rest) ≡ true → all_scalars tail ≡ true → all_scalars (called_text name xs (rest ++ tail)) ≡ true
+  called_scalars at [] rest tail a h g = scalars_join rest tail h g
+  called_scalars at (x ∷ xs) rest tail a h g =
+      let p = scalars_both x.kept (x.old ++ file_text xs rest) h in
+      let q = scalars_both x.old (file_text xs rest) p.1 in
+      scalars_join x.kept (call_chars name x ++ called_text name xs (rest ++ tail)) p.0 (scalars_join (call_chars name x) (called_text name xs (rest ++ tail)) (call_scalars at x a.0) (called_scalars (at + width x.kept + width x.old) xs rest tail a.1 q.1 g))
+
+  called_plain : (at : ℕ) (xs : List Window) (rest tail : List ℕ) → AreWindows name ts t at xs → list_all is_plain (file_text xs rest) ≡ true → list_all is_plain tail ≡ true → list_all is_plain (called_text name xs (rest ++ tail)) ≡ true
+  called_plain at [] rest tail a h g = plain_join rest tail h g
+  called_plain at (x ∷ xs) rest tail a h g =
+      let p = plain_both x.kept (x.old ++ file_text xs rest) h in
+      let q = plain_both x.old (file_text xs rest) p.1 in
+      plain_join x.kept (call_chars name x ++ called_text name xs (rest ++ tail)) p.0 (plain_join (call_chars name x) (called_text name xs (rest ++ tail)) (call_plain at x a.0) (called_plain (at + width x.kept + width x.old) xs rest tail a.1 q.1 g))
+
+  -- a range has characters
+  some_old : (n : ℕ) → AreOrdered 0 (map span_of ts) n → (at : ℕ) (x : Window) → IsWindow name ts t at x → x.old ≡ [] → ⊥
+  some_old n o at x y e =
+      let s = some_range n ts x.from x.upto (at + width x.kept) (at + width x.kept + width x.old) o y.at_tokens in
+      let z : width x.old ≡ width [] = ap width e in
+      omega (arith, s, z, width-nil)
+
+  called_allowed : (n : ℕ) → AreOrdered 0 (map span_of ts) n → (at : ℕ) (xs : List Window) (rest tail : List ℕ) → AreWindows name ts t at xs → are_allowed (file_text xs rest) ≡ true → are_allowed tail ≡ true → list_all is_plain tail ≡ true → are_allowed (called_text name xs (rest ++ tail)) ≡ true
+  called_allowed n o at [] [] tail a h g p = g
+  called_allowed n o at [] (c ∷ cs) tail a h g p = let b = both (not (c == 0)) (list_all is_plain cs) h in and_true (not (c == 0)) (list_all is_plain (cs ++ tail)) b.0 (plain_join cs tail b.1 p)
+  called_allowed n o at (x ∷ xs) rest tail a h g p = by x.kept x.old h (some_old n o at x a.0) (λ f. plain_join (call_chars name x) (called_text name xs (rest ++ tail)) (call_plain at x a.0) (called_plain (at + width x.kept + width x.old) xs rest tail a.1 f p))
+    where
+      plain_allowed : (l : List ℕ) → list_all is_plain l ≡ true → are_allowed l ≡ true
+      plain_allowed [] e = refl
+      plain_allowed (y ∷ ys) e = let b = both (is_plain y) (list_all is_plain ys) e in and_true (not (y == 0)) (list_all is_plain ys) (both (not (y == 0)) (not (y == 65279)) b.0).0 b.1
+
+      by : (kept old : List ℕ) → are_allowed (kept ++ (old ++ file_text xs rest)) ≡ true → (old ≡ [] → ⊥) → (list_all is_plain (file_text xs rest) ≡ true → list_all is_plain (call_chars name x ++ called_text name xs (rest ++ tail)) ≡ true) → are_allowed (kept ++ (call_chars name x ++ called_text name xs (rest ++ tail))) ≡ true
+      by [] [] h s f = absurd (s refl)
+      by [] (c ∷ cs) h s f = plain_allowed (call_chars name x ++ called_text name xs (rest ++ tail)) (f (plain_both cs (file_text xs rest) (both (not (c == 0)) (list_all is_plain (cs ++ file_text xs rest)) h).1).1)
+      by (c ∷ cs) old h s f =
+          let b = both (not (c == 0)) (list_all is_plain (cs ++ (old ++ file_text xs rest))) h in
+          let d = plain_both cs (old ++ file_text xs rest) b.1 in
+          and_true (not (c == 0)) (list_all is_plain (cs ++ (call_chars name x ++ called_text name xs (rest ++ tail)))) b.0 (plain_join cs (call_chars name x ++ called_text name xs (rest ++ tail)) d.0 (f (plain_both old (file_text xs rest) d.1).1))
+
   made : (at : ℕ) (xs : List Window) (rest tail : List ℕ) → AreWindows name ts t at xs → AllApart xs → Made at xs rest tail
   made at [] rest tail a free = record { ranges = []; calls = tt; sites = refl; old = refl; new = refl; texts = tt; trees = tt }
   made at (x ∷ xs) rest tail a free =
@@ -261,11 +318,24 @@ module _ (k : Facts) (name : ℕ → List ℕ) (file : ℕ) (ts : List Token) (t
         trees = (tree_fits at x a.0 m.ranges rest tail b, m.trees);
       }
 
+-- what is appended begins with a newline
+tail_plain : (tail : List ℕ) → is_at_line_end tail ≡ true → are_allowed tail ≡ true → list_all is_plain tail ≡ true
+tail_plain [] e h = refl
+tail_plain (y ∷ ys) e h =
+    let ten : is_plain y ≡ true = ap is_plain (eqb-true y 10 e) in
+    and_true (is_plain y) (list_all is_plain ys) ten (both (not (y == 0)) (list_all is_plain ys) h).1
+
 pub called_files : Facts → CalledFilesAreRewritten
 called_files k w h =
     let l = h.lexes in
     let free = all_apart k w.name w.file w.tokens w.tree h.derives l.pieces l.cut l.good l.spelled w.windows w.rest [] l.pieces 0 refl l.whole (sym width-nil) h.windows in
     let m = made k w.name w.file w.tokens w.tree h.derives 0 w.windows w.rest w.tail h.windows free in
+    let ordered : AreOrdered 0 (map span_of w.tokens) (0 + width (join l.pieces)) = subst (λ xs. AreOrdered 0 (map span_of xs) (0 + width (join l.pieces))) (sym l.spelled) (tokens_ordered w.file 0 l.pieces true) in
+    let new_is : (before behind : List ℕ) → IsText (file_text w.windows w.rest) before → IsText w.tail behind → IsText (called_text w.name w.windows (w.rest ++ w.tail)) (encode_utf8_all (called_text w.name w.windows (w.rest ++ w.tail))) = λ before behind o n. record {
+      scalars = called_scalars k w.name w.file w.tokens w.tree h.derives 0 w.windows w.rest w.tail h.windows o.scalars n.scalars;
+      encoded = refl;
+      allowed = called_allowed k w.name w.file w.tokens w.tree h.derives (0 + width (join l.pieces)) ordered 0 w.windows w.rest w.tail h.windows o.allowed n.allowed (tail_plain w.tail h.appended.begins n.allowed);
+    } in
     let agrees : agreeing m.ranges w.tree ≡ true = k.clear (kinds w.tokens) category.File w.tree m.ranges h.derives (ap (all_clear w.tree) m.sites ∙ h.clear) in
     record {
       ranges = m.ranges;
@@ -274,9 +344,10 @@ called_files k w h =
       old = m.old;
       new = m.new;
       well_formed = record { lexes = subst (λ l. Lexes w.file l w.tokens w.comments) (sym m.old) h.lexes; derives = h.derives; texts = m.texts; trees = m.trees; agrees = agrees };
+      is_text = new_is;
       as_file = λ before behind o n l f low. record {
         old_bytes = subst (λ l. IsText l before) (sym m.old) o;
-        new_bytes = subst (λ l. IsText l behind) (sym m.new) n;
+        new_bytes = subst (λ l. IsText l (encode_utf8_all (called_text w.name w.windows (w.rest ++ w.tail)))) (sym m.new) (new_is before behind o n);
         lexing = l;
         tree = f;
         texts = m.texts;

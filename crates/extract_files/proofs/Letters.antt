@@ -1,5 +1,5 @@
 -- A call begins with a letter, and a letter joins nothing but words.
-use Rattle.std.proofs.Common.{◌≡◌, ℕ, zero, suc, ◌+◌, ◌<◌, ◌≤◌, ◌⊎◌, inl, inr, Bool, true, false, not, ◌&&◌, ◌||◌, ◌==◌, cond, List, [], ◌∷◌, ◌++◌, append_assoc, codes, Option, Some, None, refl, sym, ap, ◌∙◌, subst, arith, eqb-true}
+use Rattle.std.proofs.Common.{◌≡◌, ℕ, Bool, true, false, not, ◌&&◌, ◌||◌, ◌==◌, cond, List, [], ◌∷◌, ◌++◌, append_assoc, codes, Some, refl, sym, ap, ◌∙◌, subst, arith, eqb-true}
 use Rattle.std.specs.Prelude.{unwrap_or, map}
 use Rattle.std.specs.List.{list_any, list_all}
 use Rattle.std.specs.Char.{encode_utf8}
@@ -12,8 +12,9 @@ use Rattle.go_tokens.specs.declared.piece.PieceKind.{PieceKind}
 use Rattle.go_tokens.specs.declared.piece.PieceKind.TheVariants.{White, LineComment, BlockComment, Word, Number, HexNumber, Rune, Text, RawText, Operator, Stray}
 use Rattle.go_tokens.specs.declared.token.TokenKind.{TokenKind}
 use Rattle.go_tokens.specs.declared.token.TokenKind.TheVariants as token
-use Rattle.go_tokens.specs.Characters.{is_white, is_letter, is_digit, is_in_word, is_in_run}
+use Rattle.go_tokens.specs.Characters.{is_white, is_letter, is_digit, is_in_word}
 use Rattle.go_tokens.specs.Editing.{is_identifier}
+use Rattle.go_tokens.specs.Encoding.{is_plain}
 use Rattle.go_tokens.specs.Lexing.{token_kind, token_kind_as}
 use Rattle.go_tokens.specs.Pieces.{begun_by, kind, is_piece}
 use Rattle.go_tokens.specs.Replacing.{joins, are_beside}
@@ -188,3 +189,20 @@ letter_free x y l w p =
     or_none _ _
     (or_none _ _ (or_none _ _ (and_first (is_in_word x) _ w) (and_first (x == 46) _ p)) (false_or_not (list_any (are_beside x y) operators) (none_beside x y operators l no_letters)))
     (and_second (x == 47) _ (or_none _ _ (not_this y 47 l slash_letter) (not_this y 42 l star_letter)))
+
+nought_letter : is_letter 0 ≡ false
+unfolding is_letter general_category value_in general_category_rows
+nought_letter = refl
+
+mark_letter : is_letter 65279 ≡ false
+unfolding is_letter general_category value_in general_category_rows
+mark_letter = refl
+
+-- a letter may stand anywhere
+pub letter_plain : (y : ℕ) → is_letter y ≡ true → is_plain y ≡ true
+letter_plain y l = both_not (y == 0) (y == 65279) (not_this y 0 l nought_letter) (not_this y 65279 l mark_letter)
+  where
+    both_not : (a b : Bool) → a ≡ false → b ≡ false → (not a && not b) ≡ true
+    both_not true b e f = cc
+    both_not false true e f = cc
+    both_not false false e f = refl

@@ -1,6 +1,7 @@
 -- A file with calls has one derivation.
 use Rattle.std.proofs.Common.{◌≡◌, ℕ, zero, suc, ◌+◌, ◌-◌, ◌<◌, ◌≤◌, ◌⊎◌, inl, inr, Bool, true, false, List, [], ◌∷◌, ◌++◌, append-nil, length, map, Option, Some, None, refl, sym, ap, ◌∙◌, subst, arith}
 use Rattle.std.specs.Prelude.{slice_get}
+use Rattle.std.specs.Str.{encode_utf8_all}
 use Rattle.std.proofs.lemmas.List.{length-append}
 use Rattle.go_tokens.specs.declared.token.Token.{Token}
 use Rattle.go_tokens.specs.declared.token.TokenKind.{TokenKind}
@@ -19,7 +20,7 @@ use Rattle.go_rewriting.specs.Rewriting.{Rewrite, IsRange, TextsFit, changes, ed
 use Rattle.go_rewriting.specs.Sites.{Local, items, Site, insert, patch_of}
 use Rattle.go_rewriting.proofs.Public.{derives_kept, first_carry, last_carry, soft_same}
 use Rattle.go_print_laws.specs.Calls.{call_trees}
-use Rattle.extract_files.specs.Files.{Window, CalledFilesAreRewritten, call_sites, rewriting_of}
+use Rattle.extract_files.specs.Files.{called_text, Window, CalledFilesAreRewritten, call_sites, rewriting_of}
 use Rattle.extract_files.specs.Levels.{IsFileTree, CalledFilesHaveOneTree, FilesWithoutTreesAreDeep}
 use Rattle.extract_files.proofs.Appended.{appended}
 use Rattle.extract_files.proofs.Moves.{moved_start, moved_end}
@@ -134,7 +135,7 @@ with_added ks ws t (Some d) h a =
 -- ---- one derivation
 
 pub one_tree : CalledFilesAreRewritten → ((c : Category) (w : Rewriting) → IsWellFormed c w → HasTail w → HasNewTokens w × HasNewTree c w) → CalledFilesHaveOneTree
-one_tree law rewritten w h t bytes b =
+one_tree law rewritten w h t before behind o b =
     let r = law w h in
     let n = rewritten category.File (rewriting_of w r.ranges) r.well_formed h.appended in
     let l = h.lexes in
@@ -152,7 +153,7 @@ one_tree law rewritten w h t bytes b =
     record {
       tokens = n.0.tokens;
       comments = n.0.comments;
-      lexing = record { text = new_text (edits r.ranges w.rest) w.tail; is_text = subst (λ x. IsText x bytes) (sym r.new) b; lexes = n.0.lexes };
+      lexing = record { text = new_text (edits r.ranges w.rest) w.tail; is_text = subst (λ x. IsText x (encode_utf8_all (called_text w.name w.windows (w.rest ++ w.tail)))) (sym r.new) (r.is_text before behind o b); lexes = n.0.lexes };
       tree = extended (length (changed (changes r.ranges) (kinds w.tokens))) (kinds w.tail_tokens) w.added (new_tree r.ranges w.tree);
       is_tree = whole;
       only = λ u i. unique (kinds n.0.tokens) category.File u _ i.derives whole.derives (i.begins ∙ sym whole.begins) (i.ends ∙ sym whole.ends);

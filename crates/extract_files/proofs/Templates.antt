@@ -347,14 +347,14 @@ and_true : (a b : Bool) → a ≡ true → b ≡ true → (a && b) ≡ true
 and_true true b e f = f
 and_true false b e f = cc
 
-scalars_both : (xs ys : List ℕ) → all_scalars (xs ++ ys) ≡ true → (all_scalars xs ≡ true) × (all_scalars ys ≡ true)
+pub scalars_both : (xs ys : List ℕ) → all_scalars (xs ++ ys) ≡ true → (all_scalars xs ≡ true) × (all_scalars ys ≡ true)
 scalars_both [] ys h = (refl, h)
 scalars_both (x ∷ xs) ys h =
     let b = both _ (all_scalars (xs ++ ys)) h in
     let r = scalars_both xs ys b.1 in
     (and_true _ _ b.0 r.0, r.1)
 
-scalars_join : (xs ys : List ℕ) → all_scalars xs ≡ true → all_scalars ys ≡ true → all_scalars (xs ++ ys) ≡ true
+pub scalars_join : (xs ys : List ℕ) → all_scalars xs ≡ true → all_scalars ys ≡ true → all_scalars (xs ++ ys) ≡ true
 scalars_join [] ys h k = k
 scalars_join (x ∷ xs) ys h k = let b = both _ (all_scalars xs) h in and_true _ _ b.0 (scalars_join xs ys b.1 k)
 
@@ -370,14 +370,14 @@ named_scalars ts at (x ∷ xs) rest t h =
     scalars_join x.kept (32 ∷ (chars x.name ++ (32 ∷ named_text xs rest))) a.0
     (scalars_join (32 ∷ []) (chars x.name ++ (32 ∷ named_text xs rest)) blank_scalar (scalars_join (chars x.name) (32 ∷ named_text xs rest) t.0.name.scalars (scalars_join (32 ∷ []) (named_text xs rest) blank_scalar more)))
 
-plain_both : (xs ys : List ℕ) → list_all is_plain (xs ++ ys) ≡ true → (list_all is_plain xs ≡ true) × (list_all is_plain ys ≡ true)
+pub plain_both : (xs ys : List ℕ) → list_all is_plain (xs ++ ys) ≡ true → (list_all is_plain xs ≡ true) × (list_all is_plain ys ≡ true)
 plain_both [] ys h = (refl, h)
 plain_both (x ∷ xs) ys h =
     let b = both (is_plain x) (list_all is_plain (xs ++ ys)) h in
     let r = plain_both xs ys b.1 in
     (and_true (is_plain x) (list_all is_plain xs) b.0 r.0, r.1)
 
-plain_join : (xs ys : List ℕ) → list_all is_plain xs ≡ true → list_all is_plain ys ≡ true → list_all is_plain (xs ++ ys) ≡ true
+pub plain_join : (xs ys : List ℕ) → list_all is_plain xs ≡ true → list_all is_plain ys ≡ true → list_all is_plain (xs ++ ys) ≡ true
 plain_join [] ys h k = k
 plain_join (x ∷ xs) ys h k = let b = both (is_plain x) (list_all is_plain xs) h in and_true (is_plain x) (list_all is_plain (xs ++ ys)) b.0 (plain_join xs ys b.1 k)
 

@@ -126,8 +126,11 @@ pub record IsRewritten (w : Called) : Type 0 where
   pub old : old_text (edits ranges w.rest) ≡ file_text w.windows w.rest
   pub new : new_text (edits ranges w.rest) w.tail ≡ called_text w.name w.windows (w.rest ++ w.tail)
   pub well_formed : IsWellFormed categories.File (rewriting_of w ranges)
-  pub as_file : (before behind : List ℕ) → IsText (file_text w.windows w.rest) before → IsText (called_text w.name w.windows (w.rest ++ w.tail)) behind → IsLexing w.file before w.tokens w.comments
-      → IsFile (kinds w.tokens) w.tree → depth (new_tree ranges w.tree) ≤ 101 → IsFileWellFormed (record { text = rewriting_of w ranges; old = before; new = behind; added = w.added })
+  pub as_file : (before behind : List ℕ) → IsText (file_text w.windows w.rest) before → IsText w.tail behind → IsLexing w.file before w.tokens w.comments → IsFile (kinds w.tokens) w.tree → depth (new_tree ranges w.tree) ≤ 101
+      → IsFileWellFormed (record { text = rewriting_of w ranges; old = before; new = encode_utf8_all (called_text w.name w.windows (w.rest ++ w.tail)); added = w.added })
+  -- the new characters are a text of a file
+  pub is_text : (before behind : List ℕ) → IsText (file_text w.windows w.rest) before → IsText w.tail behind
+      → IsText (called_text w.name w.windows (w.rest ++ w.tail)) (encode_utf8_all (called_text w.name w.windows (w.rest ++ w.tail)))
 
 -- A file with calls at its windows, and a function behind it, is a rewriting of the file.
 abbrev pub CalledFilesAreRewritten : Type 0

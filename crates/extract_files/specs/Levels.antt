@@ -1,5 +1,6 @@
 -- The tree of a file with calls, of whatever depth.
 use Rattle.std.specs.Prelude.{◌≡◌, ℕ, ◌++◌, ◌<◌, length, List}
+use Rattle.std.specs.Str.{encode_utf8_all}
 use Rattle.go_base.specs.declared.Span.{Span}
 use Rattle.go_tokens.specs.declared.token.Token.{Token}
 use Rattle.go_tokens.specs.declared.token.TokenKind.{TokenKind}
@@ -9,7 +10,7 @@ use Rattle.go_tokens.specs.Tokens.{kinds}
 use Rattle.go_grammar.specs.declared.kind.Category.TheVariants as category
 use Rattle.go_grammar.specs.Grammar.{Derives, IsFile}
 use Rattle.go_grammar.specs.Trees.{Tree, first, last, depth}
-use Rattle.extract_files.specs.Files.{Called, IsCalled, called_text}
+use Rattle.extract_files.specs.Files.{Called, IsCalled, called_text, file_text}
 
 -- A derivation of a file over all its tokens, of whatever depth.
 pub record IsFileTree (ts : List TokenKind) (t : Tree) : Type 0 where
@@ -28,7 +29,8 @@ pub record HasOneTree (file : ℕ) (bytes : List ℕ) : Type 0 where
 
 -- A file with calls at its windows, and a function behind it, has one derivation over all its tokens.
 abbrev pub CalledFilesHaveOneTree : Type 0
-CalledFilesHaveOneTree = (w : Called) → IsCalled w → IsFileTree (kinds w.tokens) w.tree → (bytes : List ℕ) → IsText (called_text w.name w.windows (w.rest ++ w.tail)) bytes → HasOneTree w.file bytes
+CalledFilesHaveOneTree = (w : Called) → IsCalled w → IsFileTree (kinds w.tokens) w.tree → (before behind : List ℕ) → IsText (file_text w.windows w.rest) before → IsText w.tail behind
+    → HasOneTree w.file (encode_utf8_all (called_text w.name w.windows (w.rest ++ w.tail)))
 
 -- Where that isn't the tree of a file within the limit on levels, it has more levels.
 abbrev pub FilesWithoutTreesAreDeep : Type 0

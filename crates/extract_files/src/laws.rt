@@ -57,8 +57,8 @@ pub fn runs_are_enclosed()
 /// tokens and the tree that the calls make of the old ones.
 ///
 /// A caller gives the file's lexing and its tree, for each window the path to the node that lists it and its tokens, and that its call
-/// can be written; and what is appended with its declaration (`extracted_functions_stand`). What
-/// stands around a window is told by the grammar.
+/// can be written; and what is appended with its declaration (`extracted_functions_stand`). What stands around a window is told by the
+/// grammar, and that a call joins nothing there by its letters.
 pub fn called_files_are_rewritten()
     ensures { CalledFilesAreRewritten }
 {
