@@ -192,8 +192,8 @@ module _ (tells : Tells) (tell : TellPieces) (ts us : List TokenKind) (a : Alone
               derive = place.1;
               each =
                   each_told a g (function_events a) old (gap_text g (v g.from)) (gap_means g (v g.from)) (v g.from) (v g.from) (calls g).declared (calls g).types g.declared (calls g).results (calls g).arguments
-                  (λ d n r. told_here P v gaps d g gs ps old i j s m r k.2 (f g (inl refl) d n r)) (c.each g m);
-              fields = c.fields g m;
+                  (λ d n r. told_here P v gaps d g gs ps old i j s m r k.2 (f g (inl refl) d n r)) (c.mean.each g m);
+              fields = c.mean.fields g m;
             })),
         walk gs ps g.upto j s.2 (λ y n. into y (inr n)) k.2
             (λ y n d o r. told_later P v gaps d y g gs ps old i j s n r (λ e. (among_each (EventGoes g k.0.block k.0.end) (event.Declaration d) old k.0.each e).name) (f y (inr n) d o r)),
@@ -203,11 +203,11 @@ module _ (tells : Tells) (tell : TellPieces) (ts us : List TokenKind) (a : Alone
   call_site = is_site tells ts us a gaps new h outer (record {
     tell = walk gaps (pieces v (file_context 0) a.tree h.patch) 1 (length a.texts) asc (λ g m. m)
         (function_stays P ts tells gaps v a.tree h.patch h.function.function h.function.derives h.lists h.places c.trees) (λ g m d n r. subst (Among (event.Declaration d)) before n);
-    says = c.says;
-    needed = c.needed;
+    says = c.mean.says;
+    needed = c.mean.needed;
     once = λ g m y z k l e. by g m y z k l e;
-    reuses = c.reuses;
-    used = c.used;
+    reuses = c.mean.reuses;
+    used = c.mean.used;
   })
     where
       before : function_events a ≡ told_before (pieces v (file_context 0) a.tree h.patch)
@@ -217,5 +217,5 @@ module _ (tells : Tells) (tell : TellPieces) (ts us : List TokenKind) (a : Alone
           (name_kept gaps (first a.tree) (last a.tree) (function_gaps ts gaps a.tree h.patch h.function.function h.function.derives h.lists h.places) (derives_grows ts a.tree category.Declaration h.function.derives)) h.lists)).before
 
       by : (g : Gap) → Among g gaps → (y z : Redeclared) → Among y g.declared → Among z g.declared → (y.old ≡ z.old) ⊎ (y.token ≡ z.token) → y ≡ z
-      by g m y z k l (inl e) = c.once g m y z k l e
-      by g m y z k l (inr e) = tokens_once a g (function_events a) (gap_text g (v g.from)) (gap_means g (v g.from)) (v g.from) (v g.from) (calls g).declared (calls g).types g.declared (calls g).results (calls g).arguments (c.each g m) y z k l e
+      by g m y z k l (inl e) = c.mean.once g m y z k l e
+      by g m y z k l (inr e) = tokens_once a g (function_events a) (gap_text g (v g.from)) (gap_means g (v g.from)) (v g.from) (v g.from) (calls g).declared (calls g).types g.declared (calls g).results (calls g).arguments (c.mean.each g m) y z k l e

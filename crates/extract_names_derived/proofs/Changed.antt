@@ -16,13 +16,13 @@ use Rattle.extract_names_derived.specs.Sites.{AreOf, IsChangedFunction, Rewrites
 use Rattle.extract_names_derived.proofs.Apart.{carry_same, carries_same}
 use Rattle.extract_names_derived.proofs.Ranges.{function_patched}
 
-ranges_same : (gs : List Gap) (xs : List Change) → AreOf gs xs → changes.ranges xs ≡ ranges gs
+pub ranges_same : (gs : List Gap) (xs : List Change) → AreOf gs xs → changes.ranges xs ≡ ranges gs
 ranges_same [] [] h = refl
 ranges_same [] (x ∷ xs) h = absurd h
 ranges_same (g ∷ gs) [] h = absurd h
 ranges_same (g ∷ gs) (x ∷ xs) h = ap (λ a. range a x.upto ∷ changes.ranges xs) h.0 ∙ ap (λ b. range g.from b ∷ changes.ranges xs) h.1 ∙ ap (λ rs. range g.from g.upto ∷ rs) (ranges_same gs xs h.3)
 
-moved_same : (gs : List Gap) (xs : List Change) → AreOf gs xs → (n : ℕ) → changes.moved_by xs n ≡ moved_by gs n
+pub moved_same : (gs : List Gap) (xs : List Change) → AreOf gs xs → (n : ℕ) → changes.moved_by xs n ≡ moved_by gs n
 moved_same [] [] h n = refl
 moved_same [] (x ∷ xs) h n = absurd h
 moved_same (g ∷ gs) [] h n = absurd h

@@ -34,5 +34,7 @@ mod ParameterEvents
 mod PrintedCopies
 mod DerivedCopies
 mod Changed
+mod SiteDerives
+mod PrintedCalls
 mod BodyParts
 mod Examples

@@ -32,9 +32,14 @@ abbrev pub CallsAtSites : List TokenKind → List Gap → (Gap → Call) → Tre
 CallsAtSites us gaps calls t [] = Unit {0}
 CallsAtSites us gaps calls t (x ∷ xs) = ((f n : ℕ) (new : Trees) → x.change ≡ items f n new → CallInPlace us gaps calls (site_range t x).from new) × CallsAtSites us gaps calls t xs
 
--- What is asked of the calls in the place of runs.
-pub record CallsAsked (us : List TokenKind) (a : Alone) (outer : Outer) (gaps : List Gap) (new : Alone) (patch : Patch) (calls : Gap → Call) : Type 0 where
-  pub trees : EachRun (CallInPlace us gaps calls) a.tree patch
+-- The new statements at the end of each path are those of the call of the gap that begins there.
+abbrev pub CallTreesAtSites : List Gap → (Gap → Call) → Tree → List Site → Type 0
+CallTreesAtSites gaps calls t [] = Unit {0}
+CallTreesAtSites gaps calls t (x ∷ xs) = ((f n : ℕ) (new : Trees) → x.change ≡ items f n new → (g : Gap) → Among g gaps → g.from ≡ (site_range t x).from → new ≡ call_trees (moved_by gaps g.from) (calls g))
+    × CallTreesAtSites gaps calls t xs
+
+-- What is asked of what the calls in the place of runs name and declare.
+pub record CallsMean (a : Alone) (outer : Outer) (gaps : List Gap) (new : Alone) (calls : Gap → Call) : Type 0 where
   -- Names of types mean what no local is, others what may be named anywhere; and each declared variable is one of the run again.
   pub each : (g : Gap) → Among g gaps
       → DeclaresEach a g (function_events a) (gap_text g (moved_by gaps g.from)) (gap_means g (moved_by gaps g.from)) (moved_by gaps g.from) (moved_by gaps g.from) (calls g).declared
@@ -52,3 +57,8 @@ pub record CallsAsked (us : List TokenKind) (a : Alone) (outer : Outer) (gaps : 
       → (w : Declaration) × Among (event.Declaration w) (function_events a) × (is_reused_of (found_as a d) (found_as a w) ≡ true) × DeclaredAgainIn gaps w.name
   -- Each variable that is declared still is used.
   pub used : (d : Declaration) → Among (event.Declaration d) (function_events a) → is_new (own_names a) (found_as a d) ≡ true → d.entity ≡ entity.Variable → DeclaredStill gaps d.name → UsedThere a outer gaps new d.name
+
+-- The statements of these calls stand in the place of runs.
+pub record CallsAsked (us : List TokenKind) (a : Alone) (outer : Outer) (gaps : List Gap) (new : Alone) (patch : Patch) (calls : Gap → Call) : Type 0 where
+  pub trees : EachRun (CallInPlace us gaps calls) a.tree patch
+  pub mean : CallsMean a outer gaps new calls

@@ -25,7 +25,7 @@ ghost use Rattle.go_print_laws.specs.Headers.{Header};
 ghost use Rattle.go_scopes_bodies.specs.Listed.{told_list};
 ghost use Rattle.extract_names_derived.specs.Bodies.{BodySplits};
 ghost use Rattle.extract_names_derived.specs.Calls.{CallStands};
-ghost use Rattle.extract_names_derived.specs.CallSites.{CallInPlace, CallsAtSites, CallsAsked};
+ghost use Rattle.extract_names_derived.specs.CallSites.{CallInPlace, CallsAtSites, CallTreesAtSites, CallsMean, CallsAsked};
 ghost use Rattle.extract_names_derived.specs.Copied.{CopyStands, CopyTold};
 ghost use Rattle.extract_names_derived.specs.Copies.{SplitsAt, IsTaken, PlacesRun, RunPlaced};
 ghost use Rattle.extract_names_derived.specs.Examples.{Examples};
@@ -128,6 +128,13 @@ pub fn calls_stand_at_sites()
     ensures { (us : List TokenKind) (gaps : List Gap) (calls : Gap → Call) (t : Tree) (xs : List Site) → ReplaceRuns t xs → CallsAtSites us gaps calls t xs → EachRun (CallInPlace us gaps calls) t (patch_of xs) }
 {}
 
+/// Where the tokens of a derived function are changed at runs of its statements, and the new statements are those of calls, these are derived
+/// over the tokens of their gaps (Go specification: Statement lists).
+pub fn calls_are_derived_at_sites()
+    ensures { (ts : List TokenKind) (a : Alone) (gaps : List Gap) (xs : List Change) (ss : List Site) (new : Alone) (calls : Gap → Call) → IsChangedFunction ts a gaps xs ss new → CallTreesAtSites gaps calls a.tree ss
+        → CallsAtSites (changed xs ts) gaps calls a.tree ss }
+{}
+
 /// So a derived function with calls in the place of runs is a site, where each name of a call says what it has to, the locals of a run that
 /// are named elsewhere are the variables that its call declares, and variables stay used (Go specification: Blocks, Calls).
 pub fn calls_make_sites()
@@ -135,6 +142,18 @@ pub fn calls_make_sites()
 {
     lists_tell_each_statement();
     replaced_runs_tell();
+}
+
+/// So a derived function whose tokens are changed at runs to those of printed calls is a site, where each name of a call says what it has to,
+/// the locals of a run that are named elsewhere are the variables that its call declares, and variables stay used (Go specification: Blocks,
+/// Calls).
+pub fn printed_calls_make_sites()
+    ensures { (ts : List TokenKind) (a : Alone) (outer : Outer) (gaps : List Gap) (xs : List Change) (ss : List Site) (new : Alone) (calls : Gap → Call) → IsChangedFunction ts a gaps xs ss new
+        → CallTreesAtSites gaps calls a.tree ss → CallsMean a outer gaps new calls → IsSite a outer gaps new }
+{
+    lists_tell_each_statement();
+    replaced_runs_tell();
+    changed_sites();
 }
 
 /// What a derived function tells of names falls in three parts: what stands in front of a run of its statements, what the run tells, and what
