@@ -26,4 +26,10 @@ examples = record {
   places = refl;
   texts = refl;
   copied = record { apart = (omega arith, omega arith, omega arith); long = omega arith; front = take 13 taken.texts; back = drop 24 taken.texts; place = places; texts = refl };
+  reused = refl;
+  reused_faultless = refl;
+  called = refl;
+  called_faultless = refl;
+  field = refl;
+  field_faultless = refl;
 }

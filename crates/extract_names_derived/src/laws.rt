@@ -221,7 +221,8 @@ pub fn bodies_split_functions()
     lists_tell_one_behind_the_other();
 }
 
-/// A run that is replaced by a declaration and a call, and the copy of the run, worked out by hand.
+/// A run that is replaced by a declaration and a call, and the copy of the run, worked out by hand; and what names mean where a run reuses a
+/// variable that `:=` behind it reuses too, and where a field is spelled like a parameter.
 pub fn examples()
     ensures { Examples }
 {}
