@@ -76,6 +76,12 @@ pub fn objects_are_declared_once()
     files_are_orderly();
 }
 
+/// What a declaration of the package block needs at once is declared in the package block, where the names of the package are free of faults:
+/// outside of the bodies of functions no local is in scope (Go specification: Declarations and scope, Package initialization).
+pub fn shared_declarations_need_no_locals()
+    ensures { (ss : List Source) → IsFaultless ss → NeedsStayShared (map unit_of ss) }
+{}
+
 /// Where the declarations of the package block need no others at once, as many rounds as there are of them, twice, find all that they need.
 pub fn shared_needs_are_closed()
     ensures token { (ss : List Source) → NeedsStayShared (map unit_of ss) → (m t : ℕ) → DeclaresShared (map unit_of ss) m t → IsClosed (package_in ss) m t }
