@@ -47,3 +47,4 @@ mod Bodies
 mod Locals
 mod Homes
 mod Alike
+pub mod Public

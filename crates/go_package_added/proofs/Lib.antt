@@ -17,3 +17,4 @@ mod Unchanged
 mod Surrounding
 mod Closing
 mod Shared
+mod Staying

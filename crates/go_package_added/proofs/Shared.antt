@@ -108,12 +108,12 @@ distinct n i (d ∷ ds) x y h (inr k) (inr l) e = distinct d.file (suc d.it.name
 
 -- ---- the declaration at a token
 
-record IsFoundAt (m t : ℕ) (xs : List Found) (e : Found) : Type 0 where
-  among : IsIn e xs
+pub record IsFoundAt (m t : ℕ) (xs : List Found) (e : Found) : Type 0 where
+  pub among : IsIn e xs
   file : e.file ≡ m
   name : e.it.name ≡ t
 
-found_at : (m t : ℕ) (xs : List Found) (e : Found) → declared_at m t xs ≡ Some e → IsFoundAt m t xs e
+pub found_at : (m t : ℕ) (xs : List Found) (e : Found) → declared_at m t xs ≡ Some e → IsFoundAt m t xs e
 found_at m t [] e h = cc
 found_at m t (x ∷ xs) e h = by (is_at m t x) refl h (λ r. found_at m t xs e r)
   where
@@ -142,7 +142,7 @@ record ComesFrom (xs : List Found) (d : Declared) : Type 0 where
   name : it.it.name ≡ d.name
   block : is_package it.it.block ≡ true
 
-new_in : (all xs : List Found) (d : Found) → IsIn d (new_among all xs) → IsIn d xs
+pub new_in : (all xs : List Found) (d : Found) → IsIn d (new_among all xs) → IsIn d xs
 new_in all [] d h = h
 new_in all (x ∷ xs) d h = by (is_new all x) h (λ r. new_in all xs d r)
   where

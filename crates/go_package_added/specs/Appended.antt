@@ -104,19 +104,19 @@ found_in ss = known (package_in ss) (outlines_in ss) (rounds (package_in ss))
 abbrev pub function_specification : (k : ℕ) (ss us : List Source) → IsAppended k ss us → Specification
 function_specification k ss us h = function k (function_tree k ss us h) h.first h.last (more h.signature (more (node kind.Block h.opens h.closes none) none))
 
--- The package keeps what its names mean and what its declarations need. And if it is closed and has an answer, the longer one has it too, with
--- the function's type at its number, where the function isn't called `main` and no rule fails in its signature.
+-- The package keeps what its names mean and what its declarations need. And if it has an answer, the longer one has it too, with the
+-- function's type at its number, where the function isn't called `main` and no rule fails in its signature.
 pub record AnswersWith (k : ℕ) (ss us : List Source) (h : IsAppended k ss us) : Type 0 where
   pub keeps : KeepsPackage k h.count (suc h.first) (map unit_of ss) (map unit_of us)
-  pub answer : AreClosed (package_in ss) → same_text (function_name k ss us h) (codes "main") ≡ false → (s : Stands)
+  pub answer : same_text (function_name k ss us h) (codes "main") ≡ false → (s : Stands)
       → IsSignature (package_in us) (outlines_in us) keeps.gap.shared (function_specification k ss us h) 0 (found_in ss) s
       → (x : Environment) → package_answer ss (uses (map unit_of ss)) ≡ Ok x → package_answer us (uses (map unit_of us)) ≡ Ok (with_function keeps.gap.shared s x)
   -- and it has no other
-  pub before : AreClosed (package_in ss) → same_text (function_name k ss us h) (codes "main") ≡ false → (s : Stands)
+  pub before : same_text (function_name k ss us h) (codes "main") ≡ false → (s : Stands)
       → IsSignature (package_in us) (outlines_in us) keeps.gap.shared (function_specification k ss us h) 0 (found_in ss) s
       → (z : Environment) → package_answer us (uses (map unit_of us)) ≡ Ok z → (x : Environment) × (package_answer ss (uses (map unit_of ss)) ≡ Ok x) × (z ≡ with_function keeps.gap.shared s x)
   -- the signature may be judged by what its names mean in the package without it
-  pub signature : AreClosed (package_in ss) → same_text (function_name k ss us h) (codes "main") ≡ false → (test : ℕ → Bool) (meant : ℕ → Option Object)
+  pub signature : same_text (function_name k ss us h) (codes "main") ≡ false → (test : ℕ → Bool) (meant : ℕ → Option Object)
       → ((i : ℕ) → test i ≡ true → object_of (uses (map unit_of us)) k i ≡ option_map (shifted keeps.gap) (meant i)) → AllTokens test h.signature → (s : Stands)
       → IsSignatureBefore (package_in ss) (outlines_in ss) (function_specification k ss us h) 0 (text_at (package_in us) k) meant (found_in ss) s
       → IsSignature (package_in us) (outlines_in us) keeps.gap.shared (function_specification k ss us h) 0 (found_in ss) s

@@ -76,21 +76,29 @@ pub fn objects_are_declared_once()
     files_are_orderly();
 }
 
-/// Where the declarations of the package block need no others at once, as many rounds as there are of them, twice, find all that they need.
+/// What a declaration of the package block needs at once is declared in the package block, where the names of the package are free of faults:
+/// outside of the bodies of functions no local is in scope (Go specification: Declarations and scope, Package initialization).
+pub fn shared_declarations_need_no_locals()
+    ensures { (ss : List Source) → IsFaultless ss → NeedsStayShared (map unit_of ss) }
+{}
+
+/// Where the declarations of the package block need no others at once, as many rounds as there are of them, twice, find all that they need; and
+/// so they do in each package without faults of names.
 pub fn shared_needs_are_closed()
     ensures token { (ss : List Source) → NeedsStayShared (map unit_of ss) → (m t : ℕ) → DeclaresShared (map unit_of ss) m t → IsClosed (package_in ss) m t }
-    ensures all { (ss : List Source) → IsFaultless ss → NeedsStayShared (map unit_of ss) → AreClosed (package_in ss) }
+    ensures all { (ss : List Source) → IsFaultless ss → AreClosed (package_in ss) }
 {
     objects_are_declared_once();
+    shared_declarations_need_no_locals();
 }
 
 /// Behind a function with an empty body that is appended to a file, and whose name no token says, the declarations of a package without faults
-/// of names need what they needed; and if it is closed and has an answer, the longer package has it too, with the function's type at its
-/// number.
+/// of names need what they needed; and if it has an answer, the longer package has it too, with the function's type at its number, and no other.
 pub fn appended_functions_have_their_answer()
     ensures { (k : ℕ) (ss us : List Source) (h : IsAppended k ss us) → IsFaultless ss → NoneSays (function_name k ss us h) (map unit_of ss) → AnswersWith k ss us h }
 {
     appended_functions_keep_the_package();
+    shared_needs_are_closed();
     faultless_packages_settle();
     one_more_function_has_its_answer();
     signatures_follow_from_their_names();
