@@ -1,0 +1,4 @@
+mod Inner
+mod Rising
+mod Within
+mod Begun

@@ -1,0 +1,16 @@
+//! Laws of the bodies of functions. The functions do nothing: their contracts are the laws.
+
+ghost use Rattle.go_package_steady.specs.Begun.{BodiesAreOrdered};
+ghost use Rattle.go_package_steady.specs.Rising.{StatementsAreOrdered};
+
+/// No function is declared in a statement, and a statement is ordered where the types have numbers in order that are declared at its tokens,
+/// one behind the other (Go specification: Statements, Type declarations).
+pub fn statements_are_ordered()
+    ensures { StatementsAreOrdered }
+{}
+
+/// The body of a function is ordered where the types that it declares are locals in order, and what surrounds it and the right sides in front
+/// of it name no declared types but those in front.
+pub fn bodies_are_ordered()
+    ensures { BodiesAreOrdered }
+{}
