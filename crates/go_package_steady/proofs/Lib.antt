@@ -2,3 +2,4 @@ mod Inner
 mod Rising
 mod Within
 mod Begun
+mod Declared

@@ -1,2 +1,3 @@
 pub mod Rising
 pub mod Begun
+pub mod Declared

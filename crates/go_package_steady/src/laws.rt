@@ -1,6 +1,7 @@
 //! Laws of the bodies of functions. The functions do nothing: their contracts are the laws.
 
 ghost use Rattle.go_package_steady.specs.Begun.{BodiesAreOrdered};
+ghost use Rattle.go_package_steady.specs.Declared.{DeclaredLocalsRise};
 ghost use Rattle.go_package_steady.specs.Rising.{StatementsAreOrdered};
 
 /// No function is declared in a statement, and a statement is ordered where the types have numbers in order that are declared at its tokens,
@@ -13,4 +14,10 @@ pub fn statements_are_ordered()
 /// of it name no declared types but those in front.
 pub fn bodies_are_ordered()
     ensures { BodiesAreOrdered }
+{}
+
+/// Where each token has its object, the locals of a function that are declared at rising tokens have numbers in order (Go specification:
+/// Declarations and scope).
+pub fn declared_locals_rise()
+    ensures { DeclaredLocalsRise }
 {}
