@@ -3,3 +3,4 @@ mod Rising
 mod Within
 mod Begun
 mod Declared
+mod Packages

@@ -1,3 +1,4 @@
 pub mod Rising
 pub mod Begun
 pub mod Declared
+pub mod Packages

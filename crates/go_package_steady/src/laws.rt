@@ -2,6 +2,7 @@
 
 ghost use Rattle.go_package_steady.specs.Begun.{BodiesAreOrdered};
 ghost use Rattle.go_package_steady.specs.Declared.{DeclaredLocalsRise};
+ghost use Rattle.go_package_steady.specs.Packages.{FunctionsAreOrdered};
 ghost use Rattle.go_package_steady.specs.Rising.{StatementsAreOrdered};
 
 /// No function is declared in a statement, and a statement is ordered where the types have numbers in order that are declared at its tokens,
@@ -20,4 +21,10 @@ pub fn bodies_are_ordered()
 /// Declarations and scope).
 pub fn declared_locals_rise()
     ensures { DeclaredLocalsRise }
+{}
+
+/// The body of a function in a package is ordered where it declares its types as locals, at rising tokens of its own, and what surrounds it
+/// and the right sides in front of it name no declared types but those in front (Go specification: Function declarations, Type declarations).
+pub fn functions_are_ordered()
+    ensures { FunctionsAreOrdered }
 {}
