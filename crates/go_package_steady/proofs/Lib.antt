@@ -4,3 +4,4 @@ mod Within
 mod Begun
 mod Declared
 mod Packages
+mod Lying

@@ -2,3 +2,4 @@ pub mod Rising
 pub mod Begun
 pub mod Declared
 pub mod Packages
+pub mod Lying

@@ -2,8 +2,11 @@
 
 ghost use Rattle.go_package_steady.specs.Begun.{BodiesAreOrdered};
 ghost use Rattle.go_package_steady.specs.Declared.{DeclaredLocalsRise};
+ghost use Rattle.go_package_steady.specs.Lying.{TypePlacesRise};
 ghost use Rattle.go_package_steady.specs.Packages.{FunctionsAreOrdered};
 ghost use Rattle.go_package_steady.specs.Rising.{StatementsAreOrdered};
+
+use go_tree::laws::parts_lie_in_order;
 
 /// No function is declared in a statement, and a statement is ordered where the types have numbers in order that are declared at its tokens,
 /// one behind the other (Go specification: Statements, Type declarations).
@@ -28,3 +31,10 @@ pub fn declared_locals_rise()
 pub fn functions_are_ordered()
     ensures { FunctionsAreOrdered }
 {}
+
+/// In a derivation types are declared at rising tokens, which are among its own (Go specification: Type declarations).
+pub fn type_places_rise()
+    ensures { TypePlacesRise }
+{
+    parts_lie_in_order();
+}
