@@ -5,3 +5,4 @@ mod Begun
 mod Declared
 mod Packages
 mod Lying
+mod Told

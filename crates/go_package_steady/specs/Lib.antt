@@ -3,3 +3,4 @@ pub mod Begun
 pub mod Declared
 pub mod Packages
 pub mod Lying
+pub mod Told

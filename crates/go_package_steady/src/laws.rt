@@ -5,6 +5,7 @@ ghost use Rattle.go_package_steady.specs.Declared.{DeclaredLocalsRise};
 ghost use Rattle.go_package_steady.specs.Lying.{TypePlacesRise};
 ghost use Rattle.go_package_steady.specs.Packages.{FunctionsAreOrdered};
 ghost use Rattle.go_package_steady.specs.Rising.{StatementsAreOrdered};
+ghost use Rattle.go_package_steady.specs.Told.{TypesAreTold};
 
 use go_tree::laws::parts_lie_in_order;
 
@@ -38,3 +39,8 @@ pub fn type_places_rise()
 {
     parts_lie_in_order();
 }
+
+/// At each token at which a tree declares a type, it tells a declaration of it to the rules on names (Go specification: Type declarations).
+pub fn types_are_told()
+    ensures { TypesAreTold }
+{}
