@@ -1,0 +1,8 @@
+mod Inner
+mod Rising
+mod Within
+mod Begun
+mod Declared
+mod Packages
+mod Lying
+mod Told
