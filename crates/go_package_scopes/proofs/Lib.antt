@@ -3,3 +3,7 @@ mod Results
 mod Renamed
 mod Shaped
 mod Named
+mod Plain
+mod BranchTrees
+mod Branches
+mod Led

@@ -3,7 +3,7 @@
 ghost use Rattle.go_typed.specs.Contents.{content};
 ghost use Rattle.go_typed.specs.Packages.{PackageView};
 ghost use Rattle.go_package_defs.specs.Checked.{IsCheckedPackage};
-ghost use Rattle.go_package_scopes.specs.Functions.{HaveNamesInScope, HaveShape};
+ghost use Rattle.go_package_scopes.specs.Functions.{HaveBranches, HaveNamesInScope, HaveShape};
 
 use go_package_settled::laws::faultless_packages_are_resolved;
 use go_stmts_final_types::laws::derivations_are_shaped;
@@ -26,4 +26,12 @@ pub fn names_of_checked_packages_are_in_scope()
     derivations_are_shaped();
     faultless_packages_are_resolved();
     names_stand_where_they_are_meant();
+}
+
+/// In each typed function of a package that type-checks a `break` stands in a loop or a `switch`, a `continue` in a loop, and a `fallthrough` in
+/// a `switch` (Go specification: Break statements, Continue statements, Fallthrough statements).
+pub fn branches_of_checked_packages_lead_somewhere()
+    ensures { (p : PackageView) → IsCheckedPackage p → HaveBranches (content p).functions }
+{
+    derivations_are_shaped();
 }
