@@ -7,3 +7,4 @@ mod Plain
 mod BranchTrees
 mod Branches
 mod Led
+mod Standing
