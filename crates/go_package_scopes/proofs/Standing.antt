@@ -16,7 +16,7 @@ use Rattle.go_stmts_scopes.specs.Scoped.{tested}
 use Rattle.go_stmts_scopes.specs.Shapes.{IsFunction}
 use Rattle.go_stmts_scopes.specs.Standing.{Extents, Exits, no_exits, exits_in, MayStand, room_in, is_closed, Stands, AllStand, StandsInScope}
 use Rattle.go_package_scopes.specs.Functions.{HaveShape, MayLead, BranchesStand, AllBranchesStand, HaveBranches}
-use Rattle.go_package_scopes.specs.Standing.{NamesStand, AllNamesStand, NamesStandInScope, AreLexicalByNames}
+use Rattle.go_package_scopes.specs.Standing.{NamesStand, AllNamesStand, AreLexicalByNames}
 
 unless_both : (b : Bool) (A B : Type 0) → (A → B) → Unless b A → Unless b B
 unless_both true A B f h = tt
