@@ -3,3 +3,8 @@ mod Results
 mod Renamed
 mod Shaped
 mod Named
+mod Plain
+mod BranchTrees
+mod Branches
+mod Led
+mod Standing

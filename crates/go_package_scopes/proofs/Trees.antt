@@ -56,7 +56,7 @@ grouped_none n declaring.Constant k r (skip ps) = grouped_none n declaring.Const
 grouped_none n declaring.Type k r (skip ps) = grouped_none n declaring.Type k r ps
 grouped_none n declaring.Variable k r (skip ps) = grouped_none n declaring.Variable k r ps
 
-declared_none : (n : ℕ) (s : Sort) (ps : Trees) → those_of entity.Function (declared n s ps) ≡ []
+pub declared_none : (n : ℕ) (s : Sort) (ps : Trees) → those_of entity.Function (declared n s ps) ≡ []
 declared_none n s none = grouped_none n s 0 None none
 declared_none n s (skip ps) = grouped_none n s 0 None (skip ps)
 declared_none n s (more (node (kind.Group g) i j qs) none) = grouped_none n s 0 None qs
@@ -64,7 +64,7 @@ declared_none n s (more (node (kind.Group g) i j qs) (more q ps)) = grouped_none
 declared_none n s (more (node (kind.Group g) i j qs) (skip ps)) = grouped_none n s 0 None (more (node (kind.Group g) i j qs) (skip ps))
 declared_none n s (more (node k i j qs) ps) = grouped_none n s 0 None (more (node k i j qs) ps)
 
-those_append : (ds es : List Specification) → those_of entity.Function (ds ++ es) ≡ those_of entity.Function ds ++ those_of entity.Function es
+pub those_append : (ds es : List Specification) → those_of entity.Function (ds ++ es) ≡ those_of entity.Function ds ++ those_of entity.Function es
 those_append [] es = refl
 those_append (d ∷ ds) es = by (is_this entity.Function d.entity) (those_append ds es)
   where

@@ -9,6 +9,7 @@ use Rattle.go_typed.specs.declared.form.Form.TheVariants as form
 use Rattle.go_typed.specs.Contents.{FuncContent}
 use Rattle.go_typed.specs.Trees.{Typed, typed, Typeds, none, more, skip}
 use Rattle.go_stmts_scopes.specs.Shapes.{IsFunction}
+use Rattle.go_stmts_scopes.specs.Standing.{Exits, no_exits, exits_in}
 
 -- ---- shapes
 
@@ -52,3 +53,28 @@ pub record HasNamesInScope (u : UsesView) (f : FuncContent) : Type 0 where
 abbrev pub HaveNamesInScope : UsesView → List FuncContent → Type 0
 HaveNamesInScope u [] = Unit {0}
 HaveNamesInScope u (f ∷ fs) = HasNamesInScope u f × HaveNamesInScope u fs
+
+-- ---- branches
+
+-- Where it is so told which branches may stand, one of them does (Go specification: Break statements, Continue statements, Fallthrough
+-- statements).
+abbrev pub MayLead : Exits → Form → Type 0
+MayLead e form.Break = e.breaks ≡ true
+MayLead e form.Continue = e.continues ≡ true
+MayLead e form.Fallthrough = e.falls ≡ true
+MayLead e f = Unit {0}
+
+abbrev mutual
+  -- each branch of the tree stands in what it leaves
+  pub BranchesStand : Exits → Typed TypeTree → Type 0
+  BranchesStand e (typed f i j l ps) = MayLead e f × AllBranchesStand (exits_in e f) ps
+
+  pub AllBranchesStand : Exits → Typeds TypeTree → Type 0
+  AllBranchesStand e none = Unit {0}
+  AllBranchesStand e (more p ps) = BranchesStand e p × AllBranchesStand e ps
+  AllBranchesStand e (skip ps) = AllBranchesStand e ps
+
+-- no branch leads out of a function
+abbrev pub HaveBranches : List FuncContent → Type 0
+HaveBranches [] = Unit {0}
+HaveBranches (f ∷ fs) = BranchesStand no_exits f.tree × HaveBranches fs

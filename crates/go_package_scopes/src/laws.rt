@@ -3,11 +3,14 @@
 ghost use Rattle.go_typed.specs.Contents.{content};
 ghost use Rattle.go_typed.specs.Packages.{PackageView};
 ghost use Rattle.go_package_defs.specs.Checked.{IsCheckedPackage};
-ghost use Rattle.go_package_scopes.specs.Functions.{HaveNamesInScope, HaveShape};
+ghost use Rattle.go_package_scopes.specs.Functions.{HaveBranches, HaveNamesInScope, HaveShape};
+ghost use Rattle.go_package_scopes.specs.Standing.{AreLexicalByNames};
 
 use go_package_settled::laws::faultless_packages_are_resolved;
 use go_stmts_final_types::laws::derivations_are_shaped;
-use go_stmts_scopes::laws::{derived_functions_have_shape, names_stand_where_they_are_meant};
+use go_stmts_scopes::laws::{
+    covered_functions_are_scoped, derived_functions_have_shape, names_stand_where_they_are_meant,
+};
 
 /// Each typed function of a package that type-checks has the shape that evaluation asks for (Go specification: Function declarations,
 /// Statements).
@@ -26,4 +29,23 @@ pub fn names_of_checked_packages_are_in_scope()
     derivations_are_shaped();
     faultless_packages_are_resolved();
     names_stand_where_they_are_meant();
+}
+
+/// In each typed function of a package that type-checks a `break` stands in a loop or a `switch`, a `continue` in a loop, and a `fallthrough` in
+/// a `switch` (Go specification: Break statements, Continue statements, Fallthrough statements).
+pub fn branches_of_checked_packages_lead_somewhere()
+    ensures { (p : PackageView) → IsCheckedPackage p → HaveBranches (content p).functions }
+{
+    derivations_are_shaped();
+}
+
+/// Each typed function of a package that type-checks is lexically scoped from its parameters on where by their tokens its names stand as they may,
+/// what is written is a place, and each variable that is in scope at one of its tokens is a parameter or is declared in it (Go specification:
+/// Blocks, Declarations and scope). Nothing is asked of its parts, nor of its branches.
+pub fn functions_of_checked_packages_are_scoped_by_names()
+    ensures { (p : PackageView) → IsCheckedPackage p → AreLexicalByNames (content p).functions }
+{
+    covered_functions_are_scoped();
+    functions_of_checked_packages_have_shape();
+    branches_of_checked_packages_lead_somewhere();
 }
