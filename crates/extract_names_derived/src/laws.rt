@@ -178,7 +178,8 @@ pub fn copies_are_derived()
 
 /// A function whose body has the statements of a run of another one, with names in place of some expressions, tells in its body what the run
 /// tells, at other tokens, and of each such name that it is looked up; and then what the statements behind them tell. Where no expression is
-/// replaced, all that the run tells is copied (Go specification: Statement lists, Operands).
+/// replaced, all that the run tells is copied. Where names stand in place of holes that only look names up, and lie apart from what stays, all
+/// outside the holes is copied, and in place of each hole one name is looked up (Go specification: Statement lists, Operands).
 pub fn copied_runs_tell_in_bodies()
     ensures { (a new : Alone) (c : Copy) (s : SplitsAt a c) → (x : CopyStands a new c s) → CopyTold a new c s x }
 {}
