@@ -32,7 +32,8 @@ use Rattle.go_scopes_bodies.specs.Listed.{is_specification, told_list}
 use Rattle.extract_names.specs.Copies.{Replaced, Copy, StaysOutside, AtHole, IsKept, IsEdge, TokenKept, TokenBehind, RoleCopied, EventCopied, HoleIsNew, AllCopied}
 use Rattle.extract_names.specs.Pieces.{Piece, stays, gap, told_before}
 use Rattle.extract_names.specs.Sites.{EachEvent, specification_at}
-use Rattle.extract_names_derived.specs.Apart.{Beside, Around, counts_first, NodeStays, AllBeside, ApartIn, ApartInRow, hole_ranges, HolesLook, bare, AreHoles}
+use Rattle.extract_names_derived.specs.Apart.{counts_first, NodeStays, hole_ranges, HolesLook, bare, AreHoles}
+use Rattle.extract_names_derived.proofs.Beside.{Beside, Around, AllBeside, ApartIn, ApartInRow, list_apart}
 use Rattle.extract_names_derived.specs.Holes.{copied_role, copied_context, may_be_replaced, gives_operands, may_hold_holes, is_simple_part, name_over, HolesIn, HolesInRow, HolesInList, hole_pieces, hole_row, hole_list}
 use Rattle.extract_names_derived.proofs.CopiedEvents.{gives_role}
 use Rattle.extract_names_derived.proofs.Fit.{IsFit, AreFit, part_inner}
@@ -627,7 +628,7 @@ module _ (cp : Copy) where
     pub list_copied : (c : Context) (f : Bool) (k : Kind) (i x j : ℕ) (ps : Trees) (qs : Patches) → is_top k ≡ false → cp.from ≤ x → j ≤ cp.upto → LieIn x j ps → AreFit k i ps → c.constant ≡ false → ContextOut c → HolesInList cp.place ps qs → AreHoles cp ps qs
         → EachEvent (EventCopied (bare cp)) (told_before (hole_list cp c f ps qs)) → HolesLook cp.holes (hole_list cp c f ps qs) → AllCopied cp cp.holes (hole_list cp c f ps qs)
     list_copied c f k i x j ps qs top le hi laid fit k0 h g a b l =
-        copied_pieces cp.holes (hole_list cp c f ps qs) b (subst (λ z. AllOut z (hole_list cp c f ps qs)) a.same (list_out c f k i x j ps qs top le hi laid fit k0 g a.apart h)) l
+        copied_pieces cp.holes (hole_list cp c f ps qs) b (subst (λ z. AllOut z (hole_list cp c f ps qs)) a.same (list_out c f k i x j ps qs top le hi laid fit k0 g (list_apart cp.holes ps qs x j laid a.stay a.same) h)) l
 
 -- the list of the run, where no branch leaves it
 pub calm_out : (cp : Copy) (c : Context) (j : ℕ) → Calm [] j c → c.block ≡ block.Local cp.around → c.end ≡ cp.end → ContextOut cp (record c { breaks = false; continues = false })
