@@ -113,7 +113,7 @@ module _ (a new : Alone) (c : Copy) (s : SplitsAt a c) (x : CopyStands a new c s
       append_none (y ∷ es) = ap (λ z. y ∷ z) (append_none es)
 
   -- With names in place of holes what the run tells elsewhere is copied.
-  holes_told : c.end ≡ s.run_told.context.end → RunPlaced a new c → AreHoles c s.run_told.statements x.holes → HolesLook c.holes (copy_pieces a new c s x) → AllCopied c c.holes (copy_pieces a new c s x)
+  holes_told : c.end ≡ s.run_told.context.end → RunPlaced a new c → AreHoles c s.run_told.statements x.holes → HolesLook (copy_pieces a new c s x) → AllCopied c c.holes (copy_pieces a new c s x)
   holes_told e p h l =
       s.run_told.holes_copied x.around e (place_behind c (p.edge s.some).0 p.rises) x.holes x.inside h (subst (EachEvent (EventCopied (bare c))) (sym run_is) (s.run_told.bare_copied x.around e)) l
 

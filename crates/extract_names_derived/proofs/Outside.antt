@@ -29,10 +29,10 @@ use Rattle.go_tree.specs.Events.{statement_events, own_events, name_events, misp
 use Rattle.go_scopes_events.proofs.Public.{IsLaidOut, LieIn, behind_name, lie_order, laid_grows, is_top, true_false}
 use Rattle.go_scopes_bodies.specs.Carried.{carried_site}
 use Rattle.go_scopes_bodies.specs.Listed.{is_specification, told_list}
-use Rattle.extract_names.specs.Copies.{Replaced, Copy, StaysOutside, AtHole, IsKept, IsEdge, TokenKept, TokenBehind, RoleCopied, EventCopied, HoleIsNew, AllCopied}
+use Rattle.extract_names.specs.Copies.{Replaced, Copy, StaysOutside, AtHole, IsKept, IsEdge, TokenKept, TokenBehind, RoleCopied, EventCopied, HoleIsNew, HoleGoes, AllCopied}
 use Rattle.extract_names.specs.Pieces.{Piece, stays, gap, told_before}
 use Rattle.extract_names.specs.Sites.{EachEvent, specification_at}
-use Rattle.extract_names_derived.specs.Apart.{counts_first, NodeStays, hole_ranges, HolesLook, bare, AreHoles}
+use Rattle.extract_names_derived.specs.Apart.{counts_first, NodeStays, hole_ranges, IsNoDeclaration, HolesLook, bare, AreHoles}
 use Rattle.extract_names_derived.proofs.Beside.{Beside, Around, AllBeside, ApartIn, ApartInRow, list_apart}
 use Rattle.extract_names_derived.specs.Holes.{copied_role, copied_context, may_be_replaced, gives_operands, may_hold_holes, is_simple_part, name_over, HolesIn, HolesInRow, HolesInList, hole_pieces, hole_row, hole_list}
 use Rattle.extract_names_derived.proofs.CopiedEvents.{gives_role}
@@ -397,6 +397,71 @@ module _ (cp : Copy) where
         (parts_out (pass c q) k i j ps (suc n) qs (last q) (omega (arith, at, laid.0, grows)) laid.2 fit.3 top le hi b.1 o
         (with_source c (source_at c q) (source_of_out c.source (kind_of q) (first q) (parts q) (λ e. here) h.source) h))
 
+  -- ---- a tree looks names up in its own tokens
+
+  abbrev UseIn : ℕ → ℕ → Event → Type 0
+  UseIn a b (event.Use u) = (a ≤ u.name) × (u.name < b)
+  UseIn a b e = Unit {0}
+
+  name_uses : (a b : ℕ) (c : Context) (i : ℕ) (r : Role) → a ≤ i → i < b → EachEvent (UseIn a b) (name_events c i r)
+  name_uses a b c i (role.New d) le lt = (tt, tt)
+  name_uses a b c i (role.Field g) le lt = (tt, tt)
+  name_uses a b c i (role.Key g) le lt = (tt, tt)
+  name_uses a b c i (role.Parameter g None) le lt = (tt, tt)
+  name_uses a b c i (role.Parameter g (Some x)) le lt = (tt, (tt, tt))
+  name_uses a b c i (role.Selected l y) le lt = ((le, lt), tt)
+  name_uses a b c i role.Operand le lt = ((le, lt), tt)
+  name_uses a b c i role.Assigned le lt = ((le, lt), tt)
+  name_uses a b c i role.Called le lt = ((le, lt), tt)
+
+  statement_uses : (a b : ℕ) (x : Bool) (i j : ℕ) → EachEvent (UseIn a b) (statement_events x i j)
+  statement_uses a b true i j = (tt, tt)
+  statement_uses a b false i j = tt
+
+  misplaced_uses : (a b : ℕ) (x : Bool) (i j : ℕ) → EachEvent (UseIn a b) (misplaced x i j)
+  misplaced_uses a b true i j = tt
+  misplaced_uses a b false i j = (tt, tt)
+
+  default_uses : (a b : ℕ) (d x : Bool) (w : ℕ) → EachEvent (UseIn a b) (default_events d x w)
+  default_uses a b true true w = (tt, tt)
+  default_uses a b true false w = tt
+  default_uses a b false x w = tt
+
+  second_uses : (a b : ℕ) (x : Bool) (ps : Trees) → EachEvent (UseIn a b) (second_defaults x ps)
+  second_uses a b x none = tt
+  second_uses a b x (skip ps) = second_uses a b x ps
+  second_uses a b x (more p ps) =
+      each_event_append (UseIn a b) (default_events (is_default (kind_of p)) x (first p)) (second_defaults (x || is_default (kind_of p)) ps) (default_uses a b (is_default (kind_of p)) x (first p)) (second_uses a b (x || is_default (kind_of p)) ps)
+
+  own_uses : (a b : ℕ) (c : Context) (k : Kind) (i j : ℕ) (ps : Trees) → is_top k ≡ false → a ≤ i → i < b → EachEvent (UseIn a b) (own_events c k i j ps)
+  own_uses a b c kind.ImportPath i j ps top le lt = (tt, tt)
+  own_uses a b c kind.FunctionDeclaration i j ps top le lt = absurd (true_false true refl top)
+  own_uses a b c (kind.Specification sort.Type) i j ps top le lt = (tt, tt)
+  own_uses a b c kind.DeclaredName i j ps top le lt = name_uses a b c i c.role le lt
+  own_uses a b c kind.Name i j ps top le lt = name_uses a b c i c.role le lt
+  own_uses a b c kind.Switch i j ps top le lt = second_uses a b false ps
+  own_uses a b c kind.Break i j ps top le lt = misplaced_uses a b c.breaks i j
+  own_uses a b c kind.Continue i j ps top le lt = misplaced_uses a b c.continues i j
+  own_uses a b c kind.Fallthrough i j ps top le lt = misplaced_uses a b c.falls i j
+  own_uses a b c k i j ps top le lt = tt
+
+  mutual
+    uses_in : (a b : ℕ) (c : Context) (t : Tree) → IsLaidOut t → IsFit t → is_top (kind_of t) ≡ false → a ≤ first t → last t ≤ b → EachEvent (UseIn a b) (events c t)
+    uses_in a b c (node k i j ps) laid fit top le hi =
+        each_event_append (UseIn a b) (statement_events c.listed i j ++ own_events c k i j ps) (events_of (begin c k) k i j ps 0 ps)
+        (each_event_append (UseIn a b) (statement_events c.listed i j) (own_events c k i j ps) (statement_uses a b c.listed i j) (own_uses a b c k i j ps top le (omega (arith, laid.0, hi))))
+        (parts_uses a b (begin c k) k i j ps 0 ps (behind_name k i) (name_above k i) laid.1 fit.1 top le hi)
+
+    parts_uses : (a b : ℕ) (c : Context) (k : Kind) (i j : ℕ) (ps : Trees) (n : ℕ) (qs : Trees) (x : ℕ) → i ≤ x → LieIn x j qs → AreFit k i qs → is_top k ≡ false → a ≤ i → j ≤ b → EachEvent (UseIn a b) (events_of c k i j ps n qs)
+    parts_uses a b c k i j ps n none x at laid fit top le hi = tt
+    parts_uses a b c k i j ps n (skip qs) x at laid fit top le hi = parts_uses a b c k i j ps (suc n) qs x at laid fit top le hi
+    parts_uses a b c k i j ps n (more q qs) x at laid fit top le hi =
+        let grows : first q < last q = laid_grows q laid.1 in
+        let order : last q ≤ j = lie_order (last q) j qs laid.2 in
+        each_event_append (UseIn a b) (events (enter c k i j ps (ends_named ps) n q (is_more qs)) q) (events_of (pass c q) k i j ps (suc n) qs)
+        (uses_in a b (enter c k i j ps (ends_named ps) n q (is_more qs)) q laid.1 fit.2 (part_inner k (kind_of q) top fit.0) (omega (arith, le, at, laid.0)) (omega (arith, order, hi)))
+        (parts_uses a b (pass c q) k i j ps (suc n) qs (last q) (omega (arith, at, laid.0, grows)) laid.2 fit.3 top le hi)
+
   -- ---- names in place of holes
 
   abbrev LooksUp : Role → Type 0
@@ -476,13 +541,13 @@ module _ (cp : Copy) where
     AllOut rs [] = rs ≡ []
     AllOut rs (stays es ∷ ps) = EachEvent EventOut es × AllOut rs ps
     AllOut [] (gap old new ∷ ps) = ⊥
-    AllOut (r ∷ rs) (gap old new ∷ ps) = EachEvent (HoleIsNew cp (hole_at r)) new × AllOut rs ps
+    AllOut (r ∷ rs) (gap old new ∷ ps) = EachEvent (UseIn r.from r.upto) old × EachEvent (HoleIsNew cp (hole_at r)) new × AllOut rs ps
 
     all_append : (rs ss : List Range) (xs ys : List Piece) → AllOut rs xs → AllOut ss ys → AllOut (rs ++ ss) (xs ++ ys)
     all_append rs ss [] ys h g = subst (λ z. AllOut (z ++ ss) ys) (sym h) g
     all_append rs ss (stays es ∷ xs) ys h g = (h.0, all_append rs ss xs ys h.1 g)
     all_append [] ss (gap old new ∷ xs) ys h g = absurd h
-    all_append (r ∷ rs) ss (gap old new ∷ xs) ys h g = (h.0, all_append rs ss xs ys h.1 g)
+    all_append (r ∷ rs) ss (gap old new ∷ xs) ys h g = (h.0, h.1, all_append rs ss xs ys h.2 g)
 
     inside_node : (k : Kind) (i j : ℕ) → cp.from ≤ i → i < j → j ≤ cp.upto → Around cp.holes i j → NodeStays cp.holes k i j → NodeOut k i j
     inside_node k i j le lt hi b s = record {
@@ -540,7 +605,7 @@ module _ (cp : Copy) where
           let grows : first p < last p = laid_grows p laid.1 in
           let fo : FirstOut p = λ e. absurd (simple_other (kind_of p) g.1 e) in
           all_append (range (first p) (last p) ∷ []) (places_in rs qs) (hole_pieces cp here p (put s)) (hole_row cp (pass c p) k i j ps (suc n) rs qs)
-          (hole_new here (range (first p) (last p)) s g.2 (replaced_looks o c k i j (ends_named ps) n p g.0 f) (constant_out c k m k0) (enter_out c k i j ps (ends_named ps) n p (is_more rs) top fo nd h), refl)
+          (uses_in (first p) (last p) here p laid.1 fit.2 (part_inner k (kind_of p) top fit.0) (omega arith) (omega arith), hole_new here (range (first p) (last p)) s g.2 (replaced_looks o c k i j (ends_named ps) n p g.0 f) (constant_out c k m k0) (enter_out c k i j ps (ends_named ps) n p (is_more rs) top fo nd h), refl)
           (row_out o (pass c p) k i j ps (suc n) rs qs (last p) (omega (arith, at, laid.0, grows)) laid.2 fit.3 top le hi m k0 f nd g.3 a.1
           (with_source c (source_at c p) (source_of_out c.source (kind_of p) (first p) (parts p) fo h.source) h))
       row_out o c k i j ps n (more p rs) (part (inside us) qs) x at laid fit top le hi m k0 f nd g a h =
@@ -617,16 +682,34 @@ module _ (cp : Copy) where
     new_same h (event.Bodiless i j) n = tt
     new_same h (event.Statement i j) n = tt
 
-    copied_pieces : (hs : List Replaced) (ps : List Piece) → EachEvent (EventCopied (bare cp)) (told_before ps) → AllOut (hole_ranges hs) ps → HolesLook hs ps → AllCopied cp hs ps
-    copied_pieces hs [] h o l = l
+    goes : (x : Replaced) (es : List Event) → EachEvent IsNoDeclaration es → EachEvent (UseIn x.from x.upto) es → EachEvent (HoleGoes x) es
+    goes x [] n u = tt
+    goes x (e ∷ es) n u = (by e n.0 u.0, goes x es n.1 u.1)
+      where
+        by : (e : Event) → IsNoDeclaration e → UseIn x.from x.upto e → HoleGoes x e
+        by (event.Use y) n u = u
+        by (event.Declaration d) n u = n
+        by (event.Member m g y) n u = tt
+        by (event.Import i) n u = tt
+        by (event.Bodiless i j) n u = tt
+        by (event.Statement i j) n u = tt
+        by (event.Misplaced i j) n u = tt
+        by (event.SecondDefault w) n u = tt
+
+    no_ranges : (hs : List Replaced) → hole_ranges hs ≡ [] → hs ≡ []
+    no_ranges [] e = refl
+    no_ranges (x ∷ hs) e = absurd cc
+
+    copied_pieces : (hs : List Replaced) (ps : List Piece) → EachEvent (EventCopied (bare cp)) (told_before ps) → AllOut (hole_ranges hs) ps → HolesLook ps → AllCopied cp hs ps
+    copied_pieces hs [] h o l = no_ranges hs o
     copied_pieces hs (stays es ∷ ps) h o l = let r = left_of (EventCopied (bare cp)) es (told_before ps) h in (both_out es r.0 o.0, copied_pieces hs ps r.1 o.1 l)
-    copied_pieces [] (gap old new ∷ ps) h o l = absurd l
+    copied_pieces [] (gap old new ∷ ps) h o l = absurd o
     copied_pieces (x ∷ hs) (gap old new ∷ ps) h o l =
         let r = left_of (EventCopied (bare cp)) old (told_before ps) h in
-        (l.0, each_event_map (HoleIsNew cp (hole_at (range x.from x.upto))) (HoleIsNew cp x) new (new_same x) o.0, copied_pieces hs ps r.1 o.1 l.1)
+        (goes x old l.0 o.0, each_event_map (HoleIsNew cp (hole_at (range x.from x.upto))) (HoleIsNew cp x) new (new_same x) o.1, copied_pieces hs ps r.1 o.2 l.1)
 
     pub list_copied : (c : Context) (f : Bool) (k : Kind) (i x j : ℕ) (ps : Trees) (qs : Patches) → is_top k ≡ false → cp.from ≤ x → j ≤ cp.upto → LieIn x j ps → AreFit k i ps → c.constant ≡ false → ContextOut c → HolesInList cp.place ps qs → AreHoles cp ps qs
-        → EachEvent (EventCopied (bare cp)) (told_before (hole_list cp c f ps qs)) → HolesLook cp.holes (hole_list cp c f ps qs) → AllCopied cp cp.holes (hole_list cp c f ps qs)
+        → EachEvent (EventCopied (bare cp)) (told_before (hole_list cp c f ps qs)) → HolesLook (hole_list cp c f ps qs) → AllCopied cp cp.holes (hole_list cp c f ps qs)
     list_copied c f k i x j ps qs top le hi laid fit k0 h g a b l =
         copied_pieces cp.holes (hole_list cp c f ps qs) b (subst (λ z. AllOut z (hole_list cp c f ps qs)) a.same (list_out c f k i x j ps qs top le hi laid fit k0 g (list_apart cp.holes ps qs x j laid a.stay a.same) h)) l
 

@@ -4,8 +4,10 @@ use Rattle.go_grammar.specs.declared.kind.Kind.{Kind}
 use Rattle.go_grammar.specs.declared.kind.Kind.TheVariants as kind
 use Rattle.go_grammar.specs.Trees.{Tree, node, Trees, none, more, skip}
 use Rattle.go_rewriting.specs.Places.{Patch, Patches, keep, put, inside, done, part, run, Range, range, places_in}
+use Rattle.go_tree.specs.declared.event.Event.{Event}
+use Rattle.go_tree.specs.declared.event.Event.TheVariants as event
 use Rattle.go_tree.specs.Contexts.{opens}
-use Rattle.extract_names.specs.Copies.{Replaced, Copy, StaysOutside, HoleGoes}
+use Rattle.extract_names.specs.Copies.{Replaced, Copy, StaysOutside}
 use Rattle.extract_names.specs.Pieces.{Piece, stays, gap}
 use Rattle.extract_names.specs.Sites.{EachEvent}
 
@@ -47,12 +49,15 @@ abbrev pub hole_ranges : List Replaced → List Range
 hole_ranges [] = []
 hole_ranges (h ∷ hs) = range h.from h.upto ∷ hole_ranges hs
 
--- The replaced expressions are these holes: they look names up in their own tokens, and declare none.
-abbrev pub HolesLook : List Replaced → List Piece → Type 0
-HolesLook hs [] = hs ≡ []
-HolesLook hs (stays es ∷ ps) = HolesLook hs ps
-HolesLook [] (gap old new ∷ ps) = ⊥
-HolesLook (h ∷ hs) (gap old new ∷ ps) = EachEvent (HoleGoes h) old × HolesLook hs ps
+abbrev pub IsNoDeclaration : Event → Type 0
+IsNoDeclaration (event.Declaration d) = ⊥
+IsNoDeclaration e = Unit {0}
+
+-- The replaced expressions declare no names.
+abbrev pub HolesLook : List Piece → Type 0
+HolesLook [] = Unit {0}
+HolesLook (stays es ∷ ps) = HolesLook ps
+HolesLook (gap old new ∷ ps) = EachEvent IsNoDeclaration old × HolesLook ps
 
 -- the same run with no hole
 abbrev pub bare : Copy → Copy

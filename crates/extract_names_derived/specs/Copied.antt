@@ -36,6 +36,6 @@ pub record CopyTold (a new : Alone) (c : Copy) (s : SplitsAt a c) (x : CopyStand
   pub new_told : function_events new ≡ x.split.head ++ (told_copied c (copy_pieces a new c s x) ++ told_list x.split.context false x.others)
   -- Where no expression is replaced all of the run is copied.
   pub copied : c.end ≡ s.run_told.context.end → c.holes ≡ [] → x.holes ≡ done → AllCopied c [] (copy_pieces a new c s x)
-  -- Where names stand in place of holes, which only look names up, all of the run outside the holes is copied, and in place of each hole one
+  -- Where names stand in place of holes, which declare none, all of the run outside the holes is copied, and in place of each hole one
   -- name is looked up.
-  pub holes_copied : c.end ≡ s.run_told.context.end → RunPlaced a new c → AreHoles c s.run_told.statements x.holes → HolesLook c.holes (copy_pieces a new c s x) → AllCopied c c.holes (copy_pieces a new c s x)
+  pub holes_copied : c.end ≡ s.run_told.context.end → RunPlaced a new c → AreHoles c s.run_told.statements x.holes → HolesLook (copy_pieces a new c s x) → AllCopied c c.holes (copy_pieces a new c s x)

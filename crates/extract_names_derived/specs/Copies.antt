@@ -65,7 +65,7 @@ pub record RunTold (c : Copy) (run : List Event) : Type 0 where
   -- With names in place of expressions each name of the run outside its holes is copied, and one name is looked up in place of each hole.
   pub holes_copied : c.around ≡ around → c.end ≡ context.end → ((t : ℕ) → IsKept c t → c.place c.from ≤ c.place t) → (qs : Patches) → HolesInList c.place statements qs → AreHoles c statements qs
       → EachEvent (EventCopied (bare c)) (told_before (hole_list c (record context { breaks = false; continues = false }) false statements qs))
-      → HolesLook c.holes (hole_list c (record context { breaks = false; continues = false }) false statements qs)
+      → HolesLook (hole_list c (record context { breaks = false; continues = false }) false statements qs)
       → AllCopied c c.holes (hole_list c (record context { breaks = false; continues = false }) false statements qs)
 
 -- What a function tells falls in what it tells in front of a run, what the run tells, and what it tells behind it.
