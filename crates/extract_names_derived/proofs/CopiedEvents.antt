@@ -263,7 +263,7 @@ module _ (cp : Copy) where
   copied_append (stays es ∷ xs) ys = ap (λ z. map C es ++ z) (copied_append xs ys) ∙ sym (append_assoc (map C es) (T xs) (T ys))
   copied_append (gap old new ∷ xs) ys = ap (λ z. new ++ z) (copied_append xs ys) ∙ sym (append_assoc new (T xs) (T ys))
 
-  gives_role : (c : Context) (k : Kind) (i j : ℕ) (named : Bool) (n : ℕ) (p : Tree) → gives_operands k n ≡ true → role_in c k i j named n p ≡ role.Operand
+  pub gives_role : (c : Context) (k : Kind) (i j : ℕ) (named : Bool) (n : ℕ) (p : Tree) → gives_operands k n ≡ true → role_in c k i j named n p ≡ role.Operand
   gives_role c (kind.Specification sort.Constant) i j named n p e = behind n (role.New (contexts.specified c sort.Constant i j)) e
     where
       behind : (n : ℕ) (r : Role) → contexts.is_behind_first n ≡ true → if_first n r ≡ role.Operand

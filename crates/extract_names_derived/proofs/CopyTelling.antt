@@ -16,9 +16,11 @@ use Rattle.go_scopes_bodies.specs.Listed.{told_list}
 use Rattle.extract_names.specs.Copies.{Copy, is_around, copied_block, EventCopied, AllCopied}
 use Rattle.extract_names.specs.Pieces.{told_before}
 use Rattle.extract_names.specs.Sites.{EachEvent, specification_at}
+use Rattle.extract_names_derived.specs.Apart.{AreHoles, HolesLook, bare}
 use Rattle.extract_names_derived.specs.Copied.{outside_loops, CopyStands, copy_pieces, CopyTold}
-use Rattle.extract_names_derived.specs.Copies.{SplitsAt}
+use Rattle.extract_names_derived.specs.Copies.{SplitsAt, RunPlaced}
 use Rattle.extract_names_derived.specs.Holes.{copied_role, copied_context, HolesTell, hole_list}
+use Rattle.extract_names_derived.proofs.Outside.{place_behind}
 
 abbrev make : Block → ℕ → Role → Site → Option ℕ → Option ℕ → ℕ → Option ℕ → Option Scope → Bool → Bool → Bool → Bool → Bool → Bool → Bool → Context
 make b e r s p q n g o c i l k t f a = record {
@@ -110,6 +112,11 @@ module _ (a new : Alone) (c : Copy) (s : SplitsAt a c) (x : CopyStands a new c s
       append_none [] = refl
       append_none (y ∷ es) = ap (λ z. y ∷ z) (append_none es)
 
+  -- With names in place of holes what the run tells elsewhere is copied.
+  holes_told : c.end ≡ s.run_told.context.end → RunPlaced a new c → AreHoles c s.run_told.statements x.holes → HolesLook (copy_pieces a new c s x) → AllCopied c c.holes (copy_pieces a new c s x)
+  holes_told e p h l =
+      s.run_told.holes_copied x.around e (place_behind c (p.edge s.some).0 p.rises) x.holes x.inside h (subst (EachEvent (EventCopied (bare c))) (sym run_is) (s.run_told.bare_copied x.around e)) l
+
   pub copy_told : CopyTold a new c s x
   copy_told = record {
     told = run_is;
@@ -117,4 +124,5 @@ module _ (a new : Alone) (c : Copy) (s : SplitsAt a c) (x : CopyStands a new c s
         x.split.told
         ∙ ap (λ z. x.split.head ++ (z ++ told_list x.split.context false x.others)) (ap (λ z. told_list z false (become_all c.place s.run_told.statements x.holes)) context_same ∙ tells.copied);
     copied = λ e n d. all_copied x.holes d run_is (s.run_told.copied x.around e n);
+    holes_copied = holes_told;
   }

@@ -28,6 +28,8 @@ mod CallSites
 mod SiteRuns
 mod CopiedContexts
 mod CopiedEvents
+mod Beside
+mod Outside
 mod CopyTelling
 mod SignatureEvents
 mod ParameterEvents

@@ -14,6 +14,7 @@ use Rattle.extract_names_derived.proofs.CopyTelling.{copy_told}
 use Rattle.extract_names_derived.proofs.DerivedCopies.{is_copy}
 use Rattle.extract_names_derived.proofs.ParameterEvents.{parameter_stands}
 use Rattle.extract_names_derived.proofs.ParametersOnce.{head_free}
+use Rattle.extract_names_derived.proofs.Placing.{run_placed}
 use Rattle.extract_names_derived.proofs.SignatureEvents.{signature_tells, return_tells}
 use Rattle.extract_names_derived.proofs.Whole.{Tells}
 
@@ -35,7 +36,7 @@ taken a outer c new s x h =
       close = h.close;
       named = h.named;
       fresh = h.fresh;
-      copied = h.copied;
+      copied = t.holes_copied h.end (run_placed a new c h.placed) h.holes h.look;
       head_tells = head.head;
       tail_tells = tail.tail;
       signature = head.signature;

@@ -19,9 +19,11 @@ use Rattle.extract_names.specs.Sites.{EachEvent}
 use Rattle.extract_names_derived.specs.Patches.{InLists, InParts, InCase, InList}
 use Rattle.extract_names_derived.proofs.Ascends.{ascend_tree, ascend_parts, ascend_list, lie_front, run_lies, fit_behind, rises_behind}
 use Rattle.extract_names_derived.proofs.CopiedContexts.{NoScope}
+use Rattle.extract_names_derived.specs.Apart.{bare}
 use Rattle.extract_names_derived.proofs.CopiedEvents.{list_holes, list_before}
 use Rattle.extract_names_derived.proofs.Fit.{is_if, front, case_rises, AreFit, Rises, front_from, front_below}
 use Rattle.extract_names_derived.proofs.Lying.{each_event_append}
+use Rattle.extract_names_derived.proofs.Outside.{calm_out, list_copied}
 use Rattle.extract_names_derived.proofs.Sides.{Side, AllSides, sides_append, Where, turned, turned_both, where_part, where_rest, where_here, BlockFrom, block_from, kept_side, statement_side, own_side, told_side, run_copied}
 use Rattle.extract_names_derived.proofs.Steps.{StepsOf, run_steps}
 use Rattle.extract_names_derived.proofs.Walk.{Calm, calm_less, calm_falls, calm_list, calm_pass, enter_calm, IsPart, is_part, statement_part}
@@ -204,6 +206,10 @@ mutual
           last = ls.2;
           falls = ls.3;
           copied = λ at end none_replaced. run_copied c cx f n k i x j p ps lead top h l t il.0 (omega (arith, g.1)) (omega (arith, g.2)) none_replaced (e ∙ ap block.Local (sym at)) (sym end);
+          bare_copied = λ at end. run_copied (bare c) cx f n k i x j p ps lead top h l t il.0 (omega (arith, g.1)) (omega (arith, g.2)) refl (e ∙ ap block.Local (sym at)) (sym end);
+          holes_copied = λ at end low qs holes a b look.
+              list_copied c low (record cx { breaks = false; continues = false }) false k i (first p) (items_end n p ps) (more p (so_many n ps)) qs top (omega (arith, g.1)) (omega (arith, g.2)) (lie_many n p ps (first p) j il.0 (omega arith, l.1, l.2))
+              (fit_many n p ps k i il.0 t) h.constant (calm_out c cx j h (e ∙ ap block.Local (sym at)) (sym end)) holes a b look;
         },
         subst (λ z. AllSides c true z (list_pieces v cx d (items_behind n ps) qs)) (turned_true (places_in (items_behind n ps) qs))
             (sides_list c v true cx d k i (items_behind n ps) qs (items_end n p ps) (suc (items_end n p ps)) j lead top out ls h (omega (arith, o, l.0, grows, far.from)) e far.others (rises_behind n p ps il.0 r.1)

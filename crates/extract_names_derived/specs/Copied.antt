@@ -8,8 +8,9 @@ use Rattle.go_heads.specs.Functions.{Alone}
 use Rattle.go_scopes_bodies.specs.Listed.{told_list}
 use Rattle.extract_names.specs.Copies.{Copy, told_copied, AllCopied}
 use Rattle.extract_names.specs.Pieces.{Piece, told_before}
+use Rattle.extract_names_derived.specs.Apart.{AreHoles, HolesLook}
 use Rattle.extract_names_derived.specs.Bodies.{BodySplits}
-use Rattle.extract_names_derived.specs.Copies.{SplitsAt}
+use Rattle.extract_names_derived.specs.Copies.{SplitsAt, RunPlaced}
 use Rattle.extract_names_derived.specs.Holes.{HolesInList, hole_list}
 
 -- the same where no branch may leave
@@ -35,3 +36,6 @@ pub record CopyTold (a new : Alone) (c : Copy) (s : SplitsAt a c) (x : CopyStand
   pub new_told : function_events new ≡ x.split.head ++ (told_copied c (copy_pieces a new c s x) ++ told_list x.split.context false x.others)
   -- Where no expression is replaced all of the run is copied.
   pub copied : c.end ≡ s.run_told.context.end → c.holes ≡ [] → x.holes ≡ done → AllCopied c [] (copy_pieces a new c s x)
+  -- Where names stand in place of holes, which declare none, all of the run outside the holes is copied, and in place of each hole one
+  -- name is looked up.
+  pub holes_copied : c.end ≡ s.run_told.context.end → RunPlaced a new c → AreHoles c s.run_told.statements x.holes → HolesLook (copy_pieces a new c s x) → AllCopied c c.holes (copy_pieces a new c s x)

@@ -25,7 +25,8 @@ use Rattle.extract_names.specs.Copies.{NamesFree, NamesOuter, is_around}
 use Rattle.extract_names.specs.Gaps.{Gap, Among, moved_by, ranges}
 use Rattle.extract_names.specs.Pieces.{Piece, told_before}
 use Rattle.extract_names.specs.Sites.{EachEvent, specification_at, found_as, IsNamed}
-use Rattle.extract_names_derived.specs.Holes.{HolesInList, HolesTell}
+use Rattle.extract_names_derived.specs.Apart.{bare, AreHoles, HolesLook}
+use Rattle.extract_names_derived.specs.Holes.{HolesInList, HolesTell, hole_list}
 use Rattle.extract_names_derived.specs.Texts.{with_gaps}
 
 -- Behind a name of the block that begins at the token o a name of another block is in scope later.
@@ -60,6 +61,12 @@ pub record RunTold (c : Copy) (run : List Event) : Type 0 where
   pub falls : context.falls ≡ false
   -- Where no hole is replaced, each name of the run is copied.
   pub copied : c.around ≡ around → c.end ≡ context.end → c.holes ≡ [] → EachEvent (EventCopied c) run
+  pub bare_copied : c.around ≡ around → c.end ≡ context.end → EachEvent (EventCopied (bare c)) run
+  -- With names in place of expressions each name of the run outside its holes is copied, and one name is looked up in place of each hole.
+  pub holes_copied : c.around ≡ around → c.end ≡ context.end → ((t : ℕ) → IsKept c t → c.place c.from ≤ c.place t) → (qs : Patches) → HolesInList c.place statements qs → AreHoles c statements qs
+      → EachEvent (EventCopied (bare c)) (told_before (hole_list c (record context { breaks = false; continues = false }) false statements qs))
+      → HolesLook (hole_list c (record context { breaks = false; continues = false }) false statements qs)
+      → AllCopied c c.holes (hole_list c (record context { breaks = false; continues = false }) false statements qs)
 
 -- What a function tells falls in what it tells in front of a run, what the run tells, and what it tells behind it.
 pub record SplitsAt (a : Alone) (c : Copy) : Type 0 where

@@ -2,8 +2,9 @@ pub mod Patches
 pub mod Texts
 pub mod Functions
 pub mod Sites
-pub mod Copies
 pub mod Holes
+pub mod Apart
+pub mod Copies
 pub mod News
 pub mod Fields
 pub mod Calls

@@ -14,10 +14,11 @@ use Rattle.go_heads.specs.Names.{own_text, own_names}
 use Rattle.go_print_laws.specs.Headers.{Header}
 use Rattle.go_scopes_bodies.specs.Listed.{told_list}
 use Rattle.go_scopes_bodies.specs.Meant.{Outer}
-use Rattle.extract_names.specs.Copies.{Replaced, Free, Copy, IsIn, IsKept, AllCopied, UsedInCopy, NamesLocal, NamesFree, NamesOuter, is_around}
+use Rattle.extract_names.specs.Copies.{Replaced, Free, Copy, IsIn, IsKept, UsedInCopy, NamesLocal, NamesFree, NamesOuter, is_around}
 use Rattle.extract_names.specs.Gaps.{Among}
 use Rattle.extract_names.specs.Pieces.{told_before}
 use Rattle.extract_names.specs.Sites.{found_as, IsNamed}
+use Rattle.extract_names_derived.specs.Apart.{AreHoles, HolesLook}
 use Rattle.extract_names_derived.specs.Copied.{CopyStands, copy_pieces}
 use Rattle.extract_names_derived.specs.Copies.{SplitsAt, PlacesRun}
 use Rattle.extract_names_derived.specs.Fields.{SignatureOnce}
@@ -27,8 +28,9 @@ use Rattle.extract_names_derived.specs.Signatures.{parameter_tokens, SignatureSt
 abbrev pub copied_run : (a new : Alone) (c : Copy) (s : SplitsAt a c) → CopyStands a new c s → List Event
 copied_run a new c s x = told_before (copy_pieces a new c s x)
 
--- The new function has the printed signature and return around the copied run. Its texts are those of the run; and this is asked of the
--- choice: parameters and holes have names of their own, each name of the run means what it has to, and its variables are used.
+-- The new function has the printed signature and return around the copied run. Its texts are those of the run, but for the holes; and this
+-- is asked of the choice: holes declare no names and have no token that tells where names are declared, parameters and holes have names of
+-- their own, each name of the run means what it has to, and its variables are used.
 pub record IsPrintedCopy (a : Alone) (outer : Outer) (c : Copy) (new : Alone) (s : SplitsAt a c) (x : CopyStands a new c s) : Type 0 where
   pub header : Header
   pub first : ℕ
@@ -38,7 +40,8 @@ pub record IsPrintedCopy (a : Alone) (outer : Outer) (c : Copy) (new : Alone) (s
   pub end : c.end ≡ s.run_told.context.end
   pub placed : PlacesRun a new c
   pub close : c.place c.upto ≤ c.close
-  pub copied : AllCopied c c.holes (copy_pieces a new c s x)
+  pub holes : AreHoles c s.run_told.statements x.holes
+  pub look : HolesLook (copy_pieces a new c s x)
   pub members : SignatureOnce (own_text new) 2 header
   pub named : (h : Replaced) → Among h c.holes → Among h.parameter c.parameters
   pub fresh : (h : Replaced) → Among h c.holes → (d : Declaration) → Among (event.Declaration d) (copied_run a new c s x) → own_text new h.parameter ≡ own_text a d.name → ⊥

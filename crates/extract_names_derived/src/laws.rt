@@ -178,7 +178,8 @@ pub fn copies_are_derived()
 
 /// A function whose body has the statements of a run of another one, with names in place of some expressions, tells in its body what the run
 /// tells, at other tokens, and of each such name that it is looked up; and then what the statements behind them tell. Where no expression is
-/// replaced, all that the run tells is copied (Go specification: Statement lists, Operands).
+/// replaced, all that the run tells is copied. Where names stand in place of holes that declare none, and what tells where names are declared
+/// stays, all outside the holes is copied, and in place of each hole one name is looked up (Go specification: Statement lists, Operands).
 pub fn copied_runs_tell_in_bodies()
     ensures { (a new : Alone) (c : Copy) (s : SplitsAt a c) → (x : CopyStands a new c s) → CopyTold a new c s x }
 {}
@@ -195,9 +196,9 @@ pub fn printed_returns_tell()
         → ReturnTells a new c run (told_list split.context false ys) }
 {}
 
-/// So a derived function with the printed signature and return around a copied run is such a copy. What is left to ask depends on the choice:
-/// which names its parameters have, what the names of the run mean, and that variables are used (Go specification: Function declarations,
-/// Blocks).
+/// So a derived function with the printed signature and return around a copied run, names in place of its holes, is such a copy. What is left
+/// to ask depends on the choice: where its holes lie, which names its parameters have, what the names of the run mean, and that variables are
+/// used (Go specification: Function declarations, Blocks).
 pub fn printed_copies_are_derived()
     ensures { (ts us : List TokenKind) (a : Alone) (outer : Outer) (c : Copy) (new : Alone) → IsDerivedFunction ts a → IsDerivedFunction us new → (s : SplitsAt a c) (x : CopyStands a new c s) → IsPrintedCopy a outer c new s x
         → IsCopy a outer c new }
