@@ -1,2 +1,3 @@
 mod ByName
+mod Changing
 mod Cut

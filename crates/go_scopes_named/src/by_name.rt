@@ -6,11 +6,12 @@ ghost use Rattle.go_tree.specs.Meanings.{meaning_at};
 ghost use Rattle.go_tree.specs.Objects.{object_at};
 ghost use Rattle.go_tree.specs.Meanings as meanings;
 ghost use Rattle.go_scopes_events.specs.Scopes.{locals_of, AreNested};
+ghost use Rattle.go_scopes_named.specs.Changes.{AreAscending, AreChanges};
 ghost use Rattle.go_scopes_named.specs.Named.{KnowsNamed, NestsIn, IsNamed, all_meanings, named_locals, local_meaning, reached_meaning};
 ghost use Rattle.go_scopes_named.specs.Segments.{AreSegments, segments_of};
 ghost use Rattle.go_scopes_lookup.specs.Views.{entry_view, meaning_view};
 
-use crate::segments::{Segment, add, or_none, said};
+use crate::segments::{Segment, add, beginnings, or_none, said};
 use go_base::Memory;
 use go_scopes_lookup::meaning::{Entry, Meaning, meanings, object_by};
 use go_scopes_lookup::sorted::{Sorted, by_block};
@@ -80,6 +81,22 @@ impl<'a> Named<'a> {
         ensures { AreSegments file (segments_of (option_copied result)) (named_locals file name.entry.now (all_meanings self.now)) }
     {
         self.locals.get(&(file, name))
+    }
+
+    /// The tokens of the file at which the meaning of the name may change, in order: at most two for each declaration of the name there.
+    ///
+    /// # Errors
+    ///
+    /// Want of memory.
+    pub fn changes(&self, alloc: Global, file: u32, name: &'a [u8]) -> Result<Vec<u32>, AllocError>
+        requires { IsNamed self.now }
+        ensures order { IfOk result (λ v. AreAscending v.items) }
+        ensures changes { IfOk result (λ v. AreChanges file name.entry.now (all_meanings self.now) v.items) }
+    {
+        match self.segments_of(file, name) {
+            None => Ok(Vec::new(alloc)),
+            Some(segments) => beginnings(alloc, segments),
+        }
     }
 
     /// The innermost local meaning of the name at the token of the file.

@@ -1,6 +1,6 @@
 //! What a name means along a file as a local, cut where that changes.
 
-ghost use Rattle.std.specs.Prelude.{◌≡◌, ◌<◌, ◌≤◌, ◌∷◌, ◌++◌, IfOk, OnOk, length, slice_get, take, drop};
+ghost use Rattle.std.specs.Prelude.{◌≡◌, ◌<◌, ◌≤◌, ◌∷◌, ◌++◌, IfOk, OnOk, length, map, slice_get, take, drop};
 ghost use Rattle.std.specs.List.{AllByRecursion};
 ghost use Rattle.std.specs.Option.{option_map};
 ghost use Rattle.std.specs.Vec.{vec_len};
@@ -26,6 +26,17 @@ pub fn or_none<'a>(alloc: Global, own: Option<Vec<Segment<'a>>>) -> Vec<Segment<
         None => Vec::new(alloc),
         Some(own) => own,
     }
+}
+
+/// The tokens at which the segments begin.
+pub fn beginnings(alloc: Global, segments: &[Segment<'_>]) -> Result<Vec<u32>, AllocError>
+    ensures { IfOk result (λ v. v.items ≡ map (λ s. s.from) segments.now) }
+{
+    let mut tokens = Vec::with_capacity(alloc, segments.len())?;
+    for segment in segments {
+        tokens.push(segment.from)?;
+    }
+    Ok(tokens)
 }
 
 /// The number of the segments that begin at the token or before it.
