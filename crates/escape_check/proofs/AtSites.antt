@@ -3,15 +3,13 @@ use Rattle.std.proofs.Common.{◌≡◌, ◌∙◌, ℕ, suc, ◌+◌, ◌<◌, 
 use Rattle.std.proofs.lemmas.List.{drop_all, drop_more, length-map}
 use Rattle.std.proofs.lemmas.List.Folds.{list_any-append}
 use Rattle.std.proofs.lemmas.Option.{slice_get-map}
-use Rattle.std.specs.Prelude.{◌&&◌, ◌||◌, not, if◌then◌else◌, IfOk, IfSome}
-use Rattle.std.specs.HashMap.{HashMap, get}
+use Rattle.std.specs.Prelude.{◌&&◌, ◌||◌, not, if◌then◌else◌, IfOk}
 use Rattle.std.specs.HashSet.{HashSet}
 use Rattle.std.specs.HashSet as set
-use Rattle.std.specs.declared.vec.Vec.{Vec}
 use Rattle.std.proofs.lemmas.Bool.{eqb-true}
 use Rattle.go_print.specs.Literals.{boolean_text}
 use Rattle.escape_check.specs.declared.site.Truths.{Truths}
-use Rattle.escape_check.specs.Collecting.{KnowsTypes, names_of_type, names_of_types}
+use Rattle.escape_check.specs.Collecting.{names_of_type, names_of_types}
 use Rattle.escape_check.specs.Sites.{is_value, truth_named, truths_named}
 use Rattle.std.specs.Cmp.Lexicographic.{pointwise}
 use Rattle.std.specs.List.{list_any}
@@ -54,11 +52,11 @@ cond-or : (b c : Bool) → cond b true c ≡ (b || c)
 cond-or true c = refl
 cond-or false c = refl
 
-or-next : (a b c d e : Bool) → a ≡ (b || c) → (c || (b || d)) ≡ e → (a || d) ≡ e
-or-next a true true d e h k = ap (λ x. x || d) h ∙ k
-or-next a true false d e h k = ap (λ x. x || d) h ∙ k
-or-next a false true d e h k = ap (λ x. x || d) h ∙ k
-or-next a false false d e h k = ap (λ x. x || d) h ∙ k
+pub or_next : (a b c d e : Bool) → a ≡ (b || c) → (c || (b || d)) ≡ e → (a || d) ≡ e
+or_next a true true d e h k = ap (λ x. x || d) h ∙ k
+or_next a true false d e h k = ap (λ x. x || d) h ∙ k
+or_next a false true d e h k = ap (λ x. x || d) h ∙ k
+or_next a false false d e h k = ap (λ x. x || d) h ∙ k
 
 -- one text more among those of a set
 pub text_more : (text : ℕ → List ℕ) (ns : List ℕ) (i n d : ℕ) (v w : List ℕ) (before now : Bool) → i < length ns → n ≡ get_or ns i d → v ≡ text n →
@@ -66,7 +64,7 @@ pub text_more : (text : ℕ → List ℕ) (ns : List ℕ) (i n d : ℕ) (v w : L
     (before || list_any (λ x. same_text x w) (map text (drop i ns))) ≡ list_any (λ x. same_text x w) (map text ns) →
     (now || list_any (λ x. same_text x w) (map text (drop (i + 1) ns))) ≡ list_any (λ x. same_text x w) (map text ns)
 text_more text ns i n d v w before now l e t a h =
-    or-next now (same_text (text n) w) before (list_any (λ x. same_text x w) (map text (drop (i + 1) ns))) _
+    or_next now (same_text (text n) w) before (list_any (λ x. same_text x w) (map text (drop (i + 1) ns))) _
     (a ∙ cond-or (pointwise nat_eq v w) before ∙ ap (λ b. b || before) (one_text v w ∙ ap (λ x. same_text x w) t))
     (ap (λ ks. before || list_any (λ x. same_text x w) (map text ks)) (sym (drop_more ns i d l ∙ ap (λ k. k ∷ drop (i + 1) ns) (sym e))) ∙ h)
 
@@ -149,18 +147,18 @@ module _ (test : TypeName → Bool) where
 
 -- ---- names
 
-any-of : (s : Sources) (m : Member ℕ) (ns : List ℕ) (w : List ℕ) → list_any (λ v. same_text v w) (map (local_text s m) ns) ≡ is_spelled s m ns w
-any-of s m [] w = refl
-any-of s m (n ∷ ns) w = ap (λ b. same_text (local_text s m n) w || b) (any-of s m ns w)
+pub any_of : (s : Sources) (m : Member ℕ) (ns : List ℕ) (w : List ℕ) → list_any (λ v. same_text v w) (map (local_text s m) ns) ≡ is_spelled s m ns w
+any_of s m [] w = refl
+any_of s m (n ∷ ns) w = ap (λ b. same_text (local_text s m n) w || b) (any_of s m ns w)
 
 -- a name that a result has
 pub hidden_spelled : (s : Sources) (m : Member ℕ) (ns : List ℕ) (x : TypeName) → list_any (λ v. same_text v x.name) (map (local_text s m) ns) ≡ true → true ≡ is_hidden s m ns x
-hidden_spelled s m ns x e = sym (ap (λ b. b || not (means_type s (meant_there s m x.name) x.type)) (sym (any-of s m ns x.name) ∙ e))
+hidden_spelled s m ns x e = sym (ap (λ b. b || not (means_type s (meant_there s m x.name) x.type)) (sym (any_of s m ns x.name) ∙ e))
 
 -- another one
 pub hidden_meant : (s : Sources) (m : Member ℕ) (ns : List ℕ) (x : TypeName) (means : Bool) → list_any (λ v. same_text v x.name) (map (local_text s m) ns) ≡ false →
     means ≡ means_type s (meant_there s m x.name) x.type → not means ≡ is_hidden s m ns x
-hidden_meant s m ns x means e f = ap not f ∙ sym (ap (λ b. b || not (means_type s (meant_there s m x.name) x.type)) (sym (any-of s m ns x.name) ∙ e))
+hidden_meant s m ns x means e f = ap not f ∙ sym (ap (λ b. b || not (means_type s (meant_there s m x.name) x.type)) (sym (any_of s m ns x.name) ∙ e))
 
 -- what it means at the start of a member, by what is known of names and of the member
 pub meant_by : (s : Sources) (m : Member ℕ) (w : List ℕ) (ms : List Meaning) (file token : ℕ) (o : Option Object) → ms ≡ meanings (units_of s.files) → file ≡ file_of s m → token ≡ m.first + m.from →
@@ -209,27 +207,6 @@ type_found p test ts i t d l e h =
     ap (λ ks. list_any test (names_of_types p ks)) (drop_more ts i d l ∙ ap (λ k. k ∷ drop (i + 1) ts) (sym e))
     ∙ list_any-append test (names_of_type p t) (names_of_types p (drop (i + 1) ts))
     ∙ ap (λ b. b || list_any test (names_of_types p (drop (i + 1) ts))) h
-
--- one type more in a map of names
-module _ {A S : Type 0} (p : PackageView) (m n : HashMap ℕ (Vec Found A) S) (t : ℕ) (names : Vec Found A) where
-  abbrev Told : ℕ → Option (Vec Found A) → Type 0
-  Told q o = IfSome o (λ v. (test : TypeName → Bool) → list_any test (map type_name_view v.items) ≡ list_any test (names_of_type p q))
-
-  told-more : (q : ℕ) (b : Bool) → nat_eq t q ≡ b → get nat_eq n q ≡ cond (nat_eq t q) (Some names) (get nat_eq m q) →
-      ((test : TypeName → Bool) → list_any test (map type_name_view names.items) ≡ list_any test (names_of_type p t)) → Told q (get nat_eq m q) → Told q (get nat_eq n q)
-  told-more q true e put told h =
-      subst (Told q) (sym (put ∙ ap (λ c. cond c (Some names) (get nat_eq m q)) e)) (λ (test : TypeName → Bool). told test ∙ ap (λ k. list_any test (names_of_type p k)) (eqb-true t q e))
-  told-more q false e put told h = subst (Told q) (sym (put ∙ ap (λ c. cond c (Some names) (get nat_eq m q)) e)) h
-
-  pub types_more : ((q : ℕ) → get nat_eq n q ≡ cond (nat_eq t q) (Some names) (get nat_eq m q)) →
-      ((test : TypeName → Bool) → list_any test (map type_name_view names.items) ≡ list_any test (names_of_type p t)) → KnowsTypes p m → KnowsTypes p n
-  types_more put told h = λ q. told-more q (nat_eq t q) refl (put q) told (h q)
-
--- the names that a map has for a type
-module _ {A S : Type 0} (p : PackageView) (m : HashMap ℕ (Vec Found A) S) where
-  pub told_there : (t : ℕ) (names : Vec Found A) → get nat_eq m t ≡ Some names → KnowsTypes p m → (test : TypeName → Bool) → list_any test (map type_name_view names.items) ≡ list_any test (names_of_type p t)
-  told_there t names e h =
-      subst (λ (o : Option (Vec Found A)). IfSome o (λ v. (test : TypeName → Bool) → list_any test (map type_name_view v.items) ≡ list_any test (names_of_type p t))) e (h t)
 
 -- one type more in a set
 module _ {S : Type 0} (P : ℕ → Bool) (old new : HashSet ℕ S) (t : ℕ) where

@@ -7,6 +7,7 @@ pub mod Declaring
 pub mod Escaping
 pub mod Examples
 pub mod Firsts
+pub mod Hiding
 pub mod Importing
 pub mod Keywords
 pub mod KnownTypes
@@ -26,6 +27,7 @@ pub mod Sharing
 pub mod Sparing
 pub mod Staying
 pub mod Steps
+pub mod Stretching
 pub mod Unnumbered
 pub mod Uses
 pub mod Whole

@@ -1,13 +1,10 @@
 -- Names in written types while they are collected.
-use Rattle.std.specs.Prelude.{◌≡◌, ℕ, Bool, true, nat_eq, List, map, IfSome}
-use Rattle.std.specs.HashMap.{HashMap, get}
+use Rattle.std.specs.Prelude.{◌≡◌, ℕ, Bool, true, nat_eq, List, map}
 use Rattle.std.specs.HashSet as set
 use Rattle.std.specs.List.{list_any}
-use Rattle.std.specs.declared.vec.Vec.{Vec}
 use Rattle.go_types.specs.Tables.{type_of}
 use Rattle.go_typed.specs.Packages.{PackageView}
 use Rattle.escape_check.specs.declared.type_names.Collected.{Collected}
-use Rattle.escape_check.specs.declared.type_names.TypeName.{TypeName as Found}
 use Rattle.escape_check.specs.Places.{sources_in}
 use Rattle.escape_check.specs.Types.{TypeName, names_of, names_of_all}
 use Rattle.escape_check.specs.Written.{type_name_view}
@@ -26,7 +23,3 @@ names_collected c = map type_name_view c.names.items
 -- The names in the types that were seen are among the names.
 abbrev pub KnowsNames : PackageView → Collected → Type 0
 KnowsNames p c = (test : TypeName → Bool) (t : ℕ) → set.contains nat_eq c.seen t ≡ true → list_any test (names_of_type p t) ≡ true → list_any test (names_collected c) ≡ true
-
--- The map has for types the names in them.
-abbrev pub KnowsTypes : {A S : Type 0} → PackageView → HashMap ℕ (Vec Found A) S → Type 0
-KnowsTypes p m = (t : ℕ) → IfSome (get nat_eq m t) (λ names. (test : TypeName → Bool) → list_any test (map type_name_view names.items) ≡ list_any test (names_of_type p t))

@@ -8,6 +8,7 @@ pub mod Types
 pub mod Refusals
 pub mod Shown
 pub mod Sites
+pub mod Stretches
 pub mod Tokens
 pub mod Apart
 pub mod Texts

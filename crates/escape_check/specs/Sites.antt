@@ -7,16 +7,16 @@ use Rattle.go_scopes.specs.Resolve.{units_of}
 use Rattle.go_scopes_named.specs.Named.{IsNamed, all_meanings}
 use Rattle.escape_check.specs.declared.site.HiddenAtSite.{HiddenAtSite}
 use Rattle.escape_check.specs.declared.site.Truths.{Truths}
-use Rattle.escape_check.specs.Collecting.{KnowsTypes}
 use Rattle.escape_check.specs.Shown.{KnowsPlaces}
+use Rattle.escape_check.specs.Stretches.{KnowsHidden}
 use Rattle.escape_check.specs.Types.{TypeName, universal}
 
--- where locals of the template stand, what names mean, and which names types have
+-- where locals of the template stand, what names mean, and where names in types are hidden
 pub record KnowsSite (rule : HiddenAtSite) (p : PackageView) : Type 0 where
   pub places : KnowsPlaces rule.declared
   pub named : IsNamed rule.named.now
   pub meanings : all_meanings rule.named.now ≡ meanings (units_of p.files)
-  pub types : KnowsTypes p rule.names.now
+  pub hidden : KnowsHidden p rule.hidden.now
 
 -- ---- truth values
 

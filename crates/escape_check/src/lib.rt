@@ -7,6 +7,7 @@
 mod branches;
 mod ends;
 mod escapes;
+mod hidden_names;
 mod imports;
 mod keeping;
 pub mod laws;
@@ -21,6 +22,7 @@ mod rule;
 mod shadow;
 mod site;
 mod sites;
+mod stretches;
 mod type_names;
 mod types;
 mod unused;

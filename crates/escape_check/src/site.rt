@@ -20,11 +20,12 @@ ghost use Rattle.escape_check.specs.Collecting.{names_of_type, names_of_types};
 ghost use Rattle.escape_check.specs.Sites.{KnowsSite, is_value, truth_named, truths_named};
 ghost use Rattle.escape_check.specs.Written.{later_in, type_name_view, written_at};
 
+use crate::hidden_names::{HiddenNames, names_hidden_in};
 use crate::member::Member;
 use crate::place::Place;
 use crate::results::{Declared, later_among};
 use crate::rule::MemberRule;
-use crate::type_names::{TypeName, names_in, type_object};
+use crate::type_names::{TypeName, type_object};
 use go_base::Memory;
 use go_constants::Const;
 use go_scopes_named::by_name::Named;
@@ -45,8 +46,8 @@ pub(crate) struct HiddenAtSite<'a> {
     pub holes: &'a [u32],
     /// What names mean at any token.
     pub named: &'a Named<'a>,
-    /// The names in the types of the template's results.
-    pub names: &'a HashMap<TypeId, Vec<TypeName<'a>>>,
+    /// Where in the files of members the names in the types of the template's results are hidden.
+    pub hidden: &'a HashMap<(u32, TypeId), HiddenNames<'a>>,
 }
 
 impl MemberRule for HiddenAtSite<'_> {
@@ -135,13 +136,14 @@ impl HiddenAtSite<'_> {
         ensures { (locals : List ℕ) → AreTexts texts.now (map (local_text (sources_in checked.now) (member_view member.now)) locals)
             → IfOk result (λ b. b ≡ list_any (specs.is_hidden (sources_in checked.now) (member_view member.now) locals) (names_of_type checked.now of)) }
     {
-        match self.names.get(&of) {
-            Some(names) => any_hidden(checked, self.named, member, texts, names),
-            None => {
-                let names = names_in(alloc, checked, of)?;
-                any_hidden(checked, self.named, member, texts, &names)
-            }
+        let Some(token) = member.first.checked_add(member.from) else {
+            return Err(Memory);
+        };
+        if let Some(names) = self.hidden.get(&(member.file, of)) {
+            return Ok(names.hides(texts, token));
         }
+        let names = names_hidden_in(alloc, checked, self.named, member.file, of)?;
+        Ok(names.hides(texts, token))
     }
 }
 
@@ -341,7 +343,7 @@ fn is_hidden(
 }
 
 /// Whether an object is the one that a name in a written type has to mean.
-fn means_type(checked: &Checked, object: Option<Object>, number: Option<u64>) -> bool
+pub(crate) fn means_type(checked: &Checked, object: Option<Object>, number: Option<u64>) -> bool
     ensures { result ≡ specs.means_type (sources_in checked.now) object number }
 {
     match number {

@@ -11,7 +11,6 @@ ghost use Rattle.go_types.specs.Tables.{type_of};
 ghost use Rattle.param_choose.specs.Choosing.{Choice as Chosen};
 ghost use Rattle.param_choose.specs.Handed.{HandedHole, choice_shown, handed, hole_shown};
 ghost use Rattle.param_choose.specs.Shown.{variable_view};
-ghost use Rattle.escape_check.specs.Collecting.{KnowsTypes};
 ghost use Rattle.escape_check.specs.Lookups.{all_asked, left_unused, lost_imports};
 ghost use Rattle.escape_check.specs.Places.{each_refused, first_refused, or_refused, sources_in, template_refused};
 ghost use Rattle.escape_check.specs.Refusals.{site_refusals};
@@ -19,13 +18,14 @@ ghost use Rattle.escape_check.specs.Shown.{IsSound, KnowsPlaces, member_view, re
 ghost use Rattle.escape_check.specs.Written.{AreKnownTypes, handed_types};
 ghost use Rattle.escape_check.specs.Types.{hidden_at_site, hidden_types_written, hole_numbers, local_types_written, variable_types};
 
+use crate::hidden_names::hidden_in_files;
 use crate::imports::{LostImports, lost_files};
 use crate::member::Member;
 use crate::place::Refused;
 use crate::results::Declared;
 use crate::rule::{first_refused, refused_in};
 use crate::site::HiddenAtSite;
-use crate::type_names::{TypeName, names_by_type, names_of_all};
+use crate::type_names::names_of_all;
 use crate::types::{any_local, any_taken};
 use crate::unused::{LeftUnused, last_uses};
 use clone_window::locals::locals_of;
@@ -42,7 +42,6 @@ use param_choose::choice::{Choice, HoleParameter};
 use param_choose::later::places_of;
 use param_choose::variables::Variable;
 use std::alloc::{AllocError, Global};
-use std::collections::HashMap;
 
 /// The first refusal for what names mean at sites, for what is no longer used, and for types that are written.
 #[tactic(auto, using(crate::proofs::AtSites::numbers_shown, crate::proofs::AtSites::of_five, crate::proofs::AtSites::first_found, crate::proofs::AtSites::later_found))]
@@ -104,28 +103,16 @@ fn hidden_refusal(
     ensures { (h : Chosen ℕ) → map (λ v. v.local) h.declared ≡ declared.entry.locals.now → hole_numbers h.holes ≡ holes.now → IfOk result (λ r. option_map refused_view r
         ≡ each_refused 12 (hidden_at_site (type_of checked.now.types.shapes) (sources_in checked.now) (member_view declared.entry.template.now) h) (map member_view members.now)) }
 {
-    let names = names_of_results(alloc, checked, results)?;
+    let mut types = Vec::new(alloc);
+    push_types(results, &mut types)?;
+    let hidden = hidden_in_files(alloc, checked, named, &types, members)?;
     let rule = HiddenAtSite {
         declared,
         holes,
         named,
-        names: &names,
+        hidden: &hidden,
     };
     first_refused(alloc, checked, 12, &rule, members)
-}
-
-/// The names in the types of some variables.
-fn names_of_results<'a>(
-    alloc: Global,
-    checked: &'a Checked,
-    variables: &[Variable],
-) -> Result<HashMap<TypeId, Vec<TypeName<'a>>>, AllocError>
-    requires { AllByRecursion (λ t. t < length checked.now.types.shapes) (variable_types (map variable_view variables.now)) }
-    ensures { IfOk result (λ m. KnowsTypes checked.entry.now m) }
-{
-    let mut types = Vec::new(alloc);
-    push_types(variables, &mut types)?;
-    names_by_type(alloc, checked, &types)
 }
 
 /// The first refusal for an import or a result that is no longer used.

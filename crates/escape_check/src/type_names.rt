@@ -5,7 +5,7 @@ ghost use Rattle.std.specs.List.{AllByRecursion, list_any};
 ghost use Rattle.go_types.specs.Tables.{HasPartsBelow, tree_of, type_of};
 ghost use Rattle.go_print.specs.Names.{object_at};
 ghost use Rattle.go_print.specs.Texts.{kind_text};
-ghost use Rattle.escape_check.specs.Collecting.{KnowsNames, KnowsTypes, names_collected, names_of_type, names_of_types};
+ghost use Rattle.escape_check.specs.Collecting.{KnowsNames, names_collected, names_of_type, names_of_types};
 ghost use Rattle.escape_check.specs.Places.{sources_in};
 ghost use Rattle.escape_check.specs.Types.{TypeName as Named, declared_text, type_object};
 ghost use Rattle.escape_check.specs.Written.{type_name_view};
@@ -17,7 +17,7 @@ use go_typed::checked::Checked;
 use go_typed::origin::Origin;
 use go_types::{Field, Shape, TypeId, Types};
 use std::alloc::{AllocError, Global};
-use std::collections::{HashMap, HashSet};
+use std::collections::HashSet;
 
 /// A name in a written type.
 #[derive(Clone, Copy)]
@@ -74,28 +74,6 @@ pub(crate) fn names_in<'a>(
     };
     push_type(checked, of, &mut collected)?;
     Ok(collected.names)
-}
-
-/// The names in each of some types; each of these is looked at once.
-///
-/// # Errors
-///
-/// Want of memory.
-pub(crate) fn names_by_type<'a>(
-    alloc: Global,
-    checked: &'a Checked,
-    types: &[TypeId],
-) -> Result<HashMap<TypeId, Vec<TypeName<'a>>>, AllocError>
-    requires { AllByRecursion (λ t. t < length checked.now.types.shapes) types.now }
-    ensures { IfOk result (λ m. KnowsTypes checked.entry.now m) }
-{
-    let mut known = HashMap::new(alloc);
-    for of in types {
-        if !known.contains_key(of) {
-            known.insert(*of, names_in(alloc, checked, *of)?)?;
-        }
-    }
-    Ok(known)
 }
 
 /// Puts the names in types, whose numbers are below a bound, behind the others.
