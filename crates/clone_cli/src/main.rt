@@ -1,4 +1,4 @@
-//! The program `goclone [--min N] [--mass N] DIR`: `run` of clone_program over the folders of the file system, standard input and
+//! The program `goclone [--min N] [--mass N] [--make N] DIR`: `run` of clone_program over the folders of the file system, standard input and
 //! standard output.
 #![tactic(auto)]
 

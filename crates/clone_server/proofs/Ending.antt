@@ -1,5 +1,5 @@
 -- How a run ends.
-use Rattle.std.proofs.Common.{◌≡◌, ℕ, List, [], ◌++◌, Option, Some, Result, Ok, Err, IfOk, inl, inr, refl, ap, ◌∙◌, append_assoc}
+use Rattle.std.proofs.Common.{◌≡◌, ℕ, List, [], ◌++◌, Option, Some, None, Result, Ok, Err, IfOk, inl, inr, refl, ap, ◌∙◌, append_assoc}
 use Rattle.go_base.specs.declared.bytes.FileText.{FileText}
 use Rattle.port_io.specs.Held.{Held}
 use Rattle.clone_server.specs.declared.step.End.{End}
@@ -13,7 +13,8 @@ use Rattle.clone_server.specs.declared.stop.Stop.{Stop}
 use Rattle.clone_server.specs.declared.stop.Stop.TheVariants as stop
 use Rattle.clone_server.specs.Session.{Settings, Answering, outcome_status, outcome_text}
 use Rattle.clone_server.specs.Serving.{AtEnd, Runs}
-use Rattle.clone_server.specs.Run.{Closes, CountsEnd, EndsBy, IsEndStatus, RunsFiles, Untouched, RunsFolder, RunsWords}
+use Rattle.clone_server.specs.Made.{made, made_script}
+use Rattle.clone_server.specs.Run.{Closes, CountsEnd, EndsBy, EndsFor, EndsWith, IsEndStatus, RunsFiles, Untouched, RunsFolder, RunsSaid, RunsWords, nothing_held}
 use Rattle.clone_server.proofs.Written.{leaves_all}
 use Rattle.clone_server.proofs.Standing.{stands_first}
 
@@ -75,10 +76,15 @@ pub folder_memory : (A : Answering) (dir : List ℕ) (x : Result (List FileText)
 folder_memory A dir (Ok files) held script before after written left u = files_first A dir files held script before after written left u.0 u.1 u.2
 folder_memory A dir (Err e) held script before after written left u = u
 
+said_memory : (A : Answering) (said : Said) (make : Option ℕ) (held : Held) (script before : List ℕ) (after : Option Held) (written left : Option (List ℕ)) →
+    Untouched held script before after written left → RunsSaid A said make held script before (Err stop.Memory) after written left
+said_memory A said None held script before after written left u = folder_memory A said.dir (opened (held said.dir)) held script before after written left u
+said_memory A said (Some seed) held script before after written left u =
+    (Some nothing_held, Some made_script, files_first A [] (made seed) nothing_held made_script before (Some nothing_held) written (Some made_script) refl u.1 refl, u.0, u.2)
+
 pub words_memory : (A : Settings → Answering) (x : Result Said WordsError) (held : Held) (script before : List ℕ) (after : Option Held) (written left : Option (List ℕ)) →
     Untouched held script before after written left → RunsWords A x held script before (Err stop.Memory) after written left
-words_memory A (Ok said) held script before after written left u =
-    folder_memory (A (record { min = said.min; mass = said.mass })) said.dir (opened (held said.dir)) held script before after written left u
+words_memory A (Ok said) held script before after written left u = said_memory (A (record { min = said.min; mass = said.mass })) said said.make held script before after written left u
 words_memory A (Err e) held script before after written left u = (closes_before usage 2 before written u.1, u.0, u.2)
 
 -- ---- statuses
@@ -89,11 +95,11 @@ status_ends (bad_at offset) (Ok n) h = inr (inl h)
 status_ends long (Ok n) h = inr (inr h)
 status_ends o (Err e) h = tt
 
-pub ends_taken : (said : Said) (r : Result ℕ Stop) → IfOk r IsEndStatus → EndsBy (Ok said) r
-ends_taken said (Ok n) h = h
-ends_taken said (Err e) h = tt
+pub ends_folder : (r : Result ℕ Stop) → IfOk r IsEndStatus → EndsFor None r
+ends_folder (Ok n) h = h
+ends_folder (Err e) h = tt
 
-pub ends_untaken : (e : WordsError) (r : Result ℕ Stop) (k j : ℕ) → IfOk r (λ n. n ≡ 2) → CountsEnd r k j → EndsBy {X = Said} (Err e) r
+pub ends_untaken : (e : WordsError) (r : Result ℕ Stop) (k j : ℕ) → IfOk r (λ n. n ≡ 2) → CountsEnd r k j → EndsBy (Err e) r
 ends_untaken e (Ok n) k j h c = h
 ends_untaken e (Err stop.Sink) k j h c = tt
 ends_untaken e (Err stop.Memory) k j h c = tt
@@ -101,6 +107,10 @@ ends_untaken e (Err stop.Folder) k j h c = c
 ends_untaken e (Err stop.Script) k j h c = c
 ends_untaken e (Err stop.Save) k j h c = c
 
+memory_for : (make : Option ℕ) → EndsFor make (Err stop.Memory)
+memory_for None = tt
+memory_for (Some seed) = tt
+
 pub ends_memory : (x : Result Said WordsError) → EndsBy x (Err stop.Memory)
-ends_memory (Ok said) = tt
+ends_memory (Ok said) = memory_for said.make
 ends_memory (Err e) = tt

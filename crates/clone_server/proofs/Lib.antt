@@ -7,3 +7,6 @@ mod Matched
 mod Ordered
 mod Comings
 mod Before
+mod Making
+mod MadeScript
+mod MadeRuns

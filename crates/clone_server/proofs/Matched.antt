@@ -8,7 +8,7 @@ use Rattle.clap.proofs.OnLiterals.{clap_on_literals}
 use Rattle.go_base.specs.Gives.{Unless}
 use Rattle.clone_server.specs.declared.words.WordsError.{WordsError}
 use Rattle.clone_server.specs.declared.words.WordsError.TheVariants as errors
-use Rattle.clone_server.specs.Words.{goclone, option_rule, folder_rule, found, rows_of_words, number_or, all_said, said_by, words_refusal}
+use Rattle.clone_server.specs.Words.{goclone, option_rule, folder_rule, found, rows_of_words, number_or, seed_or_none, all_said, said_by, words_refusal}
 
 pub simple : is_simple_and_free goclone ≡ true
 unfolding clap_on_literals
@@ -42,17 +42,19 @@ pub plain : is_simple goclone ≡ true
 unfolding clap_on_literals
 plain = refl
 
-pub all_said_by : (rows : List Row) (min mass : Option ℕ) (dir min_text mass_text : Option Text) → min ≡ number_or 32 2 min_text → mass ≡ number_or 1000 8 mass_text →
-    min_text ≡ first_of (codes "min") rows → mass_text ≡ first_of (codes "mass") rows → dir ≡ first_of (codes "dir") rows → all_said min mass dir ≡ said_by rows
-all_said_by rows min mass dir min_text mass_text e f g h i =
-    ap (λ n. all_said n mass dir) (e ∙ ap (number_or 32 2) g)
-    ∙ ap (λ n. all_said (number_or 32 2 (first_of (codes "min") rows)) n dir) (f ∙ ap (number_or 1000 8) h)
-    ∙ ap (all_said (number_or 32 2 (first_of (codes "min") rows)) (number_or 1000 8 (first_of (codes "mass") rows))) i
+pub all_said_by : (rows : List Row) (min mass : Option ℕ) (make : Option (Option ℕ)) (dir min_text mass_text make_text : Option Text) → min ≡ number_or 32 2 min_text → mass ≡ number_or 1000 8 mass_text →
+    make ≡ seed_or_none make_text → min_text ≡ first_of (codes "min") rows → mass_text ≡ first_of (codes "mass") rows → make_text ≡ first_of (codes "make") rows → dir ≡ first_of (codes "dir") rows →
+    all_said min mass make dir ≡ said_by rows
+all_said_by rows min mass make dir min_text mass_text make_text e f k g h l i =
+    ap (λ n. all_said n mass make dir) (e ∙ ap (number_or 32 2) g)
+    ∙ ap (λ n. all_said (number_or 32 2 (first_of (codes "min") rows)) n make dir) (f ∙ ap (number_or 1000 8) h)
+    ∙ ap (λ n. all_said (number_or 32 2 (first_of (codes "min") rows)) (number_or 1000 8 (first_of (codes "mass") rows)) n dir) (k ∙ ap seed_or_none l)
+    ∙ ap (all_said (number_or 32 2 (first_of (codes "min") rows)) (number_or 1000 8 (first_of (codes "mass") rows)) (seed_or_none (first_of (codes "make") rows))) i
 
 -- the command, one argument after the other
-pub command_is : (a b c d : App) (min mass dir : Rule) → a ≡ (let app = new_app (codes "goclone") in record app { top = record app.top { no_binary_name = true } }) →
-    b ≡ with_rule a min → c ≡ with_rule b mass → d ≡ with_rule c dir →
-    min ≡ option_rule (codes "min") → mass ≡ option_rule (codes "mass") → dir ≡ folder_rule → d ≡ goclone
-command_is a b c d min mass dir ea eb ec ed e f g =
-    ed ∙ ap (λ x. with_rule x dir) (ec ∙ ap (λ x. with_rule x mass) (eb ∙ ap (λ x. with_rule x min) ea))
-    ∙ (rw (e, f, g) refl)
+pub command_is : (a b c d z : App) (min mass make dir : Rule) → a ≡ (let app = new_app (codes "goclone") in record app { top = record app.top { no_binary_name = true } }) →
+    b ≡ with_rule a min → c ≡ with_rule b mass → d ≡ with_rule c make → z ≡ with_rule d dir →
+    min ≡ option_rule (codes "min") → mass ≡ option_rule (codes "mass") → make ≡ option_rule (codes "make") → dir ≡ folder_rule → z ≡ goclone
+command_is a b c d z min mass make dir ea eb ec ed ez e f h g =
+    ez ∙ ap (λ x. with_rule x dir) (ed ∙ ap (λ x. with_rule x make) (ec ∙ ap (λ x. with_rule x mass) (eb ∙ ap (λ x. with_rule x min) ea)))
+    ∙ (rw (e, f, h, g) refl)

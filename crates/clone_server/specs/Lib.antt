@@ -7,3 +7,4 @@ pub mod Examples
 pub mod Opening
 pub mod Taking
 pub mod Arguments
+pub mod Made

@@ -1,5 +1,6 @@
 -- A whole run: by the words, the folders and the script.
-use Rattle.std.specs.Prelude.{◌≡◌, ℕ, ◌<◌, ◌⊎◌, List, ◌++◌, length, Option, Some, Result, Ok, Err}
+use Rattle.std.specs.Prelude.{◌≡◌, ℕ, ◌<◌, ◌⊎◌, List, [], ◌++◌, length, Option, Some, None, Result, Ok, Err}
+use Rattle.std.specs.FinMap as finite
 use Rattle.go_base.specs.declared.bytes.FileText.{FileText}
 use Rattle.port_io.specs.Faults.{Rose}
 use Rattle.port_io.specs.Held.{Held}
@@ -9,6 +10,7 @@ use Rattle.clone_server.specs.declared.words.WordsError.{WordsError}
 use Rattle.clone_server.specs.Words.{Said, usage}
 use Rattle.clone_server.specs.declared.folder.OpenError.{OpenError}
 use Rattle.clone_server.specs.Opening.{opened}
+use Rattle.clone_server.specs.Made.{made, made_script}
 use Rattle.clone_server.specs.declared.stop.Stop.{Stop}
 use Rattle.clone_server.specs.declared.stop.Stop.TheVariants as stop
 use Rattle.clone_server.specs.Session.{Settings, Answering, State, outcome_status, outcome_text, IsSession}
@@ -23,17 +25,26 @@ status_in (Err e) = status_of e
 abbrev pub IsEndStatus : ℕ → Type 0
 IsEndStatus n = (n ≡ 0) ⊎ (n ≡ 3) ⊎ (n ≡ 9)
 
--- The ends of a run, by what its words say: it has one of the statuses 0, 3 and 9, or stops at an object or for want of memory; where
--- the words aren't taken it has the status 2, or stops at the sink or for want of memory.
-abbrev pub EndsBy : {X : Type 0} → Result X WordsError → Result ℕ Stop → Type 0
-EndsBy (Ok said) (Ok n) = IsEndStatus n
-EndsBy (Ok said) (Err e) = Unit {0}
-EndsBy (Err e) (Ok n) = n ≡ 2
-EndsBy (Err e) (Err stop.Sink) = Unit {0}
-EndsBy (Err e) (Err stop.Memory) = Unit {0}
-EndsBy (Err e) (Err stop.Folder) = ⊥
-EndsBy (Err e) (Err stop.Script) = ⊥
-EndsBy (Err e) (Err stop.Save) = ⊥
+-- A run that asks for nothing but the sink ends with this status, or stops at the sink or for want of memory.
+abbrev pub EndsWith : ℕ → Result ℕ Stop → Type 0
+EndsWith status (Ok n) = n ≡ status
+EndsWith status (Err stop.Sink) = Unit {0}
+EndsWith status (Err stop.Memory) = Unit {0}
+EndsWith status (Err stop.Folder) = ⊥
+EndsWith status (Err stop.Script) = ⊥
+EndsWith status (Err stop.Save) = ⊥
+
+-- Of a folder it has one of the statuses 0, 3 and 9, or stops at an object or for want of memory; of a package that is made from a number it
+-- has the status 0, or stops at the sink or for want of memory.
+abbrev pub EndsFor : Option ℕ → Result ℕ Stop → Type 0
+EndsFor None (Ok n) = IsEndStatus n
+EndsFor None (Err e) = Unit {0}
+EndsFor (Some seed) r = EndsWith 0 r
+
+-- The ends of a run, by what its words say: where they aren't taken it has the status 2, or stops at the sink or for want of memory.
+abbrev pub EndsBy : Result Said WordsError → Result ℕ Stop → Type 0
+EndsBy (Ok said) r = EndsFor said.make r
+EndsBy (Err e) r = EndsWith 2 r
 
 -- ---- counts of faults
 
@@ -109,7 +120,23 @@ RunsFolder A dir (Err e) held script before (Err stop.Sink) after written left =
 RunsFolder A dir (Err e) held script before (Err stop.Save) after written left = ⊥
 RunsFolder A dir (Err e) held script before (Err stop.Memory) after written left = Untouched held script before after written left
 
--- The run of words: of the folder that they name, or the usage line with status 2 where they aren't taken.
+-- folders without files
+abbrev pub nothing_held : Held
+nothing_held = λ dir. finite.empty
+
+-- The run of a package that is made from a number: of the session that begins at it, with the script that stands for the given one, over
+-- folders without files. The given folder and script are as they were.
+abbrev pub RunsMade : Answering → ℕ → Held → List ℕ → List ℕ → Result ℕ Stop → Option Held → Option (List ℕ) → Option (List ℕ) → Type 0
+RunsMade A seed held script before r after written left =
+    (own : Option Held) × (rest : Option (List ℕ)) × RunsFiles A [] (record { files = made seed; held = nothing_held }) made_script before r own written rest
+    × (after ≡ Some held) × (left ≡ Some script)
+
+-- The run that words ask for which are taken: of the folder that they name, or of the package that is made from their number.
+abbrev pub RunsSaid : Answering → Said → Option ℕ → Held → List ℕ → List ℕ → Result ℕ Stop → Option Held → Option (List ℕ) → Option (List ℕ) → Type 0
+RunsSaid A said None held script before r after written left = RunsFolder A said.dir (opened (held said.dir)) held script before r after written left
+RunsSaid A said (Some seed) held script before r after written left = RunsMade A seed held script before r after written left
+
+-- The run of words: the usage line with status 2 where they aren't taken.
 abbrev pub RunsWords : (Settings → Answering) → Result Said WordsError → Held → List ℕ → List ℕ → Result ℕ Stop → Option Held → Option (List ℕ) → Option (List ℕ) → Type 0
-RunsWords A (Ok said) held script before r after written left = RunsFolder (A (record { min = said.min; mass = said.mass })) said.dir (opened (held said.dir)) held script before r after written left
+RunsWords A (Ok said) held script before r after written left = RunsSaid (A (record { min = said.min; mass = said.mass })) said said.make held script before r after written left
 RunsWords A (Err e) held script before r after written left = Closes usage 2 before r written × (after ≡ Some held) × (left ≡ Some script)

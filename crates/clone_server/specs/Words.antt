@@ -8,17 +8,19 @@ use Rattle.go_base.specs.Gives.{◌>>=◌}
 use Rattle.clone_server.specs.declared.words.WordsError.{WordsError}
 use Rattle.clone_server.specs.declared.words.WordsError.TheVariants as errors
 use Rattle.clone_server.specs.declared.words.Words.{Words}
-use Rattle.clone_server.specs.Numbers.{whole_number}
+use Rattle.std.specs.Option.{option_map}
+use Rattle.clone_server.specs.Numbers.{whole_number, whole_or_zero}
 
--- two numbers and a folder's text
+-- two numbers, the one that a package is made from, if there is one, and a folder's text
 pub record Said : Type 0 where
   pub min : ℕ
   pub mass : ℕ
+  pub make : Option ℕ
   pub dir : List ℕ
 
 -- what words say that were taken
 abbrev pub said_of : Words → Said
-said_of w = record { min = w.min; mass = w.mass; dir = w.dir.now }
+said_of w = record { min = w.min; mass = w.mass; make = w.make; dir = w.dir.now }
 
 -- ---- the command, as clap knows it
 
@@ -28,12 +30,12 @@ option_rule name = record (new_rule name) { long = Some name; action = Some Set 
 abbrev pub folder_rule : Rule
 folder_rule = record (new_rule (codes "dir")) { required = true; action = Some Set }
 
--- the words behind the program's own name: two options with a value, and one word more
+-- the words behind the program's own name: three options with a value, and one word more
 abbrev pub goclone : App
 goclone =
     let app = new_app (codes "goclone") in
     let named = record app { top = record app.top { no_binary_name = true } } in
-    with_rule (with_rule (with_rule named (option_rule (codes "min"))) (option_rule (codes "mass"))) folder_rule
+    with_rule (with_rule (with_rule (with_rule named (option_rule (codes "min"))) (option_rule (codes "mass"))) (option_rule (codes "make"))) folder_rule
 
 -- ---- numbers
 
@@ -48,16 +50,27 @@ abbrev pub number_or : ℕ → ℕ → Option Text → Option ℕ
 number_or most fallback None = Some fallback
 number_or most fallback (Some text) = whole_number most text
 
--- the two numbers and the folder, if all are there
-abbrev pub all_said : Option ℕ → Option ℕ → Option Text → Option Said
-all_said None mass dir = None
-all_said (Some n) None dir = None
-all_said (Some n) (Some m) None = None
-all_said (Some n) (Some m) (Some d) = Some (record { min = n; mass = m; dir = d })
+abbrev pub most_seed : ℕ
+most_seed = 4294967295
+
+-- the number that a package is made from: none where the option isn't given
+abbrev pub seed_or_none : Option Text → Option (Option ℕ)
+seed_or_none None = Some None
+seed_or_none (Some text) = option_map Some (whole_or_zero most_seed text)
+
+-- the numbers and the folder, if all are there
+abbrev pub all_said : Option ℕ → Option ℕ → Option (Option ℕ) → Option Text → Option Said
+all_said None mass make dir = None
+all_said (Some n) None make dir = None
+all_said (Some n) (Some m) None dir = None
+all_said (Some n) (Some m) (Some s) None = None
+all_said (Some n) (Some m) (Some s) (Some d) = Some (record { min = n; mass = m; make = s; dir = d })
 
 -- what the matches say
 abbrev pub said_by : List Row → Option Said
-said_by rows = all_said (number_or most_statements 2 (first_of (codes "min") rows)) (number_or most_mass 8 (first_of (codes "mass") rows)) (first_of (codes "dir") rows)
+said_by rows =
+    all_said (number_or most_statements 2 (first_of (codes "min") rows)) (number_or most_mass 8 (first_of (codes "mass") rows)) (seed_or_none (first_of (codes "make") rows))
+    (first_of (codes "dir") rows)
 
 -- the refusal where nothing is said
 abbrev pub or_untaken : Option Said → Result Said WordsError
@@ -91,7 +104,7 @@ words_refusal errors.Memory = None
 
 -- what is written where the words aren't taken
 abbrev pub usage : List ℕ
-usage = codes "usage: goclone [--min N] [--mass N] DIR\n"
+usage = codes "usage: goclone [--min N] [--mass N] [--make N] DIR\n"
 
 abbrev pub texts_of : List (String Global) → List Text
 texts_of words = map string_bytes words

@@ -15,6 +15,7 @@ mod arguments;
 mod folder;
 mod intake;
 pub mod laws;
+pub mod made;
 mod names;
 mod number;
 mod outside;

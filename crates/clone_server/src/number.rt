@@ -1,7 +1,7 @@
 //! Whole numbers in words.
 
 ghost use Rattle.std.specs.Prelude.{◌≡◌};
-ghost use Rattle.clone_server.specs.Numbers.{next_number, number_from, whole_number};
+ghost use Rattle.clone_server.specs.Numbers.{next_number, number_from, whole_number, whole_or_zero};
 
 /// The number with one more digit, if the byte is one, no digit follows a 0, and the number is within the limit.
 #[tactic(auto, unfolding(crate::specs::Numbers::next_number))]
@@ -41,4 +41,14 @@ pub(crate) fn whole_number(bytes: &[u8], most: u32) -> Option<u32>
         return None;
     }
     number_from(0, bytes, most)
+}
+
+/// The whole number that the bytes write, if it is from 0 to `most`: digits alone, of which the first is no 0 unless it is the only one.
+pub(crate) fn whole_or_zero(bytes: &[u8], most: u32) -> Option<u32>
+    ensures { result ≡ whole_or_zero most bytes.now }
+{
+    if bytes == b"0".as_slice() {
+        return Some(0);
+    }
+    whole_number(bytes, most)
 }

@@ -37,7 +37,8 @@ fn failing_of(alloc: Global, failing: &str, object: &str) -> Result<Vec<u64>, Me
     Ok(calls)
 }
 
-fn words_of(alloc: Global, text: &str) -> Result<Vec<String>, Memory> {
+/// The words of a row.
+pub fn words_of(alloc: Global, text: &str) -> Result<Vec<String>, Memory> {
     let mut words = Vec::new(alloc);
     if text == "-" {
         return Ok(words);
@@ -54,7 +55,7 @@ fn dir_of(words: &str) -> &str {
     for word in words.split(' ') {
         if is_number {
             is_number = false;
-        } else if word == "--min" || word == "--mass" {
+        } else if word == "--min" || word == "--mass" || word == "--make" {
             is_number = true;
         } else if !word.starts_with("--") {
             return word;

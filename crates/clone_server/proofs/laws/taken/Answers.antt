@@ -6,4 +6,4 @@ use Rattle.clone_server.proofs.laws.taken.Goals as goal
 
 pub returns : goal.returns
 unfolding clap_on_literals next_number number_from rows_of_words words_of
-returns c = record { alone = refl; both = refl; behind = refl; dashes = refl }
+returns c = record { alone = refl; both = refl; behind = refl; dashes = refl; make = refl; make_most = refl }

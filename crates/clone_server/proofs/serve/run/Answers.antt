@@ -1,15 +1,15 @@
 use Rattle.std.proofs.Common.{◌≡◌, Err, sym, subst}
 use Rattle.go_base.specs.Gives.{Unless}
 use Rattle.clone_server.specs.declared.words.WordsError.TheVariants as errors
-use Rattle.clone_server.specs.Words.{said_of, texts_of, words_of, words_refusal}
+use Rattle.clone_server.specs.Words.{texts_of, words_of, words_refusal}
 use Rattle.clone_server.specs.Run.{RunsWords, EndsBy}
-use Rattle.clone_server.proofs.Ending.{words_memory, ends_taken, ends_untaken, ends_memory}
+use Rattle.clone_server.proofs.Ending.{words_memory, ends_untaken, ends_memory}
 use Rattle.clone_server.proofs.serve.run.Goals as goal
 
 pub returns-in-Ok-clause-told : goal.returns-in-Ok-clause-told
 returns-in-Ok-clause-told g c held before all eh ew el =
-    subst (λ x. RunsWords g.W.Workspace.Answers x held all before c.serve_folder.result (g.F.Folder.held c.serve_folder.new.folder) (g.K.Sink.written c.serve_folder.new.out) (g.S.Source.left c.serve_folder.new.script)) (sym c.in-Ok.ensures)
-    (c.serve_folder.ensures.told held before all eh ew el)
+    subst (λ x. RunsWords g.W.Workspace.Answers x held all before c.serve_said.result (g.F.Folder.held c.serve_said.new.folder) (g.K.Sink.written c.serve_said.new.out) (g.S.Source.left c.serve_said.new.script)) (sym c.in-Ok.ensures)
+    (c.serve_said.ensures.told held before all eh ew el)
 
 pub returns-in-Err-NotTaken-clause-told : goal.returns-in-Err-NotTaken-clause-told
 returns-in-Err-NotTaken-clause-told g c held before all eh ew el =
@@ -23,7 +23,7 @@ returns-in-Err-Memory-clause-told g c held before all eh ew el =
 
 pub returns-in-Ok-clause-status : goal.returns-in-Ok-clause-status
 returns-in-Ok-clause-status g c =
-    subst (λ x. EndsBy x c.serve_folder.result) (sym c.in-Ok.ensures) (ends_taken (said_of c.in-Ok.said) c.serve_folder.result c.serve_folder.ensures.status)
+    subst (λ x. EndsBy x c.serve_said.result) (sym c.in-Ok.ensures) c.serve_said.ensures.status
 
 pub returns-in-Err-NotTaken-clause-status : goal.returns-in-Err-NotTaken-clause-status
 returns-in-Err-NotTaken-clause-status g c =

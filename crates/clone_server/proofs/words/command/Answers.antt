@@ -7,8 +7,8 @@ use Rattle.clone_server.proofs.words.command.Goals as goal
 
 pub returns : goal.returns
 returns c =
-    IfOk-weaker c.arg-3.result _ _ (λ made h.
-    command_is (app_of c.no_binary_name-named.result) (app_of c.in_ok-arg.field-0) (app_of c.in_ok-arg-2.field-0) (app_of made) _ _ _
-    (ap app_of_fields c.no_binary_name-named.ensures ∙ ap (λ (a : App). record a { top = record a.top { no_binary_name = true } }) c.new-4.ensures.app)
-    (c.in_ok-arg.ensures.shape (search rules)) (c.in_ok-arg-2.ensures.shape (search rules)) (h.shape (search rules))
-    (search rules) (search rules) (search rules)) c.arg-3.ensures
+    IfOk-weaker c.arg-4.result _ _ (λ made h.
+    command_is (app_of c.no_binary_name-named.result) (app_of c.in_ok-arg.field-0) (app_of c.in_ok-arg-2.field-0) (app_of c.in_ok-arg-3.field-0) (app_of made) _ _ _ _
+    (ap app_of_fields c.no_binary_name-named.ensures ∙ ap (λ (a : App). record a { top = record a.top { no_binary_name = true } }) c.new-5.ensures.app)
+    (c.in_ok-arg.ensures.shape (search rules)) (c.in_ok-arg-2.ensures.shape (search rules)) (c.in_ok-arg-3.ensures.shape (search rules)) (h.shape (search rules))
+    (search rules) (search rules) (search rules) (search rules)) c.arg-4.ensures
