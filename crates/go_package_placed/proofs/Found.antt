@@ -8,7 +8,6 @@ use Rattle.go_tokens.specs.Spellings.{same_text}
 use Rattle.go_tokens.specs.Tokens.{TokenList}
 use Rattle.go_tree.specs.declared.context.Block.{Block}
 use Rattle.go_tree.specs.declared.context.Block.TheVariants as block
-use Rattle.go_tree.specs.declared.context.Manner.{Manner}
 use Rattle.go_tree.specs.declared.context.Manner.TheVariants as manner
 use Rattle.go_tree.specs.declared.context.Scope.{Scope}
 use Rattle.go_tree.specs.declared.event.Declaration.{Declaration}
@@ -22,7 +21,7 @@ use Rattle.go_tree.specs.Declarations.{Found, found, found_in, found_from, may_b
 use Rattle.go_tree.specs.Extents.{covers, extent_by}
 use Rattle.go_tree.specs.Imports.{imports_fmt}
 use Rattle.go_tree.specs.Meanings.{Meaning, Numbers, first_numbers, own_number, numbers_behind, numbered, imported_meaning, imported_from, meanings, covering, is_innermost, innermost_of, meaning_at}
-use Rattle.go_tree.specs.Objects.{known_object, predeclared_object, object_by, object_at, is_declared_at, own_object}
+use Rattle.go_tree.specs.Objects.{known_object, object_by, object_at, own_object}
 use Rattle.go_tree.specs.Predeclared.{known_names, known_in}
 use Rattle.go_tree.specs.Units as names
 use Rattle.go_tree.specs.Units.{is_blank, word}

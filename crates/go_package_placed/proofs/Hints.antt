@@ -15,9 +15,9 @@ use Rattle.go_types.specs.Trees.{TypeTree, array, slice, structure}
 use Rattle.go_types.specs.Relations.{Rights}
 use Rattle.go_types_relations.specs.Tests.{underlying_of}
 use Rattle.go_typed.specs.Trees.{sort_of}
-use Rattle.go_exprs_rules.specs.Scopes.{Scope, Hint, value, several, type_place, loose, inside, one_inside, loose_inside, callee, statement, target, declares, free, element, member, elided}
+use Rattle.go_exprs_rules.specs.Scopes.{Scope, Hint, value, several, type_place, loose, inside, loose_inside, statement, declares, free}
 use Rattle.go_exprs_rules.specs.Settling.{Part}
-use Rattle.go_exprs_rules.specs.Tables.{Parts, in_parentheses, as_type_place, element_in, element_told, told_type, is_make, argument_told, call_told, composite_told, keyed_told, skips_first, sequence_told, names_told, parameter_told, hint}
+use Rattle.go_exprs_rules.specs.Tables.{Parts, in_parentheses, as_type_place, element_in, element_told, told_type, is_make, argument_told, call_told, composite_told, skips_first, sequence_told, hint}
 use Rattle.go_exprs_rules.specs.TypeNodes.{part_type}
 use Rattle.go_stmts_final_types.specs.Names.{Standing, alone, called, selected, called_in, selected_in, standing_in}
 use Rattle.go_package_placed.proofs.Tidy.{is_simple, is_declared_name, is_name_list, may_stand}

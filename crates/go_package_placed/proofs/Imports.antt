@@ -13,11 +13,8 @@ use Rattle.go_tree.specs.declared.event.Event.TheVariants as event
 use Rattle.go_tree.specs.declared.event.Use.{Use}
 use Rattle.go_tree.specs.declared.object.Object.{Object}
 use Rattle.go_tree.specs.declared.object.Object.TheVariants as object
-use Rattle.go_tree.specs.Branches.{branches, limit}
-use Rattle.go_tree.specs.Constants.{hidden_lists}
 use Rattle.go_tree.specs.Declarations.{Found, declarations}
-use Rattle.go_tree.specs.Duplicates.{duplicates}
-use Rattle.go_tree.specs.Failures.{Failure, failing, place_if, is_earlier, earlier, least_from, least, or_else}
+use Rattle.go_tree.specs.Failures.{Failure, failing, place_if, is_earlier, least_from, least, or_else}
 use Rattle.go_tree.specs.Faults.{clause_faults, lookup_faults, unused_faults, placed_faults, cycle_faults, name_faults, reported}
 use Rattle.go_tree.specs.Lookups.{Asked, asked, asked_in, asked_from, object_asked, is_import, is_no_call, is_other_member, selected_of, undeclared, outside_names, outside_members, not_called, initialisers}
 use Rattle.go_tree.specs.Meanings.{Meaning, meanings, meaning_at}
@@ -26,7 +23,7 @@ use Rattle.go_tree.specs.Redeclared.{redeclared}
 use Rattle.go_tree.specs.Units as names
 use Rattle.go_tree.specs.Units.{Place, is_blank, word}
 use Rattle.go_scopes_events.specs.Sited.{EachUsed}
-use Rattle.go_package_placed.proofs.Found.{all_append, false_true, same_unit}
+use Rattle.go_package_placed.proofs.Found.{false_true, same_unit}
 
 -- ---- no fault is reported
 

@@ -1,6 +1,6 @@
 -- The names of an expression or a type outside of bodies stand as they may, by what the files of its package tell of their tokens.
-use Rattle.std.proofs.Common.{◌≡◌, ◌∙◌, ℕ, zero, suc, ◌+◌, ◌<◌, ◌≤◌, Bool, true, false, nat_eq, List, [], ◌∷◌, ◌++◌, Option, Some, None, refl, sym, ap, subst, arith}
-use Rattle.std.specs.Prelude.{if◌then◌else◌, slice_get}
+use Rattle.std.proofs.Common.{◌≡◌, ◌∙◌, ℕ, suc, ◌<◌, ◌≤◌, Bool, true, false, List, [], ◌∷◌, ◌++◌, Option, Some, None, refl, sym, ap, subst, arith}
+use Rattle.std.specs.Prelude.{if◌then◌else◌}
 use Rattle.std.proofs.lemmas.Bool.{eq-eqb}
 use Rattle.go_tokens.specs.Tokens.{TokenList}
 use Rattle.go_grammar.specs.declared.kind.Kind.{Kind}
@@ -19,12 +19,12 @@ use Rattle.go_tree.specs.declared.object.Object.TheVariants as object
 use Rattle.go_tree.specs.Contexts.{enter}
 use Rattle.go_tree.specs.Events.{statement_events, own_events, name_events, is_more, pass, begin, events, events_of}
 use Rattle.go_tree.specs.Meanings.{Meaning}
-use Rattle.go_tree.specs.Objects.{own_object, object_at, token_object}
+use Rattle.go_tree.specs.Objects.{own_object, object_at}
 use Rattle.go_tree.specs.Units.{word}
 use Rattle.go_scopes_events.specs.Orders.{EachDeclared}
 use Rattle.go_scopes_events.specs.Sited.{EachUsed}
 use Rattle.go_scopes_events.proofs.Public.{IsLaidOut, LieIn, behind_name, laid_grows, lie_order}
-use Rattle.go_exprs_rules.specs.Names.{object_form, declared_form}
+use Rattle.go_exprs_rules.specs.Names.{declared_form}
 use Rattle.go_exprs_rules.specs.Scopes.{Scope, Hint, declares, free}
 use Rattle.go_exprs_rules.specs.Tables.{Parts, hint, part_scope}
 use Rattle.go_exprs_rules.specs.Typing.{typing}

@@ -1,6 +1,6 @@
 -- The specifications of a file: their names are what the file declares in the package block, and the names in them stand as they may.
-use Rattle.std.proofs.Common.{◌≡◌, ◌∙◌, ℕ, zero, suc, ◌+◌, ◌<◌, ◌≤◌, Bool, true, false, nat_eq, List, [], ◌∷◌, ◌++◌, Option, Some, None, refl, sym, ap, subst, arith, append-nil}
-use Rattle.std.specs.Prelude.{if◌then◌else◌, nat_lt, nat_le, ◌&&◌, not}
+use Rattle.std.proofs.Common.{◌≡◌, ◌∙◌, ℕ, suc, ◌<◌, ◌≤◌, Bool, true, false, List, [], ◌∷◌, ◌++◌, Option, Some, None, refl, sym, ap, subst, arith, append-nil}
+use Rattle.std.specs.Prelude.{if◌then◌else◌, nat_lt, ◌&&◌}
 use Rattle.std.specs.List.{AllByRecursion}
 use Rattle.std.proofs.lemmas.Bool.{lt-ltb, lt-leb}
 use Rattle.go_tokens.specs.Tokens.{TokenList}
@@ -16,10 +16,9 @@ use Rattle.go_grammar.specs.declared.kind.Level.TheVariants as level
 use Rattle.go_grammar.specs.declared.kind.Place.TheVariants as place
 use Rattle.go_grammar.specs.Categories as categories
 use Rattle.go_grammar.specs.Categories.{is_sort}
-use Rattle.go_grammar.specs.Operators.{sort_word}
-use Rattle.go_grammar.specs.Rules.{Items, Again, Each, End, Lines, Many, Then, item}
+use Rattle.go_grammar.specs.Rules.{Items, Again, Each, Lines, Many, item}
 use Rattle.go_grammar.specs.Trees.{Tree, node, Trees, none, more, skip, kind_of, first, last, parts}
-use Rattle.go_grammar.specs.Grammar.{IsFile, rule, any, Derives, Spells, Goes, is_name, is_parameter, ends_named}
+use Rattle.go_grammar.specs.Grammar.{IsFile, rule, any, Derives, Spells, Goes, is_name, ends_named}
 use Rattle.go_tree.specs.Views.{part_at}
 use Rattle.go_tree.specs.declared.context.Block.TheVariants as block
 use Rattle.go_tree.specs.declared.context.Context.{Context}
@@ -30,16 +29,15 @@ use Rattle.go_tree.specs.declared.context.Role.{Role}
 use Rattle.go_tree.specs.declared.context.Role.TheVariants as role
 use Rattle.go_tree.specs.declared.event.Event.{Event}
 use Rattle.go_tree.specs.declared.object.Object.{Object}
-use Rattle.go_tree.specs.Contexts.{is_package, is_there, entity_of, specified, if_name, enter, file_context}
+use Rattle.go_tree.specs.Contexts.{is_package, is_there, specified, enter, file_context}
 use Rattle.go_tree.specs.Events.{own_events, name_events, function_events, is_more, pass, begin, events, events_of}
 use Rattle.go_tree.specs.Meanings.{Meaning}
 use Rattle.go_scopes_events.specs.Orders.{EachDeclared}
-use Rattle.go_scopes_events.proofs.Public.{IsLaidOut, LieIn, derives_laid, AreLayered, derives_layered, layer, Function, IsPlain, ArePlain, each_append, AreInner, spells_inner, function_rule, true_false, behind_name, lie_order}
-use Rattle.go_heads.specs.Heads.{body_of, is_within, in_bodies}
-use Rattle.go_heads.proofs.Public.{Sits, AllSit, OthersSit, file_sat}
+use Rattle.go_scopes_events.proofs.Public.{IsLaidOut, LieIn, derives_laid, AreLayered, derives_layered, Function, IsPlain, ArePlain, each_append, AreInner, spells_inner, function_rule, true_false, lie_order}
+use Rattle.go_heads.specs.Heads.{body_of, is_within}
+use Rattle.go_heads.proofs.Public.{Sits, AllSit, OthersSit}
 use Rattle.go_exprs_rules.specs.Scopes.{Scope, Hint, type_place, free}
-use Rattle.go_stmts_defs.specs.Reading.{part_source}
-use Rattle.go_package_defs.specs.Declarations.{Specification, trees_of, first_tokens, name_tokens, listed_values, type_behind, values_behind, first_part, specification_of, source_behind, grouped, declared, function, declaration, declarations, in_file}
+use Rattle.go_package_defs.specs.Declarations.{Specification, trees_of, first_tokens, name_tokens, listed_values, type_behind, values_behind, specification_of, source_behind, grouped, declared, function, declaration, declarations, in_file}
 use Rattle.go_package_defs.specs.Verdicts.{type_hint}
 use Rattle.go_stmts_final_types.specs.Names.{alone}
 use Rattle.go_stmts_final_types.specs.Placed.{ExpressionIsPlaced}
@@ -276,10 +274,11 @@ module _ (kts : List TokenKind) where
     values_rest c i j (more l none) h w =
         let all : Trees = more l none in
         let f : Context = begin c kind.Values in
+        let a = parts_told ms n ts o p count c kind.Values i j all refl (omega arith) w.told in
         record {
           of = λ s e. tt;
           values = λ s g told e.
-              list_placed (enter f kind.Values i j all (ends_named all) 0 l false) l none h.1 refl (lies_first f kind.Values i j all 0 l none i w.laid.1 (parts_told ms n ts o p count c kind.Values i j all refl (omega arith) w.told)) s g told e;
+              list_placed (enter f kind.Values i j all (ends_named all) 0 l false) l none h.1 refl (lies_first f kind.Values i j all 0 l none i w.laid.1 a) s g told e;
         }
 
     typed_rest : (c : Context) (i j : ℕ) (ps : Trees) → Spells kts (rule place.Free kind.TypedValues) i ps j → Lies c (node kind.TypedValues i j ps) → Rest (Some (node kind.TypedValues i j ps))

@@ -6,13 +6,11 @@ use Rattle.std.specs.Option.{option_map}
 use Rattle.std.proofs.lemmas.Bool.{eq-eqb, eqb-true}
 use Rattle.std.proofs.lemmas.List.{length-map}
 use Rattle.std.proofs.lemmas.Option.{slice_get-map}
-use Rattle.go_tokens.specs.Tokens.{TokenList, kinds}
-use Rattle.go_tokens.specs.declared.token.TokenKind.{TokenKind}
+use Rattle.go_tokens.specs.Tokens.{kinds}
 use Rattle.go_grammar.specs.Grammar.{IsFile}
-use Rattle.go_grammar.specs.Trees.{Tree, first, last, parts}
+use Rattle.go_grammar.specs.Trees.{first, last, parts}
 use Rattle.go_tree.specs.declared.context.Entity.{Entity}
 use Rattle.go_tree.specs.declared.context.Entity.TheVariants as entity
-use Rattle.go_tree.specs.declared.event.Declaration.{Declaration}
 use Rattle.go_tree.specs.declared.event.Event.{Event}
 use Rattle.go_tree.specs.declared.event.Event.TheVariants as event
 use Rattle.go_tree.specs.declared.object.Declared.{Declared}
@@ -23,18 +21,17 @@ use Rattle.go_tree.specs.Declarations.{Found, declarations}
 use Rattle.go_tree.specs.Meanings.{Meaning, meanings}
 use Rattle.go_tree.specs.Objects.{objects_from}
 use Rattle.go_tree.specs.Units as names
-use Rattle.go_tree.specs.Uses.{IsComplete, declared_by, declared_in_package, object_in, object_of, uses}
+use Rattle.go_tree.specs.Uses.{declared_by, declared_in_package, object_in, object_of, uses}
 use Rattle.go_scopes_events.specs.Orders.{AreInOrder, EachDeclared}
 use Rattle.go_scopes_events.specs.Scopes.{AreOrderly}
 use Rattle.go_heads.specs.Heads.{in_bodies}
 use Rattle.go_heads.proofs.Public.{file_sat, locals_bodily}
-use Rattle.go_typed.specs.declared.form.Referent.{Referent}
 use Rattle.go_typed.specs.declared.form.Referent.TheVariants as referent
-use Rattle.go_typed.specs.Packages.{Counts, no_counts, referent_of, counted, referents_from, referents}
-use Rattle.go_exprs_rules.specs.Scopes.{Hint, value, several}
+use Rattle.go_typed.specs.Packages.{Counts, no_counts, referent_of, counted, referents_from}
+use Rattle.go_exprs_rules.specs.Scopes.{value, several}
 use Rattle.go_package_defs.specs.Answer.{specifications}
 use Rattle.go_package_defs.specs.Declarations.{Specification, in_file, is_alone}
-use Rattle.go_package_defs.specs.Knowledge.{Outline, State, following, place_of, column_of, found_or, declaring, outline_by, outlines, free_scope, referent_there, referent_at}
+use Rattle.go_package_defs.specs.Knowledge.{Outline, State, following, place_of, column_of, found_or, declaring, outline_by, outlines, free_scope, referent_there}
 use Rattle.go_package_defs.specs.Sources.{Source, Package, package_of, unit_of}
 use Rattle.go_package_settled.specs.Read.{IsFaultless}
 use Rattle.go_package_settled.specs.Resolved.{AreResolved}
@@ -439,11 +436,13 @@ module _ (ss : List Source) (faultless : IsFaultless ss) (done : AreResolved (ma
       let f = file_there n d e in
       let s : Source = f.0 in
       let r = specifies d.file s f.1 in
-      let among : IsAmong d.name d.entity (shared (unit_of s).events) = all_at (λ (y : Declared). y.file ≡ d.file → IsAmong y.name y.entity (shared (unit_of s).events)) p.uses.package_level n d (level_among d.file s f.1) e refl in
-      let any : AnyIn d.file d.name specs = any_at 0 ss d.file s d.file d.name (omega arith) f.1 (any_named d.file d.name d.entity (in_file d.file s.tree) r.files (subst (IsAmong d.name d.entity) r.names among)) in
+      let Q : Declared → Type 0 = λ y. y.file ≡ d.file → IsAmong y.name y.entity (shared (unit_of s).events) in
+      let among : IsAmong d.name d.entity (shared (unit_of s).events) = all_at Q p.uses.package_level n d (level_among d.file s f.1) e refl in
+      let own : AnyIn d.file d.name (in_file d.file s.tree) = any_named d.file d.name d.entity (in_file d.file s.tree) r.files (subst (IsAmong d.name d.entity) r.names among) in
+      let any : AnyIn d.file d.name specs = any_at 0 ss d.file s d.file d.name (omega arith) f.1 own in
       let one = declares Told specs d.file d.name all_told any in
-      let same : one.specification.entity ≡ d.entity =
-      among_once 0 (order d.file s f.1).0 d.name one.specification.entity d.entity (unit_of s).events (order d.file s f.1).1 (one.holds.1 d.file s f.1 one.file d.name (place_listed d.name one.specification.names one.column one.place)) among in
+      let held : IsAmong d.name one.specification.entity (shared (unit_of s).events) = one.holds.1 d.file s f.1 one.file d.name (place_listed d.name one.specification.names one.column one.place) in
+      let same : one.specification.entity ≡ d.entity = among_once 0 (order d.file s f.1).0 d.name one.specification.entity d.entity (unit_of s).events (order d.file s f.1).1 held among in
       record {
         column = subst (λ q. q.1 < length q.0.names) (sym one.is) (place_below d.name one.specification.names one.column one.place);
         sort = ap (λ q. q.0.entity) one.is ∙ same;

@@ -6,7 +6,7 @@ use Rattle.go_tokens.specs.Tokens.{TokenList}
 use Rattle.go_grammar.specs.declared.kind.Kind.{Kind}
 use Rattle.go_grammar.specs.declared.kind.Kind.TheVariants as kind
 use Rattle.go_grammar.specs.declared.kind.Sort.TheVariants as sort
-use Rattle.go_grammar.specs.Trees.{Tree, node, Trees, none, more, skip, first, last}
+use Rattle.go_grammar.specs.Trees.{Tree, node, Trees, more, first, last}
 use Rattle.go_grammar.specs.Grammar.{ends_named}
 use Rattle.go_tree.specs.Views.{part_at}
 use Rattle.go_tree.specs.declared.context.Role.{Role}
@@ -23,7 +23,7 @@ use Rattle.go_tree.specs.Meanings.{Meaning}
 use Rattle.go_tree.specs.Objects.{own_object, object_at, token_object}
 use Rattle.go_tree.specs.Units.{word}
 use Rattle.go_scopes_events.specs.Orders.{AreInOrder}
-use Rattle.go_scopes_events.proofs.Public.{IsLaidOut, LieIn, behind_name, events_order, laid_grows, lie_order, parts_order}
+use Rattle.go_scopes_events.proofs.Public.{LieIn, behind_name, events_order, laid_grows, lie_order, parts_order}
 use Rattle.go_package_placed.proofs.Tidy.{is_simple}
 
 -- ---- order

@@ -1,4 +1,3 @@
-use Rattle.std.proofs.Common.{◌≡◌, List, map, Ok, length}
 use Rattle.go_package_placed.proofs.laws.objects_of_checked_packages_are_good.Goals as goal
 
 pub returns : goal.returns
