@@ -8,3 +8,4 @@ mod Placing
 mod Shared
 mod Specified
 mod Standing
+pub mod Public
