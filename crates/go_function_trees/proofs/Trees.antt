@@ -138,7 +138,7 @@ module _ (numbered : AreNumbered) (stand : SubtreesStand) (shaped : AreShaped) (
         let begins : first t ≡ d.first = where_is.begins in
         let tree : f.tree ≡ mapped (renamed name) (old.it).tree = ap (λ (x : FuncContent). x.tree) old.is in
         let tokens : f.tokens ≡ (old.it).tokens = ap (λ (x : FuncContent). x.tokens) old.is in
-        let w = shaped (kinds where_is.file.tokens.tokens) categories.Declaration (first t) t (declaration-derives stand root t is-declared name) in
+        let w = shaped is-declared.tokens categories.Declaration (first t) t (declaration-derives stand root t is-declared name) in
         let faultless = subst (λ q. Faultless (found_in (reading it.frame it.hint q))) based-same it.faultless in
         let lists = reading-lists categories.Declaration it.frame it.hint (based (first t) t) w faultless in
         let whole : (old.it).tree ≡ tree_in (reading it.frame it.hint (based (first t) t)) = it.read ∙ ap (λ q. tree_in (reading it.frame it.hint q)) based-same in

@@ -66,6 +66,12 @@ has-from k n ps = (let e : k ≡ k + 0 = omega arith in ap (λ m. has_run m n ps
 range-from : (k n : ℕ) (ps : Trees) → run_range k n ps ≡ run_range 0 n (parts_behind k ps)
 range-from k n ps = (let e : k ≡ k + 0 = omega arith in ap (λ m. run_range m n ps) e) ∙ range-behind k 0 n ps
 
+-- a run that begins with the first of them
+record FirstRun (b : ℕ) (qs : Trees) (r : Range) : Type 0 where
+  others : ℕ
+  has : has_run 0 others qs ≡ true
+  place : run_range 0 others qs ≡ range (b + r.from) (b + r.to)
+
 module _ {T : Type 0} (b : ℕ) where
   over-behind : (k : ℕ) (qs : Trees) (xs : List (Typed T)) → StandOver b qs xs → StandOver b (parts_behind k qs) (drop k xs)
   over-behind zero qs xs h = h
@@ -92,13 +98,7 @@ module _ {T : Type 0} (b : ℕ) where
   items-last (suc n) p (more q qs) x (y ∷ ys) e h = items-last n q qs y ys h.1 h.2
   items-last (suc n) p (skip qs) x ys e h = absurd h
 
-  -- a run that begins with the first of them
-  record FirstRun (qs : Trees) (r : Range) : Type 0 where
-    others : ℕ
-    has : has_run 0 others qs ≡ true
-    place : run_range 0 others qs ≡ range (b + r.from) (b + r.to)
-
-  first-run : (n : ℕ) (qs : Trees) (xs : List (Typed T)) (r : Range) → StandOver b qs xs → range_over (row_of (take n xs)) ≡ Some r → FirstRun qs r
+  first-run : (n : ℕ) (qs : Trees) (xs : List (Typed T)) (r : Range) → StandOver b qs xs → range_over (row_of (take n xs)) ≡ Some r → FirstRun b qs r
   first-run zero qs xs r h e = none-some r e
   first-run (suc n) qs [] r h e = none-some r e
   first-run (suc n) none (x ∷ xs) r h e = absurd h
