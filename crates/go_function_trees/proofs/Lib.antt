@@ -1,0 +1,13 @@
+mod Listed
+mod Expressions
+mod Held
+mod Bare
+mod Stood
+mod Read
+mod Own
+mod Based
+mod Standing
+mod Functions
+mod Files
+mod Trees
+mod Windows
