@@ -8,3 +8,16 @@ mod BranchTrees
 mod Branches
 mod Led
 mod Standing
+mod Laid
+mod Ranges
+mod LaidTypings
+mod Roomed
+mod LaidReadings
+mod LaidBodies
+mod Categories
+mod Descended
+mod ToldNames
+mod OwnFunctions
+mod LaidFunctions
+mod Joined
+mod LaidRooms

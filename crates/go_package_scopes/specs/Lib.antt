@@ -1,2 +1,4 @@
 pub mod Functions
 pub mod Standing
+pub mod Laid
+pub mod Own
