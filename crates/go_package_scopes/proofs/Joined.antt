@@ -109,7 +109,7 @@ module _ (ls : Locals) (rights : Rights) (u : UsesView) (n b f : ℕ) where
       closed_both h (AllLaid (Begins u n b) (room_in r h i j ps) i j ps) (AllNamesAreOwn ls rights u f b ps) (AllNamesStand ls rights (extents_of u f b) (room_in r h i j ps) i j ps) (λ x y. all_stand (room_in r h i j ps) i j ps x s.1 o.1 y) d.4 w.2,
     )
 
-    all_stand : (r : Scope) (a z : ℕ) (ps : Typeds TypeTree) → AllLaid (Begins u n b) r a z ps → EachNames Scoped ps → EachNames MeansOwn ps → AllNamesAreOwn ls rights u f b ps → AllNamesStand ls rights (extents_of u f b) r a z ps
+    pub all_stand : (r : Scope) (a z : ℕ) (ps : Typeds TypeTree) → AllLaid (Begins u n b) r a z ps → EachNames Scoped ps → EachNames MeansOwn ps → AllNamesAreOwn ls rights u f b ps → AllNamesStand ls rights (extents_of u f b) r a z ps
     all_stand r a z trees.none d s o w = d
     all_stand r a z (trees.more p ps) d s o w = (stands r a z p d.0 s.0 o.0 w.0, all_stand r (last_of p) z ps d.1 s.1 o.1 w.1)
     all_stand r a z (trees.skip ps) d s o w = all_stand r a z ps d s o w

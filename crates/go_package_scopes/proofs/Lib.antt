@@ -21,3 +21,5 @@ mod OwnFunctions
 mod LaidFunctions
 mod Joined
 mod LaidRooms
+mod Runs
+mod Examples

@@ -3,9 +3,11 @@
 ghost use Rattle.go_typed.specs.Contents.{content};
 ghost use Rattle.go_typed.specs.Packages.{PackageView};
 ghost use Rattle.go_package_defs.specs.Checked.{IsCheckedPackage};
+ghost use Rattle.go_package_scopes.specs.Examples.{Examples};
 ghost use Rattle.go_package_scopes.specs.Functions.{HaveBranches, HaveNamesInScope, HaveShape};
 ghost use Rattle.go_package_scopes.specs.Laid.{HaveOrder, HaveRooms};
 ghost use Rattle.go_package_scopes.specs.Own.{AreLexicalByTokens};
+ghost use Rattle.go_package_scopes.specs.Runs.{HaveLexicalRuns};
 ghost use Rattle.go_package_scopes.specs.Standing.{AreLexicalByNames};
 
 use go_package_settled::laws::faultless_packages_are_resolved;
@@ -80,3 +82,19 @@ pub fn functions_of_checked_packages_are_scoped_by_tokens()
     declared_names_of_checked_packages_have_room();
     functions_of_checked_packages_are_scoped_by_names();
 }
+
+/// Each run of statements in a statement list of a typed function of a package that type-checks is lexically scoped, from the locals on that are in
+/// scope in front of it, where each variable is used behind its declaration, each name that is declared is new, what is written is a place, no
+/// branch leads out, and each variable that is in scope at one of its tokens is one of these locals or is declared in it (Go specification:
+/// Blocks, Declarations and scope). Nothing is asked of the order of its tokens, nor of where what it declares is in scope.
+pub fn runs_of_checked_packages_are_scoped_by_tokens()
+    ensures { (p : PackageView) → IsCheckedPackage p → HaveLexicalRuns (content p).uses (content p).functions }
+{
+    covered_functions_are_scoped();
+    declared_names_of_checked_packages_have_room();
+}
+
+/// A function and a window whose names are their own, and a function that names a local which the package doesn't declare, worked out by hand.
+pub fn examples()
+    ensures { Examples }
+{}
