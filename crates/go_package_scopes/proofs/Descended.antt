@@ -175,7 +175,8 @@ module _ (P : Declaration → Type 0) (b : ℕ) where
   -- a part that is no statement, all of whose tokens have the property
   still_roomed : (r : Extent) (t : Tree) → is_plain (kind_of t) ≡ true → ((n : ℕ) → first t - b ≤ n → n < last t - b → D r n) → Roomed D r (based b t)
   still_roomed r (node k i j ps) x q =
-      subst (λ z. Choice z (Choice (is_silent k) (Unit {0}) (Choice (is_loop k) (LoopRoomed D (block (i - b) (j - b)) (all_based b ps)) (AllRoomed D (room_at r k (i - b) (j - b)) (all_based b ps)))) ((n : ℕ) → i - b ≤ n → n < j - b → D r n))
+      subst (λ z. Choice z (Choice (is_silent k) (Unit {0}) (Choice (is_loop k) (LoopRoomed D (block (i - b) (j - b)) (all_based b ps)) (AllRoomed D (room_at r k (i - b) (j - b)) (all_based b ps))))
+      ((n : ℕ) → i - b ≤ n → n < j - b → D r n))
       (sym (plain_still k x)) q
 
   still_inside : (t : Tree) → is_plain (kind_of t) ≡ true → is_apart (kind_of (based b t)) ≡ false
@@ -438,7 +439,8 @@ module _ (P : Declaration → Type 0) (b : ℕ) where
       loop_roomed i j (more x (skip ps)) g t s f u h = absurd g.2
       loop_roomed i j (more x (more y (more z ps))) g t s f u h = absurd g.2.2
       loop_roomed i j (more x (more y (skip ps))) g t s f u h = absurd g.2.2
-      loop_roomed i j (skip (more y none)) g t s f u h = (block_is y g.2.1, roomed j (block (i - b) (j - b)) category.Block y g.2.1 s.0 f.0 (omega (arith, u, t.0)) (body_end i j y u t) (in_first j i j y none t s f h) (known_inside y (category.Block, refl, g.2.1)))
+      loop_roomed i j (skip (more y none)) g t s f u h =
+          (block_is y g.2.1, roomed j (block (i - b) (j - b)) category.Block y g.2.1 s.0 f.0 (omega (arith, u, t.0)) (body_end i j y u t) (in_first j i j y none t s f h) (known_inside y (category.Block, refl, g.2.1)))
       loop_roomed i j (more x (more y none)) g t s f u h =
           let w : b ≤ last x = omega (arith, u, t.0, t.1) in
           let v : j - b + b ≡ j = body_end (last x) j y w t.2 in (

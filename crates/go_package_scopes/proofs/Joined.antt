@@ -106,7 +106,8 @@ module _ (ls : Locals) (rights : Rights) (u : UsesView) (n b f : ℕ) where
       d.2,
       name_stands r (is_given l.sort) h i d.3 s.0 o.0 w.0,
       w.1,
-      closed_both h (AllLaid (Begins u n b) (room_in r h i j ps) i j ps) (AllNamesAreOwn ls rights u f b ps) (AllNamesStand ls rights (extents_of u f b) (room_in r h i j ps) i j ps) (λ x y. all_stand (room_in r h i j ps) i j ps x s.1 o.1 y) d.4 w.2,
+      closed_both h (AllLaid (Begins u n b) (room_in r h i j ps) i j ps) (AllNamesAreOwn ls rights u f b ps) (AllNamesStand ls rights (extents_of u f b) (room_in r h i j ps) i j ps)
+          (λ x y. all_stand (room_in r h i j ps) i j ps x s.1 o.1 y) d.4 w.2,
     )
 
     pub all_stand : (r : Scope) (a z : ℕ) (ps : Typeds TypeTree) → AllLaid (Begins u n b) r a z ps → EachNames Scoped ps → EachNames MeansOwn ps → AllNamesAreOwn ls rights u f b ps → AllNamesStand ls rights (extents_of u f b) r a z ps

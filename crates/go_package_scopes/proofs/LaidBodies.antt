@@ -37,7 +37,8 @@ use Rattle.go_package_scopes.proofs.Laid.{exact, unless_there, EachLaid, each_wi
 use Rattle.go_package_scopes.proofs.LaidTypings.{Quiet, typing_laid}
 use Rattle.go_package_scopes.proofs.LaidReadings.{faults_in, frame_in, parts_in, after_read, behind_given, form_room, form_names, is_told, layout_laid, inner_laid, loop_header_laid, holding_laid, all_given_laid}
 use Rattle.go_package_scopes.proofs.Ranges.{Set, AllSet}
-use Rattle.go_package_scopes.proofs.Roomed.{is_ranging, is_apart, is_silent, is_loop, is_clause, behind, block, room_at, Choice, chosen_true, chosen_false, EndsInOperand, Roomed, AllRoomed, LoopRoomed, HeaderRoomed, each_lower, any_block, behind_first_parts}
+use Rattle.go_package_scopes.proofs.Roomed.{is_ranging, is_apart, is_silent, is_loop, is_clause, behind, block, room_at, Choice}
+use Rattle.go_package_scopes.proofs.Roomed.{chosen_true, chosen_false, EndsInOperand, Roomed, AllRoomed, LoopRoomed, HeaderRoomed, each_lower, any_block, behind_first_parts}
 
 -- what holds of both
 pub one_reading : (P : Reading → Type 0) (b : Bool) (x y : Reading) → (b ≡ true → P x) → (b ≡ false → P y) → P (if b then x else y)
@@ -295,7 +296,8 @@ module _ (D : Extent → ℕ → Type 0) (mono : (r s : Extent) (n : ℕ) → s.
       let room : Extent = record { from = e; to = j } in
       append_laid D room i e j (list_of ps) (Some b ∷ []) (inner_laid D room i e k a e l ps h) (one_laid D room e j b (any_block D (block i j) room e j b f g))
 
-  range_behind : (n i j a e : ℕ) (k : Kind) (l : Label TypeTree) (ps : Typeds TypeTree) (b : Part) → n < length (list_of ps) → Laid D (record { from = e; to = j }) i e (typed (form.Held k) a e l ps) → behind_part n (row (list_of ps ++ Some b ∷ [])) ≤ e
+  range_behind : (n i j a e : ℕ) (k : Kind) (l : Label TypeTree) (ps : Typeds TypeTree) (b : Part) → n < length (list_of ps) → Laid D (record { from = e; to = j }) i e (typed (form.Held k) a e l ps)
+      → behind_part n (row (list_of ps ++ Some b ∷ [])) ≤ e
   range_behind n i j a e k l ps b u h = let room : Extent = record { from = e; to = j } in behind_first_parts D room i e n (list_of ps) (Some b ∷ []) u (inner_laid D room i e k a e l ps h)
 
   less_one : (n : ℕ) → 0 < n → n - 1 < n
@@ -306,7 +308,8 @@ module _ (D : Extent → ℕ → Type 0) (mono : (r s : Extent) (n : ℕ) → s.
   ranging_built r s i j (typed (form.Held kind.Range) a e l ps) b own u c h n f g =
       range_built r s false 0 i j e (list_of ps ++ Some b ∷ []) own u (range_row i j a e kind.Range l ps b h f g) (range_behind 0 i j a e kind.Range l ps b n h)
   ranging_built r s i j (typed (form.Held kind.AssigningRange) a e l ps) b own u c h n f g =
-      range_built r s false (target_count ps) i j e (list_of ps ++ Some b ∷ []) own u (range_row i j a e kind.AssigningRange l ps b h f g) (range_behind (target_count ps) i j a e kind.AssigningRange l ps b (less_one (length (list_of ps)) n) h)
+      range_built r s false (target_count ps) i j e (list_of ps ++ Some b ∷ []) own u (range_row i j a e kind.AssigningRange l ps b h f g)
+      (range_behind (target_count ps) i j a e kind.AssigningRange l ps b (less_one (length (list_of ps)) n) h)
   ranging_built r s i j (typed (form.Held kind.DefiningRange) a e l ps) b own u c h n f g =
       range_built r s true (target_count ps) i j e (list_of ps ++ Some b ∷ []) own u (range_row i j a e kind.DefiningRange l ps b h f g) (range_behind (target_count ps) i j a e kind.DefiningRange l ps b (less_one (length (list_of ps)) n) h)
   ranging_built r s i j x b own u c h n f g = absurd (let z : false ≡ true = c in cc)
@@ -350,7 +353,8 @@ module _ (D : Extent → ℕ → Type 0) (mono : (r s : Extent) (n : ℕ) → s.
   header_wider r a c x u (inl h) = inl (h.0, wider D (behind (last_of x) r) a (last_of x) c (last_of x) x u (omega arith) h.1, h.2)
   header_wider r a c x u (inr h) = inr (h.0, wider D r a (last_of x) c (last_of x) x u (omega arith) h.1)
 
-  range_header : (r : Extent) (s : Frame) (k : Kind) (i j : ℕ) (ys : Parts) (own : List TypeFault) → is_ranging k ≡ true → Laid D (behind j r) i j (built_by s k (form.Held k) i j ys own) → 0 < length ys → HeaderLaid r i (built_by s k (form.Held k) i j ys own)
+  range_header : (r : Extent) (s : Frame) (k : Kind) (i j : ℕ) (ys : Parts) (own : List TypeFault) → is_ranging k ≡ true → Laid D (behind j r) i j (built_by s k (form.Held k) i j ys own) → 0 < length ys
+      → HeaderLaid r i (built_by s k (form.Held k) i j ys own)
   range_header r s k i j ys [] e h u =
       let zs : Parts = all_given (taking s k (form.Held k) ys) ys in
       inl (e, h, subst (λ n. 0 < n) (sym (ap (λ (ws : Parts). length ws) (list_row zs) ∙ length_given (taking s k (form.Held k) ys) ys)) u)
@@ -364,10 +368,13 @@ module _ (D : Extent → ℕ → Type 0) (mono : (r s : Extent) (n : ℕ) → s.
   abbrev HeaderRead : Extent → (i j : ℕ) → Part → Type 0
   HeaderRead r i j x = HeaderLaid r i x × (last_of x ≤ j)
 
-  closed_range : (r : Extent) (s : Frame) (k : Kind) (i j : ℕ) (ps : Trees) (rs : Readings) → is_ranging k ≡ true → i < j → EachLaid D (behind j r) i j (parts_in rs) → EndsUnheld (parts_in rs) → HeaderRead r i j (tree_in (closed s k i j ps rs))
+  closed_range : (r : Extent) (s : Frame) (k : Kind) (i j : ℕ) (ps : Trees) (rs : Readings) → is_ranging k ≡ true → i < j → EachLaid D (behind j r) i j (parts_in rs) → EndsUnheld (parts_in rs)
+      → HeaderRead r i j (tree_in (closed s k i j ps rs))
   closed_range r s kind.Range i j ps (all_read xs fs t) e u h w =
-      let own : List TypeFault = own_faults t kind.Range (form.Held kind.Range) i j (layout t kind.Range i xs) in
-      (range_header r t kind.Range i j (layout t kind.Range i xs) own refl (built_node (behind j r) t kind.Range i j xs own refl refl u h) (some_laid t kind.Range i xs refl w), range_ends t kind.Range (form.Held kind.Range) i j (layout t kind.Range i xs) own)
+      let own : List TypeFault = own_faults t kind.Range (form.Held kind.Range) i j (layout t kind.Range i xs) in (
+        range_header r t kind.Range i j (layout t kind.Range i xs) own refl (built_node (behind j r) t kind.Range i j xs own refl refl u h) (some_laid t kind.Range i xs refl w),
+        range_ends t kind.Range (form.Held kind.Range) i j (layout t kind.Range i xs) own,
+      )
   closed_range r s kind.AssigningRange i j ps (all_read xs fs t) e u h w =
       let own : List TypeFault = own_faults t kind.AssigningRange (form.Held kind.AssigningRange) i j (layout t kind.AssigningRange i xs) in (
         range_header r t kind.AssigningRange i j (layout t kind.AssigningRange i xs) own refl (built_node (behind j r) t kind.AssigningRange i j xs own refl refl u h) (some_laid t kind.AssigningRange i xs refl w),
@@ -425,7 +432,8 @@ module _ (D : Extent → ℕ → Type 0) (mono : (r s : Extent) (n : ℕ) → s.
       subst (λ z. EndsUnheld (parts_in z)) (sym (after_read r (λ x gs t. readings t k h all (xs ++ Some x ∷ []) (fs ++ gs) syntax.none))) (ends_append xs (tree_in r) (operand_unheld (entering k xs s) (told k h all xs l) l i j qs e))
   readings_end s k h all xs fs (syntax.more p (syntax.more q ps)) e =
       let r : Reading = reading (entering k xs s) (told k h all xs (kind_of p)) p in
-      subst (λ z. EndsUnheld (parts_in z)) (sym (after_read r (λ x gs t. readings t k h all (xs ++ Some x ∷ []) (fs ++ gs) (syntax.more q ps)))) (readings_end (frame_in r) k h all (xs ++ Some (tree_in r) ∷ []) (fs ++ faults_in r) (syntax.more q ps) e)
+      subst (λ z. EndsUnheld (parts_in z)) (sym (after_read r (λ x gs t. readings t k h all (xs ++ Some x ∷ []) (fs ++ gs) (syntax.more q ps))))
+      (readings_end (frame_in r) k h all (xs ++ Some (tree_in r) ∷ []) (fs ++ faults_in r) (syntax.more q ps) e)
   readings_end s k h all xs fs (syntax.more p (syntax.skip ps)) e = absurd e
 
   block_built : (s : Frame) (i j : ℕ) (ys : Parts) (own : List TypeFault) → form_of (built_by s kind.Block form.Block i j ys own) ≡ form.Block

@@ -257,7 +257,8 @@ module _ (D : Extent → ℕ → Type 0) where
         let u : i ≤ i = omega arith in
         let ys : Parts = layout s k i (holdings s k h ps [] ps) in
         choose (Laid D r i j) (is_list k) (list_node s k i j ys) (if is_declared_name k then name_node s i j else typing (scope_of s) h (node k i j ps))
-        (λ e. node_laid D r (form.Held k) i j (label (form.Held k) trees.Nothing ys) (row ys) g.0 (q i u g.0) (row_laid D r i j ys (layout_laid r s k i i j (holdings s k h ps [] ps) (list_told k e) (holdings_laid r s k h ps [] ps i i j u g.1 g.2 q))))
+        (λ e. node_laid D r (form.Held k) i j (label (form.Held k) trees.Nothing ys) (row ys) g.0 (q i u g.0)
+        (row_laid D r i j ys (layout_laid r s k i i j (holdings s k h ps [] ps) (list_told k e) (holdings_laid r s k h ps [] ps i i j u g.1 g.2 q))))
         (choose (Laid D r i j) (is_declared_name k) (name_node s i j) (typing (scope_of s) h (node k i j ps)) (λ e. name_laid r s i j g.0 (q i u g.0)) (typing_laid D r (scope_of s) h (node k i j ps) g q))
 
     holdings_laid : (r : Extent) (s : Frame) (k : Kind) (h : Hint) (all : Trees) (xs : Parts) (ps : Trees) (a m j : ℕ) → EachLaid D r a m xs → Tiles m j ps → AllSet ps → Quiet D r m j

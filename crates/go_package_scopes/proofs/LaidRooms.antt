@@ -280,7 +280,8 @@ mutual
   first_each_all P Q (nodes.more p ps) h = let a = first_each P Q p h.0 in let b = first_each_all P Q ps h.1 in ((a.0, b.0), (a.1, b.1))
   first_each_all P Q (nodes.skip ps) h = first_each_all P Q ps h
 
-module _ (m : NamesAreMeant) (law : ScopesStand) (told : FunctionsTold) (ss : List Source) (trees : AllByRecursion (λ s. IsFile (kinds s.tokens.tokens) s.tree) ss) (orderly : AreOrderly (map unit_of ss)) (c : IsComplete (uses (map unit_of ss))) where
+module _ (m : NamesAreMeant) (law : ScopesStand) (told : FunctionsTold) (ss : List Source) (trees : AllByRecursion (λ s. IsFile (kinds s.tokens.tokens) s.tree) ss)
+    (orderly : AreOrderly (map unit_of ss)) (c : IsComplete (uses (map unit_of ss))) where
   abbrev Uu : UsesView
   Uu = uses (map unit_of ss)
 
@@ -318,7 +319,8 @@ module _ (m : NamesAreMeant) (law : ScopesStand) (told : FunctionsTold) (ss : Li
           own = subst (EachName P) r.is both.0;
           names = subst (EachName Q) r.is both.1;
           laid = subst (IsLaid (Begins Uu d.file d.first)) r.is
-              (is_laid_map (Suits (IsToldIn (map unit_of ss) d.file) d.first) (Begins Uu d.file d.first) (begins_so (map unit_of ss) c d.file d.first) (tree_in (reading s free t)) (read_laid (IsToldIn (map unit_of ss)) (IsPartOf ss) d g s free));
+              (is_laid_map (Suits (IsToldIn (map unit_of ss) d.file) d.first) (Begins Uu d.file d.first) (begins_so (map unit_of ss) c d.file d.first)
+              (tree_in (reading s free t)) (read_laid (IsToldIn (map unit_of ss)) (IsPartOf ss) d g s free));
         },
   )
 

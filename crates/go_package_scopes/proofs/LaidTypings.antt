@@ -19,7 +19,8 @@ use Rattle.go_exprs_rules.specs.Names.{object_form, declared_form, form_or_type,
 use Rattle.go_exprs_rules.specs.Scopes.{Scope, Hint, member, declares, free}
 use Rattle.go_exprs_rules.specs.Settling.{Part, Take}
 use Rattle.go_exprs_rules.specs.Sorts.{Stands}
-use Rattle.go_exprs_rules.specs.Tables.{Parts, is_make, hint, part_scope, held, cut, first_cut, call_parts, has_no_low, bounds_of, bracketed_parts, is_package, selector_parts, layout, callee_form, key_form, selector_form, bracketed_form, on_first, form_by, takes, all_given, own_faults, is_sound, built_by, label, sort_by}
+use Rattle.go_exprs_rules.specs.Tables.{Parts, is_make, hint, part_scope, held, cut, first_cut, call_parts, has_no_low, bounds_of, bracketed_parts, is_package, selector_parts}
+use Rattle.go_exprs_rules.specs.Tables.{layout, callee_form, key_form, selector_form, bracketed_form, on_first, form_by, takes, all_given, own_faults, is_sound, built_by, label, sort_by}
 use Rattle.go_exprs_rules.specs.Typing.{typing, typings}
 use Rattle.go_stmts_scopes.specs.Standing.{room_in}
 use Rattle.go_package_scopes.specs.Laid.{is_shut, NameHasRoom, Laid, AllLaid}

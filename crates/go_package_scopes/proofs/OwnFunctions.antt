@@ -47,7 +47,8 @@ among_there : (xs : List Declared) (n : ℕ) (g : Declared) → slice_get (funct
 among_there [] n g e = absurd (let z : None ≡ Some g = e in cc)
 among_there (x ∷ xs) n g e = by (λ m w. among_there xs m g w) (is_function x.entity) refl n e
   where
-    by : ((k : ℕ) → slice_get (functions_among xs) k ≡ Some g → (m : ℕ) × (slice_get xs m ≡ Some g) × (is_function g.entity ≡ true)) → (b : Bool) → is_function x.entity ≡ b → (n : ℕ) → slice_get (if b then x ∷ functions_among xs else functions_among xs) n ≡ Some g → (m : ℕ) × (slice_get (x ∷ xs) m ≡ Some g) × (is_function g.entity ≡ true)
+    by : ((k : ℕ) → slice_get (functions_among xs) k ≡ Some g → (m : ℕ) × (slice_get xs m ≡ Some g) × (is_function g.entity ≡ true)) → (b : Bool) → is_function x.entity ≡ b → (n : ℕ)
+        → slice_get (if b then x ∷ functions_among xs else functions_among xs) n ≡ Some g → (m : ℕ) × (slice_get (x ∷ xs) m ≡ Some g) × (is_function g.entity ≡ true)
     by later false f n e = let w = later n e in (suc w.0, w.1, w.2)
     by later true f zero e = (0, e, subst (λ (z : Declared). is_function z.entity ≡ true) (some_is x g e) f)
     by later true f (suc n) e = let w = later n e in (suc w.0, w.1, w.2)
@@ -57,7 +58,8 @@ package_there : (ds : List Found) (n : ℕ) (g : Declared) → slice_get (declar
 package_there [] n g e = absurd (let z : None ≡ Some g = e in cc)
 package_there (x ∷ ds) n g e = by (λ m w. package_there ds m g w) (is_package x.it.block) refl n e
   where
-    by : ((k : ℕ) → slice_get (declared_in_package ds) k ≡ Some g → (y : Found) × IsIn y ds × (g ≡ declared_by y) × (is_package y.it.block ≡ true)) → (b : Bool) → is_package x.it.block ≡ b → (n : ℕ) → slice_get (if b then declared_by x ∷ declared_in_package ds else declared_in_package ds) n ≡ Some g → (y : Found) × IsIn y (x ∷ ds) × (g ≡ declared_by y) × (is_package y.it.block ≡ true)
+    by : ((k : ℕ) → slice_get (declared_in_package ds) k ≡ Some g → (y : Found) × IsIn y ds × (g ≡ declared_by y) × (is_package y.it.block ≡ true)) → (b : Bool) → is_package x.it.block ≡ b → (n : ℕ)
+        → slice_get (if b then declared_by x ∷ declared_in_package ds else declared_in_package ds) n ≡ Some g → (y : Found) × IsIn y (x ∷ ds) × (g ≡ declared_by y) × (is_package y.it.block ≡ true)
     by later false p n e = let w = later n e in (w.0, inr w.1, w.2, w.3)
     by later true p zero e = (x, inl refl, sym (some_is (declared_by x) g e), p)
     by later true p (suc n) e = let w = later n e in (w.0, inr w.1, w.2, w.3)
@@ -156,7 +158,8 @@ at_part e a j (more p ps) x t s f n m h = by (λ g k. at_part e (last p) j ps x 
     later v g (inl k) = let w = scoped_within e p x s.0 f.0 k in let y = member_behind x.name (last p) j ps t.2 g in absurd (omega (arith, w.1, y))
     later v g (inr k) = let w = v g k in (inr w.0, w.1)
 
-    by : (Member x.name (map name_of (lists.functions ps)) → IsAmong e ps x → HasRange x.scope ps × (x.name ≡ suc x.scope.from)) → (b : Bool) → lists.is_function (kind_of p) ≡ b → Member x.name (map name_of (if b then p ∷ lists.functions ps else lists.functions ps)) → IsScoped e p x ⊎ IsAmong e ps x → HasRange x.scope (more p ps) × (x.name ≡ suc x.scope.from)
+    by : (Member x.name (map name_of (lists.functions ps)) → IsAmong e ps x → HasRange x.scope ps × (x.name ≡ suc x.scope.from)) → (b : Bool) → lists.is_function (kind_of p) ≡ b
+        → Member x.name (map name_of (if b then p ∷ lists.functions ps else lists.functions ps)) → IsScoped e p x ⊎ IsAmong e ps x → HasRange x.scope (more p ps) × (x.name ≡ suc x.scope.from)
     by v false q g k = later v g k
     by v true q (inr g) k = later v g k
     by v true q (inl w) (inl k) = let z = function_scope e p x q s.0 f.0 n.0 w k in (inl z, w ∙ ap (λ (r : Extent). suc r.from) (sym z))

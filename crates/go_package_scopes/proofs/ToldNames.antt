@@ -79,7 +79,8 @@ there_in : (ds : List Found) (n : ℕ) (d : Declared) → slice_get (own_locals 
 there_in [] n d e = absurd (let z : None ≡ Some d = e in cc)
 there_in (x ∷ ds) n d e = by (λ m w. there_in ds m d w) (begins_function x) (is_package x.it.block) n e
   where
-    by : ((m : ℕ) → slice_get (own_locals ds) m ≡ Some d → (y : Found) × IsIn y ds × (d ≡ declared_by y)) → (a b : Bool) (n : ℕ) → slice_get (if a then [] else if b then own_locals ds else declared_by x ∷ own_locals ds) n ≡ Some d → (y : Found) × IsIn y (x ∷ ds) × (d ≡ declared_by y)
+    by : ((m : ℕ) → slice_get (own_locals ds) m ≡ Some d → (y : Found) × IsIn y ds × (d ≡ declared_by y)) → (a b : Bool) (n : ℕ)
+        → slice_get (if a then [] else if b then own_locals ds else declared_by x ∷ own_locals ds) n ≡ Some d → (y : Found) × IsIn y (x ∷ ds) × (d ≡ declared_by y)
     by later true b n e = absurd (let z : None ≡ Some d = e in cc)
     by later false true n e = let g = later n e in (g.0, inr g.1, g.2)
     by later false false zero e = (x, inl refl, sym (let z : Some (declared_by x) ≡ Some d = e in cc))
@@ -89,7 +90,8 @@ function_in : (ds : List Found) (f n : ℕ) (d : Declared) → local_in (slice_g
 function_in [] f n d e = absurd (let z : None ≡ Some d = e in cc)
 function_in (x ∷ ds) f n d e = by (λ m w. function_in ds m n d w) (begins_function x) f e
   where
-    by : ((m : ℕ) → local_in (slice_get (function_locals ds) m) n ≡ Some d → (y : Found) × IsIn y ds × (d ≡ declared_by y)) → (a : Bool) (f : ℕ) → local_in (slice_get (if a then own_locals ds ∷ function_locals ds else function_locals ds) f) n ≡ Some d → (y : Found) × IsIn y (x ∷ ds) × (d ≡ declared_by y)
+    by : ((m : ℕ) → local_in (slice_get (function_locals ds) m) n ≡ Some d → (y : Found) × IsIn y ds × (d ≡ declared_by y)) → (a : Bool) (f : ℕ)
+        → local_in (slice_get (if a then own_locals ds ∷ function_locals ds else function_locals ds) f) n ≡ Some d → (y : Found) × IsIn y (x ∷ ds) × (d ≡ declared_by y)
     by later true zero e = let g = there_in ds n d e in (g.0, inr g.1, g.2)
     by later true (suc f) e = let g = later f e in (g.0, inr g.1, g.2)
     by later false f e = let g = later f e in (g.0, inr g.1, g.2)
