@@ -51,7 +51,7 @@ own_local (Some object.Import) k h = absurd h
 own_local (Some (object.Predeclared p)) k h = absurd h
 own_local (Some (object.Package n)) k h = absurd h
 
-token_local : (p : Package) (n t c i k : ℕ) → MeansLocal (object_there (slice_get (objects_from p n t c) i)) k → (f : ℕ) × (object_of p.uses n (t + i) ≡ Some (object.Local f k))
+pub token_local : (p : Package) (n t c i k : ℕ) → MeansLocal (object_there (slice_get (objects_from p n t c) i)) k → (f : ℕ) × (object_of p.uses n (t + i) ≡ Some (object.Local f k))
 token_local p n t zero i k h = absurd h
 token_local p n t (suc c) zero k h =
     let e : t ≡ t + 0 = omega arith in
@@ -68,11 +68,11 @@ there : (o : Option Declared) → is_some o ≡ true → (d : Declared) × (o �
 there None e = absurd (let z : false ≡ true = e in cc)
 there (Some d) e = (d, refl)
 
-within : (b : Block) (d : Declared) (n t : ℕ) → is_package b ≡ false → may_mean b d n t ≡ true → is_within d n t ≡ true
+pub within : (b : Block) (d : Declared) (n t : ℕ) → is_package b ≡ false → may_mean b d n t ≡ true → is_within d n t ≡ true
 within block.Package d n t e h = absurd (let z : true ≡ false = e in cc)
 within (block.Local i) d n t e h = h
 
-in_scope : (u : UsesView) → IsComplete u → (n t f k : ℕ) → object_of u n t ≡ Some (object.Local f k) → IsInScope u n t k
+pub in_scope : (u : UsesView) → IsComplete u → (n t f k : ℕ) → object_of u n t ≡ Some (object.Local f k) → IsInScope u n t k
 in_scope u c n t f k e =
     let d = there (local_of u f k) (c.declared n t (object.Local f k) e) in
     record { function = f; meant = e; declared = d.0; there = d.1; within = within d.0.block d.0 n t (c.local_block f k d.0 d.1) (c.scope n t (object.Local f k) d.0 e d.1) }
@@ -87,7 +87,7 @@ module _ (o : ℕ → Option Object) (Q : ℕ → ℕ → Type 0) (q : (i k : �
   name_has f i h = tt
 
   mutual
-    each_meant : (x : Typed TypeTree) → NamesMean o x → EachName Q x
+    pub each_meant : (x : Typed TypeTree) → NamesMean o x → EachName Q x
     each_meant (typed f i j l ps) h = (name_has f i h.0, all_meant ps h.1)
 
     all_meant : (ps : Typeds TypeTree) → AllNamesMean o ps → EachNames Q ps
@@ -122,7 +122,7 @@ all_give : NamesAreMeant → (p : Package) → IsComplete p.uses → (ds : List 
 all_give m p c [] h = tt
 all_give m p c (d ∷ ds) h = (gives_names m p c d h.0, all_give m p c ds h.1)
 
-trees_of : (m : ℕ) (texts : List FileText) (files : List FileTree) → AreRead m texts files → AllByRecursion (λ s. IsFile (kinds s.tokens.tokens) s.tree) (map source_of files)
+pub trees_of : (m : ℕ) (texts : List FileText) (files : List FileTree) → AreRead m texts files → AllByRecursion (λ s. IsFile (kinds s.tokens.tokens) s.tree) (map source_of files)
 trees_of m [] [] r = tt
 trees_of m [] (f ∷ fs) r = absurd r
 trees_of m (x ∷ xs) [] r = absurd r
