@@ -1,10 +1,9 @@
 -- Paths from a node to the expressions below it that may become names.
-use Rattle.std.proofs.Common.{◌≡◌, ◌∙◌, ℕ, zero, suc, Bool, true, false, List, [], ◌∷◌, ◌++◌, Option, Some, None, refl, sym, ap, subst}
-use Rattle.std.specs.Prelude.{◌&&◌, nat_le}
+use Rattle.std.proofs.Common.{◌≡◌, ◌∙◌, ℕ, zero, suc, Bool, true, false, List, [], ◌∷◌, Option, Some, None, refl, sym, ap, subst}
+use Rattle.std.specs.Prelude.{◌&&◌}
 use Rattle.go_grammar.specs.declared.kind.Category.{Category}
 use Rattle.go_grammar.specs.declared.kind.Kind.{Kind}
 use Rattle.go_grammar.specs.declared.kind.Kind.TheVariants as kind
-use Rattle.go_grammar.specs.declared.kind.Sort.TheVariants as declaring
 use Rattle.go_grammar.specs.declared.kind.Level.TheVariants as level
 use Rattle.go_grammar.specs.Categories.{place_of, is_expression}
 use Rattle.go_grammar.specs.Grammar.{rule}
@@ -17,7 +16,7 @@ use Rattle.go_typed.specs.Trees.{typed, Typeds, first_of, last_of, label_of, par
 use Rattle.go_exprs_rules.specs.Settling.{Part}
 use Rattle.clone_window.specs.Masses as masses
 use Rattle.extract_names_derived.specs.Holes.{may_hold_holes, may_be_replaced, gives_operands, is_simple_part}
-use Rattle.go_function_holes.specs.Ways.{may_be_named, part_named, named_here}
+use Rattle.go_function_holes.specs.Ways.{may_be_named, part_named}
 use Rattle.go_function_holes.proofs.Holed.{OfHole, Here, Holes, AllHoles, is_whole, differ, holes-weaker, all-weaker}
 
 -- A path of one part at least leads from the node to an expression over these tokens; `operand` says of a list of expressions whether its
@@ -66,12 +65,18 @@ module _ (p : Tree) (path : List ℕ) where
   clear-part new zero (skip ps) e = none-some p e
   clear-part new (suc n) (skip ps) e = clear-part new n ps e
 
-  named-part : (o : Bool) (k : Kind) (m n : ℕ) (ps : Trees) → subtree_in n [] ps ≡ Some p → part_named o k m n path ps ≡ named_here o k m path p
-  named-part o k m n none e = none-some p e
-  named-part o k m zero (more q ps) e = ap (named_here o k m path) (some-same q p e)
-  named-part o k m (suc n) (more q ps) e = named-part o k m n ps e
-  named-part o k m zero (skip ps) e = none-some p e
-  named-part o k m (suc n) (skip ps) e = named-part o k m n ps e
+-- what is asked where the path ends at the part, and where it goes on
+abbrev named_here : Bool → Kind → ℕ → List ℕ → Tree → Bool
+named_here o k m [] p = may_be_replaced o k m && is_simple_part (kind_of p)
+named_here o k m (l ∷ path) p = may_be_named (gives_operands k m) (l ∷ path) p
+
+named-part : (p : Tree) (path : List ℕ) (o : Bool) (k : Kind) (m n : ℕ) (ps : Trees) → subtree_in n [] ps ≡ Some p → part_named o k m n path ps ≡ named_here o k m path p
+named-part p path o k m n none e = none-some p e
+named-part p [] o k m zero (more q ps) e = ap (λ t. may_be_replaced o k m && is_simple_part (kind_of t)) (some-same q p e)
+named-part p (l ∷ path) o k m zero (more q ps) e = ap (may_be_named (gives_operands k m) (l ∷ path)) (some-same q p e)
+named-part p path o k m (suc n) (more q ps) e = named-part p path o k m n ps e
+named-part p path o k m zero (skip ps) e = none-some p e
+named-part p path o k m (suc n) (skip ps) e = named-part p path o k m n ps e
 
 both-true : (a b : Bool) → a ≡ true → b ≡ true → (a && b) ≡ true
 both-true a b e f = ap (λ x. x && b) e ∙ f

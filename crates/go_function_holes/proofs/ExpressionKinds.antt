@@ -1,26 +1,22 @@
 -- Kinds of expressions, where they stand, and what their places ask of them.
-use Rattle.std.proofs.Common.{◌≡◌, ◌∙◌, ℕ, zero, suc, Bool, true, false, if◌then◌else◌, List, [], ◌∷◌, Option, Some, None, refl, sym, ap}
-use Rattle.std.specs.Prelude.{nat_le, ◌&&◌, ◌||◌}
+use Rattle.std.proofs.Common.{◌≡◌, ◌∙◌, ℕ, Bool, true, false, [], refl, sym}
+use Rattle.std.specs.Prelude.{nat_le}
 use Rattle.go_grammar.specs.declared.kind.Category.{Category}
 use Rattle.go_grammar.specs.declared.kind.Category.TheVariants as category
 use Rattle.go_grammar.specs.declared.kind.Kind.{Kind}
 use Rattle.go_grammar.specs.declared.kind.Kind.TheVariants as kind
 use Rattle.go_grammar.specs.declared.kind.Level.{Level}
 use Rattle.go_grammar.specs.declared.kind.Level.TheVariants as level
-use Rattle.go_grammar.specs.declared.kind.Place.{Place}
-use Rattle.go_grammar.specs.Categories.{within, tightness, is_expression}
+use Rattle.go_grammar.specs.Categories.{tightness, is_expression}
 use Rattle.go_grammar.specs.declared.kind.Operator.{Operator}
 use Rattle.go_grammar.specs.Operators.{rank, operator_level}
-use Rattle.go_grammar.specs.Rules.{Rule, End, Then, Maybe, Unless, Many, item}
 use Rattle.go_rewriting.specs.Replacing.{takes_level}
 use Rattle.go_types.specs.Relations.{Rights}
-use Rattle.go_types.specs.Trees.{TypeTree}
 use Rattle.go_typed.specs.Trees as sort
-use Rattle.go_exprs_rules.specs.declared.fault.TypeFault.{TypeFault}
-use Rattle.go_exprs_rules.specs.Names.{is_no_value, is_no_type, is_no_target, is_no_statement, not_a_value, one_value, place_failing, are_results}
-use Rattle.go_exprs_rules.specs.Scopes.{Hint, value, several, type_place, loose, target, statement, element, member, elided}
+use Rattle.go_exprs_rules.specs.Names.{is_no_type, not_a_value, place_failing}
+use Rattle.go_exprs_rules.specs.Scopes.{Hint, value, several, type_place, target, statement, element, member, elided}
 use Rattle.go_exprs_rules.specs.Sorts.{Stands, is_unknown}
-use Rattle.go_exprs_rules.specs.Tables.{is_type, is_placed}
+use Rattle.go_exprs_rules.specs.Tables.{is_type}
 use Rattle.go_function_holes.specs.Holes.{is_operand_place}
 use Rattle.go_function_holes.proofs.Holed.{differ}
 

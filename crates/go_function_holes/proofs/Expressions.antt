@@ -1,6 +1,6 @@
 -- The holes of an expression stand in its tree: the induction.
-use Rattle.std.proofs.Common.{◌≡◌, ◌∙◌, ℕ, zero, suc, ◌-◌, Bool, true, false, if◌then◌else◌, List, [], ◌∷◌, ◌++◌, Option, Some, None, refl, sym, ap, subst, append_assoc, append-nil}
-use Rattle.std.specs.Prelude.{◌&&◌, ◌||◌, not, nat_le}
+use Rattle.std.proofs.Common.{◌≡◌, ◌∙◌, ℕ, ◌-◌, Bool, true, false, if◌then◌else◌, List, [], ◌∷◌, Option, Some, None, refl, sym, ap, subst}
+use Rattle.std.specs.Prelude.{◌&&◌, ◌||◌, not}
 use Rattle.go_grammar.specs.declared.kind.Category.{Category}
 use Rattle.go_grammar.specs.declared.kind.Category.TheVariants as category
 use Rattle.go_grammar.specs.declared.kind.Kind.{Kind}
@@ -8,70 +8,67 @@ use Rattle.go_grammar.specs.declared.kind.Kind.TheVariants as kind
 use Rattle.go_grammar.specs.declared.kind.Place.{Place}
 use Rattle.go_grammar.specs.declared.kind.Place.TheVariants as place
 use Rattle.go_grammar.specs.Categories.{within, place_of, is_expression}
-use Rattle.go_grammar.specs.Grammar.{rule}
-use Rattle.go_grammar.specs.Rules.{Items, Rule, End, Then, Maybe, Unless, Many, item}
+use Rattle.go_grammar.specs.declared.kind.Level.TheVariants as level
+use Rattle.go_grammar.specs.Grammar.{rule, any}
+use Rattle.go_grammar.specs.Rules.{End}
 use Rattle.go_grammar.specs.Trees.{Tree, node, Trees, kind_of, first, last}
 use Rattle.go_grammar.specs.Trees as syntax
 use Rattle.go_tokens.specs.declared.token.TokenKind.{TokenKind}
-use Rattle.go_rewriting.specs.Replacing.{next_category, next_rule}
+use Rattle.go_rewriting.specs.Replacing.{next_rule}
 use Rattle.go_tree.specs.declared.object.Object.{Object}
 use Rattle.go_tree.specs.declared.object.Object.TheVariants as object
 use Rattle.go_types.specs.Relations.{Rights}
 use Rattle.go_types.specs.Trees.{TypeTree, array, slice, structure}
 use Rattle.go_typed.specs.declared.form.Form.{Form}
 use Rattle.go_typed.specs.declared.form.Form.TheVariants as form
-use Rattle.go_typed.specs.declared.form.Referent.TheVariants as referent
 use Rattle.go_typed.specs.Trees.{typed, Typeds, row, list_of, first_of, last_of, form_of, sort_of, parts_of}
 use Rattle.go_typed.specs.Trees as sort
 use Rattle.go_exprs_rules.specs.declared.fault.TypeFault.{TypeFault}
 use Rattle.go_exprs_rules.specs.Faults.{or_else}
 use Rattle.go_exprs_rules.specs.Literals.{literal_sort}
 use Rattle.go_exprs_rules.specs.Names.{object_form, declared_form, form_or_type, name_form, name_sort, place_failing}
-use Rattle.go_exprs_rules.specs.Scopes.{Scope, Hint, value, type_place, callee, declares, free, element, member, elided}
-use Rattle.go_exprs_rules.specs.Settling.{Part, Take}
-use Rattle.go_exprs_rules.specs.Sorts.{Stands, is_unknown, underlying_in}
-use Rattle.go_exprs_rules.specs.Tables.{Parts, is_held, held, told_type, on_first, is_type, leaf, cut, first_cut, is_make, is_make_call, call_parts, has_no_low, bounds_of, bracketed_parts, is_package, selector_parts, behind_first, layout, literal_type, callee_form, key_form, selector_form, bracketed_form}
-use Rattle.go_exprs_rules.specs.Tables.{form_by, sort_by, takes, all_given, failing, placing, own_faults, is_judged, no_faults, is_sound, is_placed, made, built_by, built, hint, part_scope, element_told, element_in, argument_told, on_optional, on_one}
+use Rattle.go_exprs_rules.specs.Scopes.{Scope, Hint, value, type_place, callee, declares, free, member}
+use Rattle.go_exprs_rules.specs.Settling.{Part}
+use Rattle.go_exprs_rules.specs.Sorts.{Stands, is_unknown}
+use Rattle.go_exprs_rules.specs.Tables.{Parts, is_held, held, told_type, on_first, is_type, leaf, cut, first_cut, is_make, literal_type, callee_form, key_form, selector_form, bracketed_form}
+use Rattle.go_exprs_rules.specs.Tables.{form_by, sort_by, takes, all_given, failing, placing, own_faults, is_judged, no_faults, is_sound, is_placed, made, built_by, element_told, element_in, on_optional}
 use Rattle.go_exprs_rules.specs.TypeNodes as type_nodes
-use Rattle.go_exprs_rules.specs.Typing.{typing, typings, faults, faults_of_parts}
 use Rattle.clone_window.specs.Masses as masses
 use Rattle.go_stmts_final_types.specs.Shapes.{IsShaped, AreShaped}
-use Rattle.extract_names_derived.specs.Holes.{may_hold_holes, may_be_replaced}
-use Rattle.go_function_trees.specs.Lists.{Faultless, parts_behind}
 use Rattle.go_function_holes.specs.Holes.{applies, is_operand_place}
-use Rattle.go_function_holes.proofs.Below.{Below, IsPart, Operand}
-use Rattle.go_function_holes.proofs.Holed.{OfHole, Here, Holes, AllHoles, PartHoles, EachHoles, Sound, AllSound, PartSound, EachSound, differ, either, both, is_whole, row-holes, each-row}
-use Rattle.go_function_holes.proofs.ExpressionKinds.{is_operand, operand-takes, expression-kind, judges_values, no-type, a-type}
-use Rattle.go_function_holes.proofs.Typed.{TypedPart, is_bounds, Row, IsOpen, open-free, rules_behind, behind-there, behind-asked, behind-more, behind-skip, rules-next, shaped-more, shaped-skip, front-faultless, back-faultless, sound-known}
-use Rattle.go_function_holes.proofs.Typed.{operand-holes, row-holes-all, ToldValues, all-given-holes, all-given-sound, cut-holes, cut-known, cut-sound, type-cut}
+use Rattle.go_function_holes.proofs.Below.{Below}
+use Rattle.go_function_holes.proofs.Holed.{OfHole, Holes, EachHoles, Sound, AllSound, EachSound, differ, is_whole, each-row}
+use Rattle.go_function_holes.proofs.ExpressionKinds.{is_operand, expression-kind, judges_values}
+use Rattle.go_function_holes.proofs.Typed.{TypedPart, is_bounds, Row, open-free}
+use Rattle.go_function_holes.proofs.Typed.{operand-holes, row-holes-all, ToldValues, all-given-sound, cut-holes, type-cut}
 
 -- ---- what nodes stand for, where no rule fails
 
-abbrev whole : Scope → Kind → Hint → ℕ → ℕ → Parts → Part
+abbrev pub whole : Scope → Kind → Hint → ℕ → ℕ → Parts → Part
 whole s k h i j ys = made (form_by s k h i j ys) i j (sort_by s k h i j ys) ys (all_given (takes s k h ys) ys)
 
-built-whole : (P : Part → Type 0) (s : Scope) (k : Kind) (h : Hint) (i j : ℕ) (ys : Parts) (b : Bool) → is_unknown (sort_of (built_by s k h i j ys b)) ≡ false → P (whole s k h i j ys) → P (built_by s k h i j ys b)
+pub built-whole : (P : Part → Type 0) (s : Scope) (k : Kind) (h : Hint) (i j : ℕ) (ys : Parts) (b : Bool) → is_unknown (sort_of (built_by s k h i j ys b)) ≡ false → P (whole s k h i j ys) → P (built_by s k h i j ys b)
 built-whole P s k h i j ys true u g = g
 built-whole P s k h i j ys false u g = absurd (differ (sym u))
 
-or-nothing : (fs gs : List TypeFault) → or_else fs gs ≡ [] → gs ≡ []
+pub or-nothing : (fs gs : List TypeFault) → or_else fs gs ≡ [] → gs ≡ []
 or-nothing [] gs e = e
 or-nothing (f ∷ fs) gs e = absurd cc
 
-is-judged : (p : Bool) (b : Bool) (c : Bool) → p ≡ true → (not p || (b && c)) ≡ true → b ≡ true
+pub is-judged : (p : Bool) (b : Bool) (c : Bool) → p ≡ true → (not p || (b && c)) ≡ true → b ≡ true
 is-judged true true c e f = refl
 is-judged true false c e f = f
 is-judged false b c e f = absurd (differ e)
 
-placing-placed : (s : Scope) (k : Kind) (h : Hint) (i j : ℕ) (x : Stands) → is_placed k ≡ true → placing s k h i j x ≡ [] → place_failing s.rights h i j x ≡ []
+pub placing-placed : (s : Scope) (k : Kind) (h : Hint) (i j : ℕ) (x : Stands) → is_placed k ≡ true → placing s k h i j x ≡ [] → place_failing s.rights h i j x ≡ []
 placing-placed s k h i j x e f = ap (λ b. if b then place_failing s.rights h i j x else []) (sym e) ∙ f
 
-known-sound : (s : Scope) (k : Kind) (h : Hint) (i j : ℕ) (ys : Parts) (b : Bool) → is_unknown (sort_of (built_by s k h i j ys b)) ≡ false → b ≡ true
+pub known-sound : (s : Scope) (k : Kind) (h : Hint) (i j : ℕ) (ys : Parts) (b : Bool) → is_unknown (sort_of (built_by s k h i j ys b)) ≡ false → b ≡ true
 known-sound s k h i j ys true u = refl
 known-sound s k h i j ys false u = absurd (differ (sym u))
 
 -- a node that stands for something known is judged, and its place allows it
-place-allows : (s : Scope) (k : Kind) (h : Hint) (i j : ℕ) (ys : Parts) → is_placed k ≡ true → own_faults s k h i j ys ≡ [] → is_unknown (sort_of (built_by s k h i j ys (is_sound k ys (own_faults s k h i j ys)))) ≡ false
+pub place-allows : (s : Scope) (k : Kind) (h : Hint) (i j : ℕ) (ys : Parts) → is_placed k ≡ true → own_faults s k h i j ys ≡ [] → is_unknown (sort_of (built_by s k h i j ys (is_sound k ys (own_faults s k h i j ys)))) ≡ false
     → place_failing s.rights h i j (sort_of (built_by s k h i j ys (is_sound k ys (own_faults s k h i j ys)))) ≡ []
 place-allows s k h i j ys e f u =
     let b = is_sound k ys (own_faults s k h i j ys) in
@@ -81,11 +78,11 @@ place-allows s k h i j ys e f u =
     let here : place_failing s.rights h i j (sort_by s k h i j ys) ≡ [] = placing-placed s k h i j (sort_by s k h i j ys) e (or-nothing (failing s k h i j ys) (placing s k h i j (sort_by s k h i j ys)) rules) in
     built-whole (λ x. place_failing s.rights h i j (sort_of x) ≡ []) s k h i j ys b u here
 
-type-sorted : (o : Option TypeTree) → is_unknown (type_nodes.type_sort o) ≡ false → is_type (type_nodes.type_sort o) ≡ true
+pub type-sorted : (o : Option TypeTree) → is_unknown (type_nodes.type_sort o) ≡ false → is_type (type_nodes.type_sort o) ≡ true
 type-sorted (Some t) u = refl
 type-sorted None u = absurd (differ (sym u))
 
-two-sorted : (f : Option Part → Option Part → Option TypeTree) (ys : Parts) → is_unknown (on_optional sort.Unknown (λ n e. type_nodes.type_sort (f n e)) ys) ≡ false → is_type (on_optional sort.Unknown (λ n e. type_nodes.type_sort (f n e)) ys) ≡ true
+pub two-sorted : (f : Option Part → Option Part → Option TypeTree) (ys : Parts) → is_unknown (on_optional sort.Unknown (λ n e. type_nodes.type_sort (f n e)) ys) ≡ false → is_type (on_optional sort.Unknown (λ n e. type_nodes.type_sort (f n e)) ys) ≡ true
 two-sorted f [] u = absurd (differ (sym u))
 two-sorted f (x ∷ []) u = absurd (differ (sym u))
 two-sorted f (x ∷ y ∷ []) u = type-sorted (f x y) u
@@ -93,24 +90,24 @@ two-sorted f (x ∷ y ∷ z ∷ zs) u = absurd (differ (sym u))
 
 -- ---- forms
 
-key-no-expression : (rights : Rights) (h : Hint) (name : List ℕ) → masses.is_expression (key_form rights h name) ≡ false
+pub key-no-expression : (rights : Rights) (h : Hint) (name : List ℕ) → masses.is_expression (key_form rights h name) ≡ false
 key-no-expression rights (member t) name = refl
 key-no-expression rights h name = refl
 
-literal-value : (t : Option TypeTree) → masses.is_constant (literal_sort t) ≡ false
+pub literal-value : (t : Option TypeTree) → masses.is_constant (literal_sort t) ≡ false
 literal-value (Some t) = refl
 literal-value None = refl
 
-none-and : (a b : Bool) → b ≡ false → (a && b) ≡ false
+pub none-and : (a b : Bool) → b ≡ false → (a && b) ≡ false
 none-and true b e = e
 none-and false b e = refl
 
-literal-none : (s : Scope) (h : Hint) (i j : ℕ) (ys : Parts) → masses.is_constant (sort_by s kind.LiteralValue h i j ys) ≡ false
+pub literal-none : (s : Scope) (h : Hint) (i j : ℕ) (ys : Parts) → masses.is_constant (sort_by s kind.LiteralValue h i j ys) ≡ false
 literal-none s h i j [] = refl
 literal-none s h i j (t ∷ ys) = literal-value (literal_type h t)
 
 -- a constant expression is one by its kind
-whole-kind : (s : Scope) (k : Kind) (h : Hint) (i j : ℕ) (ys : Parts) → is_operand k ≡ true → is_whole (whole s k h i j ys) ≡ true → is_expression k ≡ true
+pub whole-kind : (s : Scope) (k : Kind) (h : Hint) (i j : ℕ) (ys : Parts) → is_operand k ≡ true → is_whole (whole s k h i j ys) ≡ true → is_expression k ≡ true
 whole-kind s kind.Bounds h i j ys e w = absurd (differ w)
 whole-kind s kind.BoundsFrom h i j ys e w = absurd (differ w)
 whole-kind s kind.LiteralValue h i j ys e w = absurd (differ (sym (none-and true (masses.is_constant (sort_by s kind.LiteralValue h i j ys)) (literal-none s h i j ys)) ∙ w))
@@ -119,24 +116,24 @@ whole-kind s k h i j ys e w = e
 
 -- ---- kinds of operands by their places
 
-by-expression : (k : Kind) → is_expression k ≡ true → is_operand k ≡ true
+pub by-expression : (k : Kind) → is_expression k ≡ true → is_operand k ≡ true
 by-expression kind.Bounds e = refl
 by-expression kind.BoundsFrom e = refl
 by-expression kind.LiteralValue e = refl
 by-expression kind.Keyed e = refl
 by-expression k e = e
 
-bracket-operand : (k : Kind) → within category.Bracket k ≡ true → is_operand k ≡ true
+pub bracket-operand : (k : Kind) → within category.Bracket k ≡ true → is_operand k ≡ true
 bracket-operand kind.Bounds e = refl
 bracket-operand kind.BoundsFrom e = refl
 bracket-operand k e = by-expression k e
 
-element-operand : (k : Kind) → within category.Element k ≡ true → is_operand k ≡ true
+pub element-operand : (k : Kind) → within category.Element k ≡ true → is_operand k ≡ true
 element-operand kind.LiteralValue e = refl
 element-operand kind.Keyed e = refl
 element-operand k e = by-expression k e
 
-value-operand : (k : Kind) → within category.Value k ≡ true → is_operand k ≡ true
+pub value-operand : (k : Kind) → within category.Value k ≡ true → is_operand k ≡ true
 value-operand kind.LiteralValue e = refl
 value-operand k e = by-expression k e
 
@@ -149,20 +146,20 @@ operand-kind c k e w = absurd (differ e)
 
 -- ---- hints
 
-told-in : (t : TypeTree) (u : Option TypeTree) → judges_values (element_in t u) ≡ true
+pub told-in : (t : TypeTree) (u : Option TypeTree) → judges_values (element_in t u) ≡ true
 told-in t None = refl
 told-in t (Some (array n e)) = refl
 told-in t (Some (slice e)) = refl
 told-in t (Some (structure ns ts)) = refl
 told-in t u = refl
 
-element-values : (rights : Rights) (o : Option TypeTree) → judges_values (element_told rights o) ≡ true
+pub element-values : (rights : Rights) (o : Option TypeTree) → judges_values (element_told rights o) ≡ true
 element-values rights None = refl
 element-values rights (Some t) = told-in t _
 
 -- ---- forms that hold nothing
 
-object-unheld : (s : Scope) (o : Option Object) → is_held (object_form s o) ≡ false
+pub object-unheld : (s : Scope) (o : Option Object) → is_held (object_form s o) ≡ false
 object-unheld s None = refl
 object-unheld s (Some object.Import) = refl
 object-unheld s (Some (object.Predeclared p)) = refl
@@ -176,37 +173,37 @@ declared-unheld s (Some (object.Predeclared p)) = refl
 declared-unheld s (Some (object.Package n)) = refl
 declared-unheld s (Some (object.Local f n)) = refl
 
-typed-unheld : (x : Stands) (f : Form) → is_held f ≡ false → is_held (form_or_type x f) ≡ false
+pub typed-unheld : (x : Stands) (f : Form) → is_held f ≡ false → is_held (form_or_type x f) ≡ false
 typed-unheld (sort.IsType t) f h = refl
 typed-unheld x f h = h
 
-name-unheld : (s : Scope) (h : Hint) (i : ℕ) → is_held (name_form s h i) ≡ false
+pub name-unheld : (s : Scope) (h : Hint) (i : ℕ) → is_held (name_form s h i) ≡ false
 name-unheld s declares i = declared-unheld s (s.objects i)
 name-unheld s free i = declared-unheld s (s.objects i)
 name-unheld s h i = typed-unheld (name_sort s h i) (object_form s (s.objects i)) (object-unheld s (s.objects i))
 
-selector-unheld : (rights : Rights) (name : List ℕ) (ys : Parts) → is_held (selector_form rights name ys) ≡ false
+pub selector-unheld : (rights : Rights) (name : List ℕ) (ys : Parts) → is_held (selector_form rights name ys) ≡ false
 selector-unheld rights name [] = refl
 selector-unheld rights name (None ∷ ys) = refl
 selector-unheld rights name (Some x ∷ []) = refl
 selector-unheld rights name (Some x ∷ y ∷ ys) = refl
 
-bracketed-unheld : (ys : Parts) → is_held (bracketed_form ys) ≡ false
+pub bracketed-unheld : (ys : Parts) → is_held (bracketed_form ys) ≡ false
 bracketed-unheld [] = refl
 bracketed-unheld (x ∷ []) = refl
 bracketed-unheld (x ∷ y ∷ []) = refl
 bracketed-unheld (x ∷ y ∷ z ∷ ys) = refl
 
-callee-unheld : (x : Stands) → is_held (callee_form x) ≡ false
+pub callee-unheld : (x : Stands) → is_held (callee_form x) ≡ false
 callee-unheld (sort.IsType t) = refl
 callee-unheld x = refl
 
-call-unheld : (ys : Parts) → is_held (on_first form.Call (λ f xs. callee_form (sort_of f)) ys) ≡ false
+pub call-unheld : (ys : Parts) → is_held (on_first form.Call (λ f xs. callee_form (sort_of f)) ys) ≡ false
 call-unheld [] = refl
 call-unheld (None ∷ ys) = refl
 call-unheld (Some x ∷ ys) = callee-unheld (sort_of x)
 
-form-unheld : (s : Scope) (k : Kind) (h : Hint) (i j : ℕ) (ys : Parts) → is_expression k ≡ true → is_held (form_by s k h i j ys) ≡ false
+pub form-unheld : (s : Scope) (k : Kind) (h : Hint) (i j : ℕ) (ys : Parts) → is_expression k ≡ true → is_held (form_by s k h i j ys) ≡ false
 form-unheld s kind.Name h i j ys e = name-unheld s h i
 form-unheld s kind.Integer h i j ys e = refl
 form-unheld s kind.Rune h i j ys e = refl
@@ -223,33 +220,33 @@ form-unheld s kind.FunctionType h i j ys e = refl
 form-unheld s kind.StructType h i j ys e = refl
 form-unheld s k h i j ys e = absurd (differ e)
 
-by-form : (s : Scope) (k : Kind) (h : Hint) (i j : ℕ) (ys : Parts) (b : Bool) → form_of (built_by s k h i j ys b) ≡ form_by s k h i j ys
+pub by-form : (s : Scope) (k : Kind) (h : Hint) (i j : ℕ) (ys : Parts) (b : Bool) → form_of (built_by s k h i j ys b) ≡ form_by s k h i j ys
 by-form s k h i j ys true = refl
 by-form s k h i j ys false = refl
 
 -- ---- callees
 
-make-no-type : (x : Stands) → is_make x ≡ true → is_type x ≡ false
+pub make-no-type : (x : Stands) → is_make x ≡ true → is_type x ≡ false
 make-no-type (sort.IsType t) e = absurd (differ e)
 make-no-type x e = refl
 
-make-no-constant : (x : Stands) → is_make x ≡ true → masses.is_constant x ≡ false
+pub make-no-constant : (x : Stands) → is_make x ≡ true → masses.is_constant x ≡ false
 make-no-constant (sort.Constant t c) e = absurd (differ e)
 make-no-constant (sort.OpenConstant c) e = absurd (differ e)
 make-no-constant x e = refl
 
-calls-value : (x : Stands) → is_type x ≡ false → callee_form x ≡ form.Call
+pub calls-value : (x : Stands) → is_type x ≡ false → callee_form x ≡ form.Call
 calls-value (sort.IsType t) e = absurd (differ (sym e))
 calls-value x e = refl
 
-not-true : (b : Bool) → not b ≡ true → b ≡ false
+pub not-true : (b : Bool) → not b ≡ true → b ≡ false
 not-true true e = absurd (differ e)
 not-true false e = refl
 
-no-whole : (x : Part) → masses.is_constant (sort_of x) ≡ false → is_whole x ≡ false
+pub no-whole : (x : Part) → masses.is_constant (sort_of x) ≡ false → is_whole x ≡ false
 no-whole x e = none-and (masses.is_expression (form_of x)) (masses.is_constant (sort_of x)) e
 
-placed-expression : (k : Kind) → is_expression k ≡ true → is_placed k ≡ true
+pub placed-expression : (k : Kind) → is_expression k ≡ true → is_placed k ≡ true
 placed-expression kind.Name e = refl
 placed-expression kind.Integer e = refl
 placed-expression kind.Rune e = refl
@@ -266,46 +263,46 @@ placed-expression kind.FunctionType e = refl
 placed-expression kind.StructType e = refl
 placed-expression k e = absurd (differ e)
 
-placed-literal : (q : Place) (k : Kind) → within (category.LiteralType q) k ≡ true → is_placed k ≡ true
+pub placed-literal : (q : Place) (k : Kind) → within (category.LiteralType q) k ≡ true → is_placed k ≡ true
 placed-literal q kind.Name e = refl
 placed-literal q kind.SequenceType e = refl
 placed-literal q kind.StructType e = refl
 placed-literal place.Free k e = absurd (differ e)
 placed-literal place.Header k e = absurd (differ e)
 
-shaped-kind : (c : Category) (t : Tree) → IsShaped c t → within c (kind_of t) ≡ true
+pub shaped-kind : (c : Category) (t : Tree) → IsShaped c t → within c (kind_of t) ≡ true
 shaped-kind c (node k i j ps) w = w.0
 
 -- ---- the parts of each kind
 
-end-holes : (P : OfHole) (ws : List TokenKind) (c : Category) (k : Kind) (all : Trees) (s : Scope) (h : Hint) (n : ℕ) (xs : Parts) (ps : Trees) (zs : Parts) → AreShaped (End ws) ps → Row c k all s h (End ws) n xs ps zs → EachHoles P zs
+pub end-holes : (P : OfHole) (ws : List TokenKind) (c : Category) (k : Kind) (all : Trees) (s : Scope) (h : Hint) (n : ℕ) (xs : Parts) (ps : Trees) (zs : Parts) → AreShaped (End ws) ps → Row c k all s h (End ws) n xs ps zs → EachHoles P zs
 end-holes P ws c k all s h n xs syntax.none [] w g = tt
 end-holes P ws c k all s h n xs syntax.none (z ∷ zs) w g = absurd g
 end-holes P ws c k all s h n xs (syntax.more p ps) zs w g = absurd w
 end-holes P ws c k all s h n xs (syntax.skip ps) zs w g = absurd w
 
 -- typed parts behind a callee
-abbrev Behind : Parts → Type 0
+abbrev pub Behind : Parts → Type 0
 Behind [] = ⊥
 Behind (None ∷ xs) = ⊥
 Behind (Some x ∷ xs) = is_make (sort_of x) ≡ false
 
 -- behind a callee and one more
-abbrev FurtherBehind : Parts → Type 0
+abbrev pub FurtherBehind : Parts → Type 0
 FurtherBehind [] = ⊥
 FurtherBehind (None ∷ xs) = ⊥
 FurtherBehind (Some x ∷ []) = ⊥
 FurtherBehind (Some x ∷ y ∷ xs) = Unit {0}
 
-abbrev Some-parts : Parts → Type 0
+abbrev pub Some-parts : Parts → Type 0
 Some-parts [] = ⊥
 Some-parts (x ∷ xs) = Unit {0}
 
-abbrev Any : Parts → Type 0
+abbrev pub Any : Parts → Type 0
 Any xs = Unit {0}
 
 -- between brackets stand bounds or an expression
-bounds-or : {A : Type 0} {b : Bool} (k : Kind) → within category.Bracket k ≡ true → (is_bounds k ≡ true → A) → (is_expression k ≡ true → b ≡ false) → b ≡ true → A
+pub bounds-or : {A : Type 0} {b : Bool} (k : Kind) → within category.Bracket k ≡ true → (is_bounds k ≡ true → A) → (is_expression k ≡ true → b ≡ false) → b ≡ true → A
 bounds-or kind.Bounds w f g e = f refl
 bounds-or kind.BoundsFrom w f g e = f refl
 bounds-or k w f g e = absurd (differ (sym (g w) ∙ e))
@@ -314,27 +311,27 @@ module _ (c : Category) (s : Scope) (h : Hint) (i j : ℕ) (o : Bool) where
   abbrev B : Kind → Trees → OfHole
   B k ps = Below o c (node k i j ps)
 
-  told-behind : (all : Trees) → ToldValues c kind.Call i j all s h Behind
+  pub told-behind : (all : Trees) → ToldValues kind.Call all s h Behind
   told-behind all [] u = absurd u
   told-behind all (None ∷ xs) u = absurd u
   told-behind all (Some x ∷ []) u = ((λ q. ap (λ b. judges_values (if b then type_place else value)) u), λ y. u)
   told-behind all (Some x ∷ y ∷ xs) u = ((λ q. refl), λ z. u)
 
-  told-further : (all : Trees) → ToldValues c kind.Call i j all s h FurtherBehind
+  pub told-further : (all : Trees) → ToldValues kind.Call all s h FurtherBehind
   told-further all [] u = absurd u
   told-further all (None ∷ xs) u = absurd u
   told-further all (Some x ∷ []) u = absurd u
   told-further all (Some x ∷ y ∷ xs) u = ((λ q. refl), λ z. tt)
 
-  told-elements : (all : Trees) → ToldValues c kind.Composite i j all s h Some-parts
+  pub told-elements : (all : Trees) → ToldValues kind.Composite all s h Some-parts
   told-elements all [] u = absurd u
   told-elements all (t ∷ xs) u = ((λ q. element-values s.rights (type_nodes.part_type t)), λ z. tt)
 
-  told-literal : (all : Trees) → ToldValues c kind.LiteralValue i j all s h Any
+  pub told-literal : (all : Trees) → ToldValues kind.LiteralValue all s h Any
   told-literal all xs u = ((λ q. element-values s.rights (told_type h)), λ z. tt)
 
   -- the arguments of a call
-  call-holes : (f : Part) (p : Tree) (qs : Trees) (ws : Parts) → AreShaped (rule (place_of c) kind.Call) (syntax.more p qs)
+  pub call-holes : (f : Part) (p : Tree) (qs : Trees) (ws : Parts) → AreShaped (rule (place_of c) kind.Call) (syntax.more p qs)
       → Row c kind.Call (syntax.more p qs) s h (rule (place_of c) kind.Call) 0 [] (syntax.more p qs) (Some f ∷ ws) → (b : Bool) → is_make (sort_of f) ≡ b
       → Sound (whole s kind.Call h i j (if b then Some f ∷ first_cut ws else cut (Some f) ∷ ws)) → EachHoles (B kind.Call (syntax.more p qs)) (if b then Some f ∷ first_cut ws else cut (Some f) ∷ ws)
   call-holes f p qs ws w g true e sd =
@@ -350,15 +347,15 @@ module _ (c : Category) (s : Scope) (h : Hint) (i j : ℕ) (o : Bool) where
         made-holes (Some a ∷ vs) syntax.none v g sd = absurd g
         made-holes (Some a ∷ vs) (syntax.skip rs) v g sd = absurd v
         made-holes (Some a ∷ vs) (syntax.more q rs) v g sd = (
-          type-cut (B kind.Call (syntax.more p qs)) _ q a (placed-expression (kind_of q) (expression-kind _ (kind_of q) (shaped-kind _ q v.0))) (subst (λ (d : Bool). TypedPart _ q (if d then type_place else value) a) e g.1) sd.0,
-          row-holes-all c kind.Call i j (syntax.more p qs) s h (open-free kind.Call refl refl) o FurtherBehind (told-further (syntax.more p qs)) (λ n. refl) _ 2 (Some f ∷ Some a ∷ []) rs vs refl tt refl v.1 g.2 sd.1,
+          type-cut (B kind.Call (syntax.more p qs)) (any place.Free) q a (placed-expression (kind_of q) (expression-kind level.Either (kind_of q) (shaped-kind (any place.Free) q v.0))) (subst (λ (d : Bool). TypedPart (any place.Free) q (if d then type_place else value) a) e g.1) sd.0,
+          row-holes-all c kind.Call i j (syntax.more p qs) s h (open-free kind.Call refl refl) o FurtherBehind (told-further (syntax.more p qs)) (λ n. refl) (next_rule (rule (place_of c) kind.Call)) 2 (Some f ∷ Some a ∷ []) rs vs refl tt refl v.1 g.2 sd.1,
         )
   call-holes f p qs ws w g false e sd = (
     cut-holes (B kind.Call (syntax.more p qs)) f (λ t. by-value t),
     row-holes-all c kind.Call i j (syntax.more p qs) s h (open-free kind.Call refl refl) o Behind (told-behind (syntax.more p qs)) (λ n. refl) _ 1 (Some f ∷ []) qs ws refl e refl w.1 g.2 (sounds (all_given (takes s kind.Call h (cut (Some f) ∷ ws)) (cut (Some f) ∷ ws)) refl sd.3).1,
   ) where
     sounds : (vs : Parts) → vs ≡ all_given (takes s kind.Call h (cut (Some f) ∷ ws)) (cut (Some f) ∷ ws) → AllSound (row vs) → EachSound (cut (Some f) ∷ ws)
-    sounds vs u h = all-given-sound (takes s kind.Call _ (cut (Some f) ∷ ws)) (cut (Some f) ∷ ws) (subst EachSound u (each-row vs h))
+    sounds vs u v = all-given-sound (takes s kind.Call h (cut (Some f) ∷ ws)) (cut (Some f) ∷ ws) (subst EachSound u (each-row vs v))
 
     by-value : is_type (sort_of f) ≡ false → Holes (B kind.Call (syntax.more p qs)) f
     by-value t =
@@ -370,7 +367,7 @@ module _ (c : Category) (s : Scope) (h : Hint) (i j : ℕ) (o : Bool) where
         let all = all-given-sound (takes s kind.Call h (Some f ∷ ws)) (Some f ∷ ws) (each-row (all_given (takes s kind.Call h (Some f ∷ ws)) (Some f ∷ ws)) sd2.3) in
         operand-holes c kind.Call i j (syntax.more p qs) s h (open-free kind.Call refl refl) o 0 _ p f (g.0 refl) refl callee g.1 all.0 t (λ q. absurd (differ (sym (no-whole f none) ∙ q)))
 
-  bracket-sound : (q : Tree) (z : Part) → within category.Bracket (kind_of q) ≡ true → TypedPart category.Bracket q value z → EachSound (held (Some z)) → Sound z
+  pub bracket-sound : (q : Tree) (z : Part) → within category.Bracket (kind_of q) ≡ true → TypedPart category.Bracket q value z → EachSound (held (Some z)) → Sound z
   bracket-sound q z w part hs = by (is_held (form_of z)) refl hs where
     holder : (y : Part) → is_held (form_of y) ≡ true → is_unknown (sort_of y) ≡ false → EachSound (list_of (parts_of y)) → Sound y
     holder (typed (form.Held k) a b l ps) e u vs = (u, refl, tt, listed ps vs) where

@@ -1,14 +1,13 @@
 -- Each hole of an expression is one of its constant expressions.
-use Rattle.std.proofs.Common.{◌≡◌, ◌∙◌, ℕ, zero, suc, ◌+◌, Bool, true, false, if◌then◌else◌, List, [], ◌∷◌, ◌++◌, Option, Some, None, refl, sym, ap, subst}
+use Rattle.std.proofs.Common.{◌≡◌, ℕ, zero, suc, ◌+◌, Bool, true, false, List, [], ◌∷◌, ◌++◌, Option, Some, None, refl, sym, subst}
 use Rattle.std.specs.Prelude.{◌&&◌, not, slice_get}
 use Rattle.std.specs.List.{AllByRecursion}
 use Rattle.go_grammar.specs.declared.kind.Category.{Category}
-use Rattle.go_grammar.specs.Categories.{place_of}
-use Rattle.go_grammar.specs.Trees.{Tree, node, first, last}
+use Rattle.go_grammar.specs.Trees.{Tree, node}
 use Rattle.go_rewriting.specs.Sites.{whole, is_clear}
 use Rattle.go_types.specs.Trees.{TypeTree}
 use Rattle.go_typed.specs.Funcs.{size}
-use Rattle.go_typed.specs.Trees.{typed, Typeds, none, more, skip, first_of, last_of, sort_of, parts_of}
+use Rattle.go_typed.specs.Trees.{typed, Typeds, none, more, skip, sort_of, parts_of}
 use Rattle.go_exprs_rules.specs.declared.fault.TypeFault.{TypeFault}
 use Rattle.go_exprs_rules.specs.Faults as faults
 use Rattle.go_exprs_rules.specs.Scopes.{Scope, Hint}
@@ -83,8 +82,8 @@ operand-found o c t x h =
 
 pub expression-holes : (o : Bool) (c : Category) (s : Scope) (h : Hint) (t : Tree) → is_operand_place c ≡ true → IsShaped c t → faults.reported (typings.faults s h t) ≡ None → IsKnown (typings.typing s h t) → calls_no_constant (typings.typing s h t) ≡ true
     → is_type (sort_of (typings.typing s h t)) ≡ false → (k n : ℕ) (a : Bool) (hole : Hole TypeTree) → slice_get (holes_in k a (typings.typing s h t)) n ≡ Some hole → ExpressionHole o c t hole.from hole.upto
-expression-holes o c s h t e w f known calls no k n a hole there =
+expression-holes o c s h t e w f known calls untyped k n a hole there =
     let x = typings.typing s h t in
     let part = typed-part c s h t w (none-reported (typings.faults s h t) f) in
-    let operand = part.operand e (sound x known calls) no in
+    let operand = part.operand e (sound x known calls) untyped in
     all-at (At (ExpressionHole o c t)) (holes_in k a x) n hole (holes-found (ExpressionHole o c t) k a x (operand-found o c t x operand)) there

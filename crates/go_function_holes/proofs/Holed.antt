@@ -1,15 +1,15 @@
 -- What holds of the holes of a typed tree, and what is asked of its nodes.
-use Rattle.std.proofs.Common.{◌≡◌, ◌∙◌, ℕ, zero, suc, Bool, true, false, if◌then◌else◌, List, [], ◌∷◌, ◌++◌, drop, take, Option, Some, None, refl, sym, ap, subst}
+use Rattle.std.proofs.Common.{◌≡◌, ◌∙◌, ℕ, Bool, true, false, if◌then◌else◌, [], ◌∷◌, ◌++◌, Option, Some, None, refl, sym, ap, subst}
 use Rattle.std.specs.Prelude.{◌&&◌, not}
 use Rattle.go_types.specs.Trees.{TypeTree}
 use Rattle.go_typed.specs.declared.form.Form.{Form}
 use Rattle.go_typed.specs.declared.form.Form.TheVariants as form
-use Rattle.go_typed.specs.Trees.{Typed, typed, Typeds, none, more, skip, row, list_of, first_of, last_of, form_of, sort_of, label_of, parts_of}
+use Rattle.go_typed.specs.Trees.{Label, Typed, typed, Typeds, none, more, skip, row, list_of, first_of, last_of, form_of, sort_of, label_of, parts_of}
 use Rattle.go_typed.specs.Trees as sort
 use Rattle.go_exprs_rules.specs.declared.family.OpenKind.{OpenKind}
 use Rattle.go_exprs_rules.specs.Settling.{Part, Take, stay, default, as_type, settled, all_settled, defaulted, given}
 use Rattle.go_exprs_rules.specs.Sorts.{Stands, takes_type, open_kind, retyped, default_type, is_unknown}
-use Rattle.go_exprs_rules.specs.Tables.{Parts, is_held, held, all_held, behind_first}
+use Rattle.go_exprs_rules.specs.Tables.{Parts, is_held, held, all_held}
 use Rattle.clone_window.specs.Masses.{is_constant, is_expression}
 use Rattle.go_stmts_final_types.specs.Known.{IsKnown, AreKnown, AreOwn, DeclaresOwn, is_object}
 use Rattle.go_function_holes.specs.Holes.{is_first_constant, applies, calls_no_constant, none_called}
@@ -198,12 +198,14 @@ settled-applies t form.Call ps = ap not (settled-first t ps)
 settled-applies t (form.Selector n) ps = ap not (settled-first t ps)
 settled-applies t f ps = refl
 
+own-first : (b : Bool) (f : Form) (i j : ℕ) (l m : Label TypeTree) (qs rs ps : Typeds TypeTree) → AreOwn (more (if b then typed f i j l qs else typed f i j m rs) ps) → (is_object f ≡ false) × AreOwn ps
+own-first true f i j l m qs rs ps h = h
+own-first false f i j l m qs rs ps h = h
+
 settled-own : (t : TypeTree) (ps : Typeds TypeTree) → AreOwn (all_settled t ps) → AreOwn ps
 settled-own t none h = tt
-settled-own t (more (typed f i j l qs) ps) h = by (takes_type l.sort) h where
-  by : (b : Bool) → AreOwn (more (if b then typed f i j (record l { sort = retyped t l.sort }) (all_settled t qs) else typed f i j l qs) (all_settled t ps)) → AreOwn (more (typed f i j l qs) ps)
-  by true u = (u.0, settled-own t ps u.1)
-  by false u = (u.0, settled-own t ps u.1)
+settled-own t (more (typed f i j l qs) ps) h =
+    let u = own-first (takes_type l.sort) f i j (record l { sort = retyped t l.sort }) l (all_settled t qs) qs (all_settled t ps) h in (u.0, settled-own t ps u.1)
 settled-own t (skip ps) h = settled-own t ps h
 
 settled-declares : (t : TypeTree) (f : Form) (ps : Typeds TypeTree) → DeclaresOwn f (all_settled t ps) → DeclaresOwn f ps
@@ -212,10 +214,9 @@ settled-declares t f ps h = tt
 
 mutual
   pub unsettled : (t : TypeTree) (x : Part) → Sound (settled t x) → Sound x
-  unsettled t (typed f i j l ps) = by (takes_type l.sort) where
-    by : (b : Bool) → Sound (if b then typed f i j (record l { sort = retyped t l.sort }) (all_settled t ps) else typed f i j l ps) → Sound (typed f i j l ps)
-    by true h = (sym (retyped-unknown t l.sort) ∙ h.0, sym (settled-applies t f ps) ∙ h.1, settled-declares t f ps h.2, all-unsettled t ps h.3)
-    by false h = h
+  unsettled t (typed f i j l ps) =
+      either (λ (y : Part). Sound y → Sound (typed f i j l ps)) (takes_type l.sort) (typed f i j (record l { sort = retyped t l.sort }) (all_settled t ps)) (typed f i j l ps)
+      (λ e h. (sym (retyped-unknown t l.sort) ∙ h.0, sym (settled-applies t f ps) ∙ h.1, settled-declares t f ps h.2, all-unsettled t ps h.3)) (λ e h. h)
 
   all-unsettled : (t : TypeTree) (ps : Typeds TypeTree) → AllSound (all_settled t ps) → AllSound ps
   all-unsettled t none h = tt

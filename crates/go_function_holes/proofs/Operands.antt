@@ -1,13 +1,13 @@
 -- The holes of an expression stand in its tree: each kind, and whole trees.
-use Rattle.std.proofs.Common.{◌≡◌, ◌∙◌, ℕ, zero, suc, ◌-◌, Bool, true, false, if◌then◌else◌, List, [], ◌∷◌, ◌++◌, Option, Some, None, refl, sym, ap, subst, append_assoc, append-nil}
-use Rattle.std.specs.Prelude.{◌&&◌, ◌||◌, not}
+use Rattle.std.proofs.Common.{◌≡◌, ◌∙◌, ℕ, suc, ◌-◌, Bool, true, false, if◌then◌else◌, List, [], ◌∷◌, ◌++◌, Option, Some, None, refl, sym, ap, subst, append_assoc, append-nil}
+use Rattle.std.specs.Prelude.{◌&&◌, ◌||◌}
 use Rattle.go_grammar.specs.declared.kind.Category.{Category}
 use Rattle.go_grammar.specs.declared.kind.Category.TheVariants as category
 use Rattle.go_grammar.specs.declared.kind.Kind.{Kind}
 use Rattle.go_grammar.specs.declared.kind.Kind.TheVariants as kind
 use Rattle.go_grammar.specs.Categories.{within, place_of, is_expression}
 use Rattle.go_grammar.specs.Grammar.{rule}
-use Rattle.go_grammar.specs.Rules.{Items, Rule}
+use Rattle.go_grammar.specs.Rules.{Rule}
 use Rattle.go_grammar.specs.Trees.{Tree, node, Trees, kind_of, first, last}
 use Rattle.go_grammar.specs.Trees as syntax
 use Rattle.go_rewriting.specs.Replacing.{next_category, next_rule}
@@ -20,29 +20,27 @@ use Rattle.go_typed.specs.declared.form.Form.{Form}
 use Rattle.go_typed.specs.declared.form.Form.TheVariants as form
 use Rattle.go_typed.specs.Trees.{typed, Typeds, row, list_of, first_of, last_of, form_of, sort_of, label_of, parts_of}
 use Rattle.go_typed.specs.Trees as sort
-use Rattle.go_exprs_rules.specs.declared.fault.TypeFault.{TypeFault}
-use Rattle.go_exprs_rules.specs.Indexes.{value_or_unknown, selector_sort, index_sort}
+use Rattle.go_exprs_rules.specs.Indexes.{value_or_unknown, named_field, selector_sort, index_sort}
 use Rattle.go_exprs_rules.specs.Names.{object_form, declared_form, form_or_type, name_form, name_sort}
-use Rattle.go_exprs_rules.specs.Scopes.{Scope, Hint, value, type_place, callee, declares, free, member}
+use Rattle.go_exprs_rules.specs.Scopes.{Scope, Hint, value, declares, free, member}
 use Rattle.go_exprs_rules.specs.Settling.{Part}
-use Rattle.go_exprs_rules.specs.Sorts.{Stands, is_unknown}
+use Rattle.go_exprs_rules.specs.Sorts.{Stands, is_unknown, is_text, byte, element_of, form_of_value, value_type}
 use Rattle.go_exprs_rules.specs.TypeNodes as type_nodes
 use Rattle.go_stmts_defs.specs.Targets.{is_variable, first_varies}
 use Rattle.go_exprs_rules.specs.Tables.{is_variable_name, varies_in, callee_form, key_form, on_first}
-use Rattle.go_exprs_rules.specs.Tables.{Parts, is_held, held, is_type, cut, first_cut, is_make, has_no_low, bounds_of, is_package, layout}
-use Rattle.go_exprs_rules.specs.Tables.{form_by, sort_by, takes, all_given, own_faults, is_sound, is_placed, made, built_by, built, hint, part_scope}
+use Rattle.go_exprs_rules.specs.Tables.{Parts, is_held, held, is_type, is_make, has_no_low, is_package, layout}
+use Rattle.go_exprs_rules.specs.Tables.{form_by, sort_by, takes, all_given, own_faults, is_sound, made, built_by, built, hint, part_scope}
 use Rattle.go_exprs_rules.specs.Typing.{typing, typings, faults, faults_of_parts}
 use Rattle.clone_window.specs.Masses as masses
 use Rattle.go_stmts_final_types.specs.Shapes.{IsShaped, AreShaped}
-use Rattle.extract_names_derived.specs.Holes.{may_hold_holes}
 use Rattle.go_function_trees.specs.Lists.{Faultless, parts_behind}
-use Rattle.go_function_holes.specs.Holes.{applies, is_operand_place}
-use Rattle.go_function_holes.proofs.Below.{Below, IsPart, Operand}
-use Rattle.go_function_holes.proofs.Holed.{OfHole, Here, Holes, AllHoles, PartHoles, EachHoles, Sound, AllSound, PartSound, EachSound, differ, either, both, is_whole, row-holes, held-holes, each-row}
+use Rattle.go_function_holes.specs.Holes.{is_operand_place}
+use Rattle.go_function_holes.proofs.Below.{Below}
+use Rattle.go_function_holes.proofs.Holed.{OfHole, AllHoles, EachHoles, Sound, EachSound, differ, either, both, is_whole, row-holes, held-holes, each-row}
 use Rattle.go_function_holes.proofs.ExpressionKinds.{is_operand, operand-takes, judges_values, no-type}
-use Rattle.go_function_holes.proofs.Typed.{TypedPart, is_bounds, Row, IsOpen, open-free, rules_behind, behind-there, behind-asked, behind-more, behind-skip, rules-next, shaped-more, shaped-skip, front-faultless, back-faultless, sound-known}
+use Rattle.go_function_holes.proofs.Typed.{TypedPart, is_bounds, Row, open-free, rules_behind, behind-there, behind-asked, behind-more, behind-skip, rules-next, shaped-more, shaped-skip, front-faultless, back-faultless, sound-known}
 use Rattle.go_function_holes.proofs.Typed.{operand-holes, row-holes-all, all-given-holes, all-given-sound, type-cut}
-use Rattle.go_function_holes.proofs.Expressions.{whole, built-whole, place-allows, two-sorted, whole-kind, operand-kind, form-unheld, by-form, not-true, no-whole, placed-expression, placed-literal, shaped-kind}
+use Rattle.go_function_holes.proofs.Expressions.{whole, place-allows, two-sorted, whole-kind, operand-kind, form-unheld, by-form, not-true, no-whole, placed-expression, placed-literal, shaped-kind}
 use Rattle.go_function_holes.proofs.Expressions.{end-holes, Any, Some-parts, told-elements, told-literal, call-holes, bracket-sound}
 
 module _ (c : Category) (s : Scope) (h : Hint) (i j : ℕ) (o : Bool) where
@@ -163,10 +161,10 @@ module _ (c : Category) (s : Scope) (h : Hint) (i j : ℕ) (o : Bool) where
   plain-values k all e xs u = ((λ q. ap judges_values (e xs q)), λ y. tt)
 
   pub operands : (k : Kind) (ps : Trees) (zs : Parts) → is_operand k ≡ true → AreShaped (rule (place_of c) k) ps → Parted k ps zs → Sound (whole s k h i j (layout k zs)) → is_type (sort_by s k h i j (layout k zs)) ≡ false → EachHoles (B k ps) (layout k zs)
-  operands kind.Name ps zs e w g sd t = end-holes _ _ _ _ _ _ _ _ _ ps zs w g
-  operands kind.Integer ps zs e w g sd t = end-holes _ _ _ _ _ _ _ _ _ ps zs w g
-  operands kind.Rune ps zs e w g sd t = end-holes _ _ _ _ _ _ _ _ _ ps zs w g
-  operands kind.Text ps zs e w g sd t = end-holes _ _ _ _ _ _ _ _ _ ps zs w g
+  operands kind.Name ps zs e w g sd t = end-holes (B kind.Name ps) _ c kind.Name ps s h 0 [] ps zs w g
+  operands kind.Integer ps zs e w g sd t = end-holes (B kind.Integer ps) _ c kind.Integer ps s h 0 [] ps zs w g
+  operands kind.Rune ps zs e w g sd t = end-holes (B kind.Rune ps) _ c kind.Rune ps s h 0 [] ps zs w g
+  operands kind.Text ps zs e w g sd t = end-holes (B kind.Text ps) _ c kind.Text ps s h 0 [] ps zs w g
   operands kind.Parenthesized ps zs e w g sd t = parenthesized ps zs w g (sounds kind.Parenthesized zs sd) t
   operands (kind.Unary b) ps zs e w g sd t =
       row-holes-all c (kind.Unary b) i j ps s h (open-free (kind.Unary b) refl refl) o Any (plain-values (kind.Unary b) ps (λ xs q. refl)) (λ n. refl) _ 0 [] ps zs refl tt (refl, tt) w g (sounds (kind.Unary b) zs sd)
@@ -267,7 +265,7 @@ value-none None = refl
 
 selected-none : (rights : Rights) (name : List ℕ) (x : Stands) → masses.is_constant (selector_sort rights name x) ≡ false
 selected-none rights name sort.Package = refl
-selected-none rights name x = value-none _
+selected-none rights name x = value-none (named_field (form_of_value rights x) name)
 
 selector-none : (s : Scope) (h : Hint) (i j : ℕ) (ys : Parts) → masses.is_constant (sort_by s kind.Selector h i j ys) ≡ false
 selector-none s h i j [] = refl
@@ -276,7 +274,8 @@ selector-none s h i j (Some x ∷ []) = selected-none s.rights (s.texts (j - 1))
 selector-none s h i j (Some x ∷ y ∷ ys) = refl
 
 indexed-none : (rights : Rights) (x : Stands) → masses.is_constant (index_sort rights x) ≡ false
-indexed-none rights x = either (λ (y : Stands). masses.is_constant y ≡ false) _ _ (value_or_unknown _) (λ e. refl) (λ e. value-none _)
+indexed-none rights x =
+    let o = element_of (form_of_value rights x) in either (λ (y : Stands). masses.is_constant y ≡ false) (is_text rights x) (sort.Value byte) (value_or_unknown o) (λ e. refl) (λ e. value-none o)
 
 bracketed-none : (s : Scope) (h : Hint) (i j : ℕ) (ys : Parts) → masses.is_constant (sort_by s kind.Bracketed h i j ys) ≡ false
 bracketed-none s h i j [] = refl
@@ -284,8 +283,8 @@ bracketed-none s h i j (None ∷ ys) = refl
 bracketed-none s h i j (Some x ∷ []) = refl
 bracketed-none s h i j (Some x ∷ Some y ∷ []) = indexed-none s.rights (sort_of x)
 bracketed-none s h i j (Some x ∷ None ∷ []) = refl
-bracketed-none s h i j (Some x ∷ None ∷ z ∷ []) = value-none _
-bracketed-none s h i j (Some x ∷ Some y ∷ z ∷ []) = value-none _
+bracketed-none s h i j (Some x ∷ None ∷ z ∷ []) = value-none (value_type (sort_of x))
+bracketed-none s h i j (Some x ∷ Some y ∷ z ∷ []) = value-none (value_type (sort_of x))
 bracketed-none s h i j (Some x ∷ None ∷ z ∷ w ∷ ys) = refl
 bracketed-none s h i j (Some x ∷ Some y ∷ z ∷ w ∷ ys) = refl
 

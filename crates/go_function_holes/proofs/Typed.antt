@@ -1,46 +1,31 @@
 -- The holes of an expression stand in its tree.
-use Rattle.std.proofs.Common.{◌≡◌, ◌∙◌, ℕ, zero, suc, ◌-◌, Bool, true, false, if◌then◌else◌, List, [], ◌∷◌, ◌++◌, Option, Some, None, refl, sym, ap, subst, append_assoc, append-nil}
-use Rattle.std.specs.Prelude.{◌&&◌, ◌||◌, not, nat_le}
+use Rattle.std.proofs.Common.{◌≡◌, ◌∙◌, ℕ, zero, suc, Bool, true, false, List, [], ◌∷◌, ◌++◌, Option, Some, None, refl, sym, ap}
 use Rattle.go_grammar.specs.declared.kind.Category.{Category}
-use Rattle.go_grammar.specs.declared.kind.Category.TheVariants as category
 use Rattle.go_grammar.specs.declared.kind.Kind.{Kind}
 use Rattle.go_grammar.specs.declared.kind.Kind.TheVariants as kind
-use Rattle.go_grammar.specs.declared.kind.Level.TheVariants as level
-use Rattle.go_grammar.specs.declared.kind.Place.{Place}
-use Rattle.go_grammar.specs.declared.kind.Place.TheVariants as place
-use Rattle.go_grammar.specs.Categories.{within, place_of, is_expression, tightness}
-use Rattle.go_grammar.specs.Grammar.{rule}
-use Rattle.go_grammar.specs.Rules.{Items, Rule, End, Then, Maybe, Unless, Many, item}
+use Rattle.go_grammar.specs.Categories.{is_expression}
+use Rattle.go_grammar.specs.Rules.{Rule, End, Then, Maybe, Unless, Many, item}
 use Rattle.go_grammar.specs.Trees.{Tree, node, Trees, kind_of, first, last}
 use Rattle.go_grammar.specs.Trees as syntax
-use Rattle.go_tokens.specs.declared.token.TokenKind.{TokenKind}
-use Rattle.go_rewriting.specs.Replacing.{subtree_in, asked_in, takes_level, next_category, next_rule}
+use Rattle.go_rewriting.specs.Replacing.{subtree_in, asked_in, next_category, next_rule}
 use Rattle.go_rewriting.specs.Sites.{may_change, is_free}
 use Rattle.go_types.specs.Relations.{Rights}
-use Rattle.go_types.specs.Trees.{TypeTree}
-use Rattle.go_typed.specs.declared.form.Form.{Form}
-use Rattle.go_typed.specs.declared.form.Form.TheVariants as form
-use Rattle.go_typed.specs.declared.form.Referent.TheVariants as referent
-use Rattle.go_typed.specs.Trees.{typed, Typeds, row, list_of, first_of, last_of, form_of, sort_of, label_of, parts_of}
-use Rattle.go_typed.specs.Trees as sort
+use Rattle.go_typed.specs.Trees.{typed, form_of, sort_of, label_of}
 use Rattle.go_exprs_rules.specs.declared.fault.TypeFault.{TypeFault}
-use Rattle.go_exprs_rules.specs.Faults.{or_else}
-use Rattle.go_exprs_rules.specs.Names.{name_form, place_failing}
-use Rattle.go_exprs_rules.specs.Scopes.{Scope, Hint, value, type_place, callee, element, member, elided}
+use Rattle.go_exprs_rules.specs.Names.{place_failing}
+use Rattle.go_exprs_rules.specs.Scopes.{Scope, Hint, type_place}
 use Rattle.go_exprs_rules.specs.Settling.{Part, Take}
-use Rattle.go_exprs_rules.specs.Sorts.{Stands, is_unknown, underlying_in}
-use Rattle.go_exprs_rules.specs.Tables.{Parts, is_held, held, is_type, leaf, cut, first_cut, is_make, is_make_call, call_parts, has_no_low, bounds_of, bracketed_parts, is_package, selector_parts, behind_first, layout, callee_form, key_form, selector_form, bracketed_form, form_by, sort_by, takes, take_optional, all_given, failing, placing, own_faults, is_judged, no_faults, is_sound, is_placed, made, built_by, built, hint, part_scope, element_told, element_in, argument_told, call_told, on_optional, on_one}
-use Rattle.go_exprs_rules.specs.Literals.{literal_sort}
-use Rattle.go_exprs_rules.specs.Typing.{typing, typings, faults, faults_of_parts}
+use Rattle.go_exprs_rules.specs.Sorts.{is_unknown}
+use Rattle.go_exprs_rules.specs.Tables.{Parts, is_held, is_type, leaf, cut, all_given, is_placed, hint}
 use Rattle.go_stmts_defs.specs.Targets.{is_variable}
 use Rattle.clone_window.specs.Masses as masses
 use Rattle.go_stmts_final_types.specs.Shapes.{IsShaped, AreShaped}
 use Rattle.extract_names_derived.specs.Holes.{may_hold_holes, may_be_replaced}
 use Rattle.go_function_trees.specs.Lists.{Faultless, parts_behind}
-use Rattle.go_function_holes.specs.Holes.{applies, is_operand_place}
+use Rattle.go_function_holes.specs.Holes.{is_operand_place}
 use Rattle.go_function_holes.proofs.Below.{Below, IsPart, Operand, operand-part}
-use Rattle.go_function_holes.proofs.Holed.{OfHole, Here, Holes, AllHoles, PartHoles, EachHoles, Sound, AllSound, PartSound, EachSound, differ, either, both, is_whole, given-holes, row-holes, behind-holes, ungiven, each-row}
-use Rattle.go_function_holes.proofs.ExpressionKinds.{is_operand, operand-takes, expression-kind, judges_values, no-type, a-type}
+use Rattle.go_function_holes.proofs.Holed.{OfHole, Holes, PartHoles, EachHoles, Sound, PartSound, EachSound, differ, either, is_whole, given-holes, ungiven}
+use Rattle.go_function_holes.proofs.ExpressionKinds.{judges_values, a-type}
 
 -- ---- one part
 
@@ -59,7 +44,7 @@ pub record TypedPart (c : Category) (p : Tree) (h : Hint) (x : Part) : Type 0 wh
   -- a variable is no constant that names none
   pub variable : (rights : Rights) → is_variable rights x ≡ true → masses.is_constant (sort_of x) ≡ true → (label_of x).varies ≡ true
 
-sound-known : (x : Part) → Sound x → is_unknown (sort_of x) ≡ false
+pub sound-known : (x : Part) → Sound x → is_unknown (sort_of x) ≡ false
 sound-known (typed f i j l ps) h = h.0
 
 -- ---- parts by their numbers
@@ -155,6 +140,10 @@ pub record IsOpen (k : Kind) : Type 0 where
 pub open-free : (k : Kind) → may_hold_holes k ≡ true → is_free k ≡ true → IsOpen k
 open-free k e f = record { holds = e; change = λ n path. free-change k n path f }
 
+-- what is told of all parts behind so many typed ones
+abbrev pub ToldValues : Kind → Trees → Scope → Hint → (Parts → Type 0) → Type 0
+ToldValues k all s h C = (xs : Parts) → C xs → ((q : Kind) → judges_values (hint s k h all xs q) ≡ true) × ((y : Option Part) → C (xs ++ y ∷ []))
+
 module _ (c : Category) (k : Kind) (i j : ℕ) (all : Trees) (s : Scope) (h : Hint) (open_kind : IsOpen k) where
   abbrev P : Bool → OfHole
   P o = Below o c (node k i j all)
@@ -186,11 +175,7 @@ module _ (c : Category) (k : Kind) (i j : ℕ) (all : Trees) (s : Scope) (h : Hi
   operand-skip (Unless ws d us r) ps w e = e.1
   operand-skip (Many ws l) ps w e = absurd w
 
-  -- what is told of all parts behind so many typed ones
-  abbrev pub ToldValues : (Parts → Type 0) → Type 0
-  ToldValues C = (xs : Parts) → C xs → ((q : Kind) → judges_values (hint s k h all xs q) ≡ true) × ((y : Option Part) → C (xs ++ y ∷ []))
-
-  pub row-holes-all : (o : Bool) (C : Parts → Type 0) → ToldValues C → ((n : ℕ) → may_be_replaced o k (suc n) ≡ true) → (r : Rule) (n : ℕ) (xs : Parts) (ps : Trees) (zs : Parts)
+  pub row-holes-all : (o : Bool) (C : Parts → Type 0) → ToldValues k all s h C → ((n : ℕ) → may_be_replaced o k (suc n) ≡ true) → (r : Rule) (n : ℕ) (xs : Parts) (ps : Trees) (zs : Parts)
       → may_be_replaced o k n ≡ true → C xs → OperandRule r → AreShaped r ps → Row c k all s h r n xs ps zs → EachSound zs → EachHoles (P o) zs
   row-holes-all o C told rep r n xs syntax.none [] first u e w g sd = tt
   row-holes-all o C told rep r n xs syntax.none (z ∷ zs) first u e w g sd = absurd g
@@ -210,7 +195,7 @@ module _ (c : Category) (k : Kind) (i j : ℕ) (all : Trees) (s : Scope) (h : Hi
 -- ---- what is laid out and given
 
 module _ (P : OfHole) where
-  all-given-holes : (ks : List Take) (ys : Parts) → EachHoles P ys → EachHoles P (all_given ks ys)
+  pub all-given-holes : (ks : List Take) (ys : Parts) → EachHoles P ys → EachHoles P (all_given ks ys)
   all-given-holes [] ys h = h
   all-given-holes (k ∷ ks) [] h = tt
   all-given-holes (k ∷ ks) (None ∷ ys) h = (tt, all-given-holes ks ys h.1)
@@ -222,22 +207,22 @@ module _ (P : OfHole) where
   pub cut-holes : (y : Part) → (is_type (sort_of y) ≡ false → Holes P y) → PartHoles P (cut (Some y))
   cut-holes y g = either (PartHoles P) (is_type (sort_of y)) (Some (leaf y)) (Some y) (λ e. leaf-holes y) g
 
-all-given-sound : (ks : List Take) (ys : Parts) → EachSound (all_given ks ys) → EachSound ys
+pub all-given-sound : (ks : List Take) (ys : Parts) → EachSound (all_given ks ys) → EachSound ys
 all-given-sound [] ys h = h
 all-given-sound (k ∷ ks) [] h = tt
 all-given-sound (k ∷ ks) (None ∷ ys) h = (tt, all-given-sound ks ys h.1)
 all-given-sound (k ∷ ks) (Some y ∷ ys) h = (ungiven k y h.0, all-given-sound ks ys h.1)
 
-cut-known : (y : Part) → PartSound (cut (Some y)) → is_unknown (sort_of y) ≡ false
+pub cut-known : (y : Part) → PartSound (cut (Some y)) → is_unknown (sort_of y) ≡ false
 cut-known y h = either (λ (z : Option Part). PartSound z → is_unknown (sort_of y) ≡ false) (is_type (sort_of y)) (Some (leaf y)) (Some y) (λ e u. leafed y u) (λ e u. sound-known y u) h where
   leafed : (z : Part) → Sound (leaf z) → is_unknown (sort_of z) ≡ false
   leafed (typed f i j l ps) u = u.0
 
-cut-sound : (y : Part) → is_type (sort_of y) ≡ false → PartSound (cut (Some y)) → Sound y
+pub cut-sound : (y : Part) → is_type (sort_of y) ≡ false → PartSound (cut (Some y)) → Sound y
 cut-sound y e h = either (λ (z : Option Part). PartSound z → Sound y) (is_type (sort_of y)) (Some (leaf y)) (Some y) (λ t u. absurd (differ (sym e ∙ t))) (λ t u. u) h
 
 -- where a type has to stand nothing but a type is, and that is cut
-type-cut : (P : OfHole) (c : Category) (p : Tree) (y : Part) → is_placed (kind_of p) ≡ true → TypedPart c p type_place y → PartSound (cut (Some y)) → PartHoles P (cut (Some y))
+pub type-cut : (P : OfHole) (c : Category) (p : Tree) (y : Part) → is_placed (kind_of p) ≡ true → TypedPart c p type_place y → PartSound (cut (Some y)) → PartHoles P (cut (Some y))
 type-cut P c p y e part h =
     let known = cut-known y h in
     let q = part.placed e known in

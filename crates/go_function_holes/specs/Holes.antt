@@ -7,7 +7,6 @@ use Rattle.go_grammar.specs.Categories.{is_expression}
 use Rattle.go_grammar.specs.Trees.{Tree, kind_of, first, last}
 use Rattle.go_rewriting.specs.Replacing.{subtree_at, asked_at, takes_level}
 use Rattle.go_rewriting.specs.Sites.{whole, is_clear}
-use Rattle.go_tree.specs.Views.{view}
 use Rattle.go_types.specs.Trees.{TypeTree}
 use Rattle.go_typed.specs.declared.form.Form.{Form}
 use Rattle.go_typed.specs.declared.form.Form.TheVariants as form
