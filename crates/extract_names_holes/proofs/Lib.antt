@@ -1,0 +1,6 @@
+mod Inserted
+mod Placed
+mod Runs
+mod Looked
+mod Kept
+mod Chosen
