@@ -1,9 +1,9 @@
 -- The holes of a window that are parameters are expressions in its run of statements.
-use Rattle.std.proofs.Common.{◌≡◌, ◌∙◌, ℕ, zero, suc, ◌+◌, ◌<◌, ◌≤◌, Bool, true, false, List, [], ◌∷◌, ◌++◌, Option, Some, None, refl, sym, ap, subst, arith}
+use Rattle.std.proofs.Common.{◌≡◌, ◌∙◌, ℕ, suc, ◌+◌, ◌<◌, ◌≤◌, Bool, true, false, List, [], ◌∷◌, ◌++◌, Option, Some, None, refl, sym, ap, subst, arith}
 use Rattle.std.specs.Prelude.{if◌then◌else◌, slice_get}
 use Rattle.go_grammar.specs.Trees.{Trees, first, parts}
 use Rattle.go_rewriting.specs.Lists.{run_at}
-use Rattle.go_rewriting.specs.Places.{Range, range, carries, Ascending}
+use Rattle.go_rewriting.specs.Places.{range, carries}
 use Rattle.go_types.specs.Trees.{TypeTree}
 use Rattle.go_typed.specs.declared.window.Window.{Window}
 use Rattle.go_typed.specs.Contents.{Content, FuncContent}
@@ -13,7 +13,7 @@ use Rattle.param_choose.specs.Choosing.{HoleParameter, type_in, parameter_with, 
 use Rattle.param_choose.specs.Holes.{Hole, holes_among}
 use Rattle.param_choose.specs.Members.{Member}
 use Rattle.go_function_trees.specs.Functions.{WindowStands}
-use Rattle.go_function_holes.specs.Holes.{HoleOfWindow, HolesStand, LieApart}
+use Rattle.go_function_holes.specs.Holes.{HoleOfWindow, LieApart}
 use Rattle.extract_names_holes.specs.Chosen.{ChosenHolesAreSpots, ChosenSpots, parameter_ranges}
 use Rattle.extract_names_holes.specs.Spots.{Spot, spot_of, spot_ranges}
 use Rattle.extract_names_holes.proofs.Placed.{ascend_from}

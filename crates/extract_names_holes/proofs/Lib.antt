@@ -4,3 +4,4 @@ mod Runs
 mod Looked
 mod Kept
 mod Chosen
+mod Edges

@@ -90,7 +90,7 @@ module _ (ts : List TokenKind) where
       let plain : is_plain k ≡ true = expression_plain k e in
       (plain_holds k plain, spells_plain ps (rule (place_of c) k) i j (rule_plain (place_of c) k plain) h.1)
 
-  statement_at : (n i j : ℕ) (ps : Trees) (t : Tree) → DeriveWithin ts i j ps → subtree_in n [] ps ≡ Some t → Derives ts category.Statement t
+  pub statement_at : (n i j : ℕ) (ps : Trees) (t : Tree) → DeriveWithin ts i j ps → subtree_in n [] ps ≡ Some t → Derives ts category.Statement t
   statement_at n i j none t d e = absurd cc
   statement_at zero i j (more p ps) t d e = let same : p ≡ t = cc in subst (λ z. Derives ts category.Statement z) same d.0
   statement_at (suc n) i j (more p ps) t d e = statement_at n i j ps t d.3 e
@@ -102,7 +102,7 @@ module _ (ts : List TokenKind) where
   statements_inner i j (more p ps) d = (derives_inner ts p category.Statement refl d.0, statements_inner i j ps d.3)
   statements_inner i j (skip ps) d = statements_inner i j ps d
 
-below_top : (n : ℕ) (path : List ℕ) (ps : Trees) (t s : Tree) → subtree_in n [] ps ≡ Some t → subtree_in n path ps ≡ Some s → subtree_at path t ≡ Some s
+pub below_top : (n : ℕ) (path : List ℕ) (ps : Trees) (t s : Tree) → subtree_in n [] ps ≡ Some t → subtree_in n path ps ≡ Some s → subtree_at path t ≡ Some s
 below_top n path none t s e f = absurd cc
 below_top zero path (more p ps) t s e f = let same : p ≡ t = cc in subst (λ z. subtree_at path z ≡ Some s) same f
 below_top (suc n) path (more p ps) t s e f = below_top n path ps t s e f

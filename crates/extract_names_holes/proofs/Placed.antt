@@ -84,7 +84,7 @@ row_order i j (skip ps) h = row_order i j ps h
 
 -- a subtree lies inside
 mutual
-  sub_order : (path : List ℕ) (t s : Tree) → InOrder t → subtree_at path t ≡ Some s → (first t ≤ first s) × (first s < last s) × (last s ≤ last t)
+  pub sub_order : (path : List ℕ) (t s : Tree) → InOrder t → subtree_at path t ≡ Some s → (first t ≤ first s) × (first s < last s) × (last s ≤ last t)
   sub_order [] t s h e = let same : t ≡ s = cc in subst (λ z. (first t ≤ first z) × (first z < last z) × (last z ≤ last t)) same (omega arith, tree_grows t h, omega arith)
   sub_order (n ∷ path) (node k a b ps) s h e = sub_row n path ps s a b h.1 e
 

@@ -1,5 +1,5 @@
 -- Expressions in a run of statements that names stand in the place of, each found by a path (Go specification: Operands, Statement lists).
-use Rattle.std.specs.Prelude.{◌≡◌, ℕ, zero, suc, ◌<◌, ◌+◌, ◌≤◌, Bool, true, false, List, [], ◌∷◌, Some, None}
+use Rattle.std.specs.Prelude.{◌≡◌, ℕ, zero, suc, ◌<◌, ◌+◌, ◌≤◌, Bool, true, false, ◌&&◌, not, List, [], ◌∷◌, Some, None}
 use Rattle.std.specs.List.{AllByRecursion}
 use Rattle.go_tokens.specs.declared.token.TokenKind.{TokenKind}
 use Rattle.go_grammar.specs.declared.kind.Category.{Category}
@@ -91,6 +91,31 @@ abbrev mutual
 
 abbrev pub SpotStays : Trees → Spot → Type 0
 SpotStays ps s = EdgesStayIn s.from s.upto s.statement (s.part ∷ s.path) ps
+
+-- the type of a composite literal, where the path ends
+abbrev pub is_literal_part : Kind → ℕ → List ℕ → Bool
+is_literal_part kind.Composite zero [] = true
+is_literal_part k n path = false
+
+abbrev mutual
+  -- The path doesn't lead to the type of a composite literal.
+  pub is_no_literal_type : List ℕ → Tree → Bool
+  is_no_literal_type [] t = true
+  is_no_literal_type (n ∷ path) (node k i j ps) = not (is_literal_part k n path) && no_literal_type_in n path ps
+
+  pub no_literal_type_in : ℕ → List ℕ → Trees → Bool
+  no_literal_type_in n path none = true
+  no_literal_type_in zero path (more p ps) = is_no_literal_type path p
+  no_literal_type_in (suc n) path (more p ps) = no_literal_type_in n path ps
+  no_literal_type_in zero path (skip ps) = true
+  no_literal_type_in (suc n) path (skip ps) = no_literal_type_in n path ps
+
+abbrev pub IsNoType : Trees → Spot → Type 0
+IsNoType ps s = no_literal_type_in s.statement (s.part ∷ s.path) ps ≡ true
+
+-- In a derived run no expression in the place of which a name may stand has such a token, unless it is the type of a composite literal.
+abbrev pub SpotsStay : Type 0
+SpotsStay = (us : List TokenKind) (i j : ℕ) (ps : Trees) (ss : List Spot) → DeriveWithin us i j ps → AllByRecursion (SpotStands ps) ss → AllByRecursion (IsNoType ps) ss → AllByRecursion (SpotStays ps) ss
 
 -- Where no expression has such a token of a node on its own way, these expressions are the holes of a copy.
 abbrev pub SpotsAreHoles : Type 0

@@ -4,7 +4,7 @@ ghost use Rattle.std.specs.Prelude.{ℕ, List};
 ghost use Rattle.std.specs.List.{AllByRecursion};
 ghost use Rattle.go_grammar.specs.Trees.{Trees};
 ghost use Rattle.extract_names_holes.specs.Chosen.{ChosenHolesAreSpots};
-ghost use Rattle.extract_names_holes.specs.Spots.{HolesAreSpots, ReplacesSpots, Spot, SpotStands, SpotsAreHoles, SpotsLook};
+ghost use Rattle.extract_names_holes.specs.Spots.{HolesAreSpots, ReplacesSpots, Spot, SpotStands, SpotsAreHoles, SpotsLook, SpotsStay};
 
 use go_rewriting::laws::subtrees_stand;
 
@@ -19,6 +19,14 @@ pub fn names_stand_in_place()
 pub fn replaced_names_are_holes()
     ensures { SpotsAreHoles }
 {}
+
+/// None has such a token in a derived run, unless it is the type of a composite literal (Go specification: Composite literals, Short variable
+/// declarations).
+pub fn replaced_names_stay_apart()
+    ensures { SpotsStay }
+{
+    subtrees_stand();
+}
 
 /// They declare no names, where the run is derived and stands in a list of a function (Go specification: Declarations and scope).
 pub fn replaced_names_are_looked_up()
