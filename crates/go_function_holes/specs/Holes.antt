@@ -19,7 +19,6 @@ use Rattle.go_exprs_rules.specs.Scopes.{Scope, Hint}
 use Rattle.go_exprs_rules.specs.Tables.{is_type}
 use Rattle.go_exprs_rules.specs.Typing.{typing, faults}
 use Rattle.clone_window.specs.Masses.{is_constant}
-use Rattle.clone_window.specs.Spans.{range_over}
 use Rattle.clone_window.specs.Windows.{window_statements}
 use Rattle.param_choose.specs.Holes.{Hole, holes_in, holes_among}
 use Rattle.go_stmts_final_types.specs.Known.{IsKnown}
@@ -112,11 +111,7 @@ abbrev pub LieApart : {T : Type 0} → ℕ → List (Hole T) → ℕ → Type 0
 LieApart i [] j = i ≤ j
 LieApart i (h ∷ hs) j = (i ≤ h.from) × (h.from < h.upto) × LieApart h.upto hs j
 
+-- Each hole of a window does, and they lie apart.
 pub record HolesStand (c : Content) (w : Window) (f : FuncContent) (r : Range) (s : WindowStands c w f r) : Type 0 where
   pub stand : (n : ℕ) (h : Hole TypeTree) → slice_get (holes_among 0 false (window_statements f.tree w)) n ≡ Some h → HoleOfWindow c w f r s h
   pub apart : LieApart r.from (holes_among 0 false (window_statements f.tree w)) r.to
-
--- Of each window that has a statement, where what its function's nodes stand for is known.
-abbrev pub WindowHolesStand : Content → Type 0
-WindowHolesStand c = (w : Window) (f : FuncContent) (r : Range) → slice_get c.functions w.func ≡ Some f → range_over (window_statements f.tree w) ≡ Some r
-    → IsKnown f.tree → calls_no_constant f.tree ≡ true → (s : WindowStands c w f r) × HolesStand c w f r s
