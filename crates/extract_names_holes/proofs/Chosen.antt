@@ -18,10 +18,11 @@ use Rattle.extract_names_holes.specs.Chosen.{ChosenHolesAreSpots, ChosenSpots, p
 use Rattle.extract_names_holes.specs.Spots.{Spot, spot_of, spot_ranges}
 use Rattle.extract_names_holes.proofs.Placed.{ascend_from}
 use Rattle.extract_names_holes.proofs.Runs.{in_run}
+use Rattle.extract_names_holes.proofs.Typeless.{no_type}
 
 -- from a token further on
 lower : (ps : Trees) (i k j : ℕ) (hs : List (HoleParameter TypeTree)) → i ≤ k → ChosenSpots ps k j hs → ChosenSpots ps i j hs
-lower ps i k j hs le x = record { spots = x.spots; stand = x.stand; ranges = x.ranges; ascend = ascend_from i k j (parameter_ranges hs) le x.ascend }
+lower ps i k j hs le x = record { spots = x.spots; stand = x.stand; typeless = x.typeless; ranges = x.ranges; ascend = ascend_from i k j (parameter_ranges hs) le x.ascend }
 
 module _ (c : Content) (w : Window) (f : FuncContent) (r : windows.Range) (s : WindowStands c w f r) (v : ℕ → ℕ) (own : (n : ℕ) → v (first s.function.declaration + n) ≡ n) (ms : List (Member TypeTree)) (t : Member TypeTree) where
   abbrev run : Trees
@@ -38,12 +39,13 @@ module _ (c : Content) (w : Window) (f : FuncContent) (r : windows.Range) (s : W
       record {
         spots = spot ∷ rest.spots;
         stand = (in_run v s.stands.category s.stands.stood s.front s.others x.number (b + h.from) (b + h.upto) x.hole x.within s.run.has, rest.stand);
+        typeless = (no_type v s.stands.category s.stands.stood s.front s.others x.number (b + h.from) (b + h.upto) x.hole x.within s.run.has, rest.typeless);
         ranges = ap (λ z. range z (v (b + h.upto)) ∷ spot_ranges rest.spots) (own h.from) ∙ ap (λ z. range h.from z ∷ spot_ranges rest.spots) (own h.upto) ∙ ap (λ z. range h.from h.upto ∷ z) rest.ranges;
         ascend = (le, lt, rest.ascend);
       }
 
   picked : (n i : ℕ) (hs : List (Hole TypeTree)) → ((k : ℕ) (h : Hole TypeTree) → slice_get hs k ≡ Some h → HoleOfWindow c w f r s h) → LieApart i hs r.to → ChosenSpots run i r.to (parameters_from ms t n hs)
-  picked n i [] all apart = record { spots = []; stand = tt; ranges = refl; ascend = apart }
+  picked n i [] all apart = record { spots = []; stand = tt; typeless = tt; ranges = refl; ascend = apart }
   picked n i (h ∷ hs) all apart = by (is_parameter ms t n h) (picked (suc n) h.upto hs (λ k g e. all (suc k) g e) apart.2)
     where
       one : (o : Option TypeTree) → ChosenSpots run h.upto r.to (parameters_from ms t (suc n) hs) → ChosenSpots run i r.to (parameter_with t.start n h o ++ parameters_from ms t (suc n) hs)

@@ -42,7 +42,7 @@ ended_at o k m (suc n) (more p ps) e = ended_at o k m n ps e
 ended_at o k m zero (skip ps) e = absurd (true_false false e refl)
 ended_at o k m (suc n) (skip ps) e = ended_at o k m n ps e
 
-type_at : (n : ℕ) (path : List ℕ) (ps : Trees) (p : Tree) → no_literal_type_in n path ps ≡ true → subtree_in n [] ps ≡ Some p → is_no_literal_type path p ≡ true
+pub type_at : (n : ℕ) (path : List ℕ) (ps : Trees) (p : Tree) → no_literal_type_in n path ps ≡ true → subtree_in n [] ps ≡ Some p → is_no_literal_type path p ≡ true
 type_at n path none p e s = absurd cc
 type_at zero path (more q ps) p e s = let same : q ≡ p = cc in subst (λ z. is_no_literal_type path z ≡ true) same e
 type_at (suc n) path (more q ps) p e s = type_at n path ps p e s

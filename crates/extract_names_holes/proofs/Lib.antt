@@ -5,3 +5,4 @@ mod Looked
 mod Kept
 mod Chosen
 mod Edges
+mod Typeless

@@ -23,7 +23,7 @@ many_sub (suc n) number path (skip ps) s lt h e = absurd cc
 plus : (n : ℕ) (path : List ℕ) (ps : Trees) (s : Tree) (m : ℕ) → m ≡ n → subtree_in m path ps ≡ Some s → subtree_in n path ps ≡ Some s
 plus n path ps s m same e = subst (λ z. subtree_in z path ps ≡ Some s) same e
 
-run_sub : (front others number : ℕ) (path : List ℕ) (ps : Trees) (s : Tree) → number ≤ others → has_run front others ps ≡ true → subtree_in (front + number) path ps ≡ Some s → subtree_in number path (run_at front others ps) ≡ Some s
+pub run_sub : (front others number : ℕ) (path : List ℕ) (ps : Trees) (s : Tree) → number ≤ others → has_run front others ps ≡ true → subtree_in (front + number) path ps ≡ Some s → subtree_in number path (run_at front others ps) ≡ Some s
 run_sub front others number path none s le h e = absurd cc
 run_sub zero others number path (more p ps) s le h e = many_sub (suc others) number path (more p ps) s (omega (arith, le)) h (plus number path (more p ps) s (zero + number) (omega arith) e)
 run_sub zero others number path (skip ps) s le h e = absurd cc
@@ -47,7 +47,7 @@ module _ (v : ℕ → ℕ) where
     at_carried [] t s e = let same : t ≡ s = cc in ap (λ z. Some (carry v z)) same
     at_carried (n ∷ path) (node k a b ps) s e = in_carried n path ps s e
 
-    in_carried : (n : ℕ) (path : List ℕ) (ps : Trees) (s : Tree) → subtree_in n path ps ≡ Some s → subtree_in n path (carries v ps) ≡ Some (carry v s)
+    pub in_carried : (n : ℕ) (path : List ℕ) (ps : Trees) (s : Tree) → subtree_in n path ps ≡ Some s → subtree_in n path (carries v ps) ≡ Some (carry v s)
     in_carried n path none s e = absurd cc
     in_carried zero path (more p ps) s e = at_carried path p s e
     in_carried (suc n) path (more p ps) s e = in_carried n path ps s e

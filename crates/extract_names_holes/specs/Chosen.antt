@@ -13,17 +13,18 @@ use Rattle.param_choose.specs.Choosing.{HoleParameter, hole_parameters}
 use Rattle.param_choose.specs.Members.{Member}
 use Rattle.go_function_trees.specs.Functions.{WindowStands}
 use Rattle.go_function_holes.specs.Holes.{HolesStand}
-use Rattle.extract_names_holes.specs.Spots.{Spot, SpotStands, spot_ranges}
+use Rattle.extract_names_holes.specs.Spots.{IsNoType, Spot, SpotStands, spot_ranges}
 
 -- the tokens of the holes that are parameters
 abbrev pub parameter_ranges : List (HoleParameter TypeTree) → List Range
 parameter_ranges [] = []
 parameter_ranges (p ∷ ps) = range p.hole.from p.hole.upto ∷ parameter_ranges ps
 
--- They are expressions in these statements in the place of which names may stand, one behind the other.
+-- They are expressions in these statements in the place of which names may stand, one behind the other, and none is the type of a literal.
 pub record ChosenSpots (ps : Trees) (i j : ℕ) (hs : List (HoleParameter TypeTree)) : Type 0 where
   pub spots : List Spot
   pub stand : AllByRecursion (SpotStands ps) spots
+  pub typeless : AllByRecursion (IsNoType ps) spots
   pub ranges : spot_ranges spots ≡ parameter_ranges hs
   pub ascend : Ascending i (parameter_ranges hs) j
 

@@ -132,3 +132,8 @@ spot_of v c t front number from upto h = record { statement = number; part = h.p
 abbrev pub HolesAreSpots : Type 0
 HolesAreSpots = (v : ℕ → ℕ) (c : Category) (t : Tree) (front others number from upto : ℕ) (h : HoleStands c t (front + number) from upto) → number ≤ others → has_run front others (parts t) ≡ true
     → SpotStands (carries v (run_at front others (parts t))) (spot_of v c t front number from upto h)
+
+-- and none is the type of a composite literal
+abbrev pub HolesAreNoTypes : Type 0
+HolesAreNoTypes = (v : ℕ → ℕ) (c : Category) (t : Tree) (front others number from upto : ℕ) (h : HoleStands c t (front + number) from upto) → number ≤ others → has_run front others (parts t) ≡ true
+    → IsNoType (carries v (run_at front others (parts t))) (spot_of v c t front number from upto h)

@@ -4,7 +4,7 @@ ghost use Rattle.std.specs.Prelude.{ℕ, List};
 ghost use Rattle.std.specs.List.{AllByRecursion};
 ghost use Rattle.go_grammar.specs.Trees.{Trees};
 ghost use Rattle.extract_names_holes.specs.Chosen.{ChosenHolesAreSpots};
-ghost use Rattle.extract_names_holes.specs.Spots.{HolesAreSpots, ReplacesSpots, Spot, SpotStands, SpotsAreHoles, SpotsLook, SpotsStay};
+ghost use Rattle.extract_names_holes.specs.Spots.{HolesAreNoTypes, HolesAreSpots, ReplacesSpots, Spot, SpotStands, SpotsAreHoles, SpotsLook, SpotsStay};
 
 use go_rewriting::laws::subtrees_stand;
 
@@ -39,6 +39,11 @@ pub fn replaced_names_are_looked_up()
 /// lists).
 pub fn holes_are_in_runs()
     ensures { HolesAreSpots }
+{}
+
+/// None of them is the type of a composite literal (Go specification: Composite literals).
+pub fn holes_are_no_types()
+    ensures { HolesAreNoTypes }
 {}
 
 /// So are the holes that a choice makes parameters, one behind the other, where tokens have the places that they have in the window's function
