@@ -1,0 +1,8 @@
+mod Inserted
+mod Placed
+mod Runs
+mod Looked
+mod Kept
+mod Chosen
+mod Edges
+mod Typeless
