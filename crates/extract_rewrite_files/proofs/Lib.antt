@@ -1,0 +1,16 @@
+mod Splits
+mod Written
+mod Ordered
+mod Placed
+mod Sites
+mod Windows
+mod Expressions
+mod HoleCuts
+mod Members
+mod FileEdits
+mod Renewing
+mod CheckedFiles
+mod Texts
+mod Template
+mod Facts
+mod Assembly
