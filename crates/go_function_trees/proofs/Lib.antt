@@ -1,0 +1,7 @@
+mod Listed
+mod Expressions
+mod Held
+mod Bare
+mod Stood
+mod Read
+mod Own
