@@ -25,6 +25,7 @@ use Rattle.edit_apply.specs.declared.edits.Edit.{Edit}
 use Rattle.edit_apply.specs.Applied.{Descends, IsInRange, applied}
 use Rattle.param_choose.specs.Choosing.{chosen_of}
 use Rattle.param_choose.specs.Members.{Member, member_of, members_of, template_of}
+use Rattle.escape_check.specs.Apart as tokens
 use Rattle.escape_check.specs.Places.{file_of, sources_of}
 use Rattle.escape_check.specs.Types.{declared_text}
 use Rattle.extract_texts.specs.Texts.{call_of, call_text, function_for, window_bytes}
@@ -36,14 +37,22 @@ use Rattle.extract_files.specs.Extracted.{ExtractedFilesAreRewritten, with_texts
 use Rattle.extract_files.specs.Files.{called_text, file_text, rewriting_of}
 use Rattle.extract_files.specs.Levels.{CalledFilesHaveOneTree, HasOneTree}
 use Rattle.go_print_laws.specs.Calls.{CallCanBeWritten}
-use Rattle.extract_rewrite_files.specs.Behind.{StandsBehind}
+use Rattle.go_print_laws.specs.Functions.{function_tree}
+use Rattle.go_rewriting.specs.Places.{IsDeclaration}
+use Rattle.extract_files.specs.Functions.{extracted_function}
+use Rattle.extract_files.specs.Holes.{named_trees, named_words}
+use Rattle.extract_texts.specs.Texts as template_text
+use Rattle.extract_rewrite_files.specs.Behind.{StandsBehind, names_for}
 use Rattle.extract_rewrite_files.specs.NewFiles.{BecomesNew, IsNewFile, IsOneOf, behind_file, called_file}
 use Rattle.extract_rewrite_files.proofs.CheckedFiles.{HasText}
+use Rattle.go_function_places.specs.Places.{HavePlaces}
+use Rattle.extract_rewrite_files.proofs.Complete.{InFunction, all_in}
 use Rattle.extract_rewrite_files.proofs.Facts.{Fact, file_read, has_bytes, lexes_of}
-use Rattle.extract_rewrite_files.proofs.FileEdits.{AreEdits, Comes, HasBytes, bytes_file, file_edits, function_there, not_behind, nothing_there}
+use Rattle.extract_rewrite_files.proofs.FileEdits.{AreEdits, Comes, HasBytes, bytes_file, file_edits, function_there, member_there, not_behind, nothing_there}
 use Rattle.extract_rewrite_files.proofs.Placed.{Follow, IsIn, Rises, all_kept, all_placed, all_turned, apart, follow, placed_again, places_rise}
 use Rattle.extract_rewrite_files.proofs.Renewing.{none_behind, one_behind, renewed_is}
-use Rattle.extract_rewrite_files.proofs.Sites.{IsSite, Known}
+use Rattle.extract_rewrite_files.specs.Sites.{IsSite}
+use Rattle.extract_rewrite_files.proofs.Sites.{Known}
 use Rattle.extract_rewrite_files.proofs.Splits.{all_to, same_some}
 use Rattle.extract_rewrite_files.proofs.Windows.{IsMember, called}
 
@@ -64,16 +73,9 @@ record Appended (n : ℕ) (bytes : List ℕ) : Type 0 where
   is_tail : IsTail n tail tokens
   fits : AddedFits (kinds tokens) added
 
-one_more : {A : Type 0} (x y : A) (ys : List A) → IsOneOf x ys → IsOneOf x (y ∷ ys)
-one_more x y ys h = inr h
-
-each_one : {A : Type 0} (xs : List A) → AllByRecursion (λ x. IsOneOf x xs) xs
+pub each_one : {A : Type 0} (xs : List A) → AllByRecursion (λ x. IsOneOf x xs) xs
 each_one [] = tt
 each_one (x ∷ xs) = (inl refl, all_to {P = λ y. IsOneOf y xs} {Q = λ y. IsOneOf y (x ∷ xs)} (λ y h. inr h) xs (each_one xs))
-
-all_and : {A : Type 0} (P Q : A → Type 0) (xs : List A) → AllByRecursion P xs → AllByRecursion Q xs → AllByRecursion (λ x. P x × Q x) xs
-all_and P Q [] h k = tt
-all_and P Q (x ∷ xs) h k = ((h.0, k.0), all_and P Q xs h.1 k.1)
 
 some_text : (o : Option FileText) (b : List ℕ) → option_map (λ g. g.bytes) o ≡ Some b → (g : FileText) × (o ≡ Some g) × (g.bytes ≡ b)
 some_text None b e = absurd cc
@@ -134,7 +136,7 @@ module _ (laws : Laws) (p : PackageView) (name : List ℕ) (ws : List Window) (t
       let then = laws.stay (texts_of p) in_order within.ascends in_range (apart in_order ordered) n x e in
       ap (λ l. option_map (λ g. g.bytes) (slice_get (applied (texts_of p) l) n)) (edits_are ∙ sym (ap reverse again)) ∙ then ∙ ap (λ l. Some (renewed x.bytes 0 (edits_in n l))) again
 
-  module _ (known : AllByRecursion Known_member (members_of c ws)) where
+  module _ (known : AllByRecursion Known_member (members_of c ws)) (have : HavePlaces c) (inside : AllByRecursion (InFunction c have.places) (members_of c ws)) (apart_members : tokens.AllApart (members_of c ws)) where
     abbrev ComesHere : Edit → Type 0
     ComesHere = Comes c name ws t Known_member bytes_known
 
@@ -153,6 +155,14 @@ module _ (laws : Laws) (p : PackageView) (name : List ℕ) (ws : List Window) (t
     function_in : IsIn function in_order
     function_in = all_kept (function ∷ []) (map (window_edit c name ws) (members_of c ws)) function (none_together (members_of c ws) known) (inl refl)
 
+    in_functions : (ms : List (Member TypeTree)) → AllByRecursion Known_member ms → AllByRecursion (InFunction c have.places) ms → AllByRecursion (λ m. Fact c m × InFunction c have.places m) ms
+    in_functions [] a b = tt
+    in_functions (m ∷ ms) a b = ((a.0.0, b.0), in_functions ms a.1 b.1)
+
+    -- the edit of each member is there
+    members_in : AllByRecursion (λ m. IsIn (window_edit c name ws m) in_order) (members_of c ws)
+    members_in = all_in laws.known c (texts_of p) read have name ws (function ∷ []) (members_of c ws) (in_functions (members_of c ws) known inside) apart_members
+
     abbrev AreHere : ℕ → List Edit → Type 0
     AreHere n es = AreEdits c name ws t Known_member bytes_known n 0 es
 
@@ -167,7 +177,7 @@ module _ (laws : Laws) (p : PackageView) (name : List ℕ) (ws : List Window) (t
       in_file m k =
           let q = k.0.0 in
           let at : slice_get c.files (file_of (sources_of c) m) ≡ Some f = ap (slice_get c.files) k.1 ∙ e in
-          record { there = at; site = subst (λ g. IsSite g m) (same_some q.file f (sym q.there ∙ at)) q.site; written = k.0.1 }
+          record { there = at; site = subst (λ g. IsSite g m) (same_some q.place.file f (sym q.place.there ∙ at)) q.place.site; written = k.0.1 }
 
       ends_here : (m : Member TypeTree) → Known_member m × (file_of (sources_of c) m ≡ n) → (member_of c m.window ≡ Some m) × ((window_bytes (sources_of c) m).end ≤ length text_here.text.bytes)
       ends_here m k =
@@ -175,6 +185,11 @@ module _ (laws : Laws) (p : PackageView) (name : List ℕ) (ws : List Window) (t
           let same : b.file ≡ f = same_some b.file f (sym b.there ∙ ap (slice_get c.files) k.1 ∙ e) in
           let long : length b.file.tokens.text ≡ length text_here.text.bytes = ap (λ (g : FileTree). length g.tokens.text) same ∙ ap length text_here.read.bytes in
           (k.0.0.own, (let le = b.within in omega (arith, le, long)))
+
+      all_here : (ms : List (Member TypeTree)) → AllByRecursion Known_member ms → AllByRecursion (λ m. IsIn (window_edit c name ws m) in_order) ms
+          → AllByRecursion (λ m. file_of (sources_of c) m ≡ n → IsOneOf (window_edit c name ws m) (map (window_edit c name ws) (edits_here n).members)) ms
+      all_here [] a b = tt
+      all_here (m ∷ ms) a b = ((λ same. member_there c name ws t Known_member bytes_known n in_order (edits_here n) m a.0 same b.0), all_here ms a.1 b.1)
 
       -- the file, with what is appended, and the edit that appends it
       with_tail : (tb : List ℕ) (b : Appended n tb) → tb ≡ behind_file c name ws t n
@@ -207,6 +222,7 @@ module _ (laws : Laws) (p : PackageView) (name : List ℕ) (ws : List Window) (t
             is = record {
               members = r.members;
               are = all_to {P = λ m. Known_member m × (file_of (sources_of c) m ≡ n)} {Q = λ m. IsOneOf m (members_of c ws) × (file_of (sources_of c) m ≡ n)} (λ m k. (k.0.2, k.1)) r.members r.are;
+              all = all_here (members_of c ws) known members_in;
               windows = cutting.windows;
               rest = cutting.rest;
               text = text;
@@ -221,3 +237,32 @@ module _ (laws : Laws) (p : PackageView) (name : List ℕ) (ws : List Window) (t
               one_tree = subst (HasOneTree n) (sym bytes) one;
             };
           }
+
+      -- nothing is appended
+      unchanged_end : (n ≡ file_of (sources_of c) t → ⊥) → [] ≡ behind_file c name ws t n → BecomesNew p name ws t n f
+      unchanged_end other is =
+          let none = nothing_there c name ws t Known_member bytes_known n in_order (edits_here n) other in
+          with_tail [] (record { tail = []; tokens = []; added = None; is_text = no_text; is_tail = no_tail n; fits = refl }) is
+          (λ at le. ap (renewed text_here.text.bytes at) none ∙ none_behind text_here.text.bytes at le)
+
+      -- the function is
+      function_end : n ≡ file_of (sources_of c) t → function_for c name ws ≡ behind_file c name ws t n → StandsBehind c name ws t → BecomesNew p name ws t n f
+      function_end same is b =
+          let one = function_there c name ws t Known_member bytes_known n in_order (edits_here n) same function_in in
+          let long : length (template_text.file_text (sources_of c) t) ≡ length text_here.text.bytes = ap (λ o. length (template_text.text_of o)) (ap (slice_get c.files) (sym same) ∙ e) ∙ ap length text_here.read.bytes in
+          with_tail (function_for c name ws) (record {
+            tail = b.stands.text;
+            tokens = b.stands.tokens;
+            added = Some (function_tree (extracted_function (sources_of c) name (names_for c name ws) t (chosen_of c ws)) (length (named_words b.template)) (named_trees b.template));
+            is_text = b.stands.is_text;
+            is_tail = subst (λ k. IsTail k b.stands.text b.stands.tokens) (sym same) b.stands.tail;
+            fits = subst (λ ks. IsDeclaration ks (function_tree (extracted_function (sources_of c) name (names_for c name ws) t (chosen_of c ws)) (length (named_words b.template)) (named_trees b.template))) (sym b.stands.kinds_are) b.stands.declaration;
+          }) is
+          (λ at le. ap (renewed text_here.text.bytes at) one ∙ one_behind text_here.text.bytes function long long at le)
+
+      pub file_new : (n ≡ file_of (sources_of c) t → StandsBehind c name ws t) → BecomesNew p name ws t n f
+      file_new b = by (n == file_of (sources_of c) t) refl
+        where
+          by : (q : Bool) → (n == file_of (sources_of c) t) ≡ q → BecomesNew p name ws t n f
+          by true k = let same = eqb-true n (file_of (sources_of c) t) k in function_end same (ap (λ x. cond x (function_for c name ws) []) (sym k)) (b same)
+          by false k = unchanged_end (λ same. let yes : (n == file_of (sources_of c) t) ≡ true = eq-eqb n (file_of (sources_of c) t) same in absurd cc) (ap (λ x. cond x (function_for c name ws) []) (sym k))

@@ -28,16 +28,15 @@ use Rattle.go_function_places.specs.Places as places
 use Rattle.extract_rewrite_files.proofs.CheckedFiles.{HasText, text_there}
 use Rattle.extract_rewrite_files.proofs.FileEdits.{HasBytes}
 use Rattle.extract_rewrite_files.proofs.Ordered.{ends_before, ends_within, inside_some}
-use Rattle.extract_rewrite_files.proofs.Sites.{IsSite, Known, range_some, site_range}
+use Rattle.extract_rewrite_files.specs.Sites.{HasSite}
+use Rattle.extract_rewrite_files.proofs.Sites.{Known, range_some, site_range}
 use Rattle.extract_rewrite_files.proofs.Splits.{all_at, same_some}
 use Rattle.extract_rewrite_files.proofs.Written.{first_written}
 
 -- A member of its window, at a path of the tree of its file, behind the first token of that.
 pub record Fact (c : Content) (m : Member TypeTree) : Type 0 where
   pub own : member_of c m.window ≡ Some m
-  pub file : FileTree
-  pub there : slice_get c.files (file_of (sources_of c) m) ≡ Some file
-  pub site : IsSite file m
+  pub place : HasSite c m
   pub behind : 0 < m.first
 
 module _ (known : Known) (c : Content) (texts : List FileText) (read : AreRead 0 texts c.files) where
@@ -50,31 +49,35 @@ module _ (known : Known) (c : Content) (texts : List FileText) (read : AreRead 0
   lexes_of n f h = subst (λ k. Lexes k h.read.lexing.text f.tokens.tokens f.tokens.comments) (let z : 0 + n ≡ n = omega arith in z) h.read.lexing.lexes
 
   module _ (m : Member TypeTree) (q : Fact c m) where
-    abbrev here : HasText texts (file_of (sources_of c) m) 0 q.file
-    here = file_read (file_of (sources_of c) m) q.file q.there
+    abbrev here : HasText texts (file_of (sources_of c) m) 0 q.place.file
+    here = file_read (file_of (sources_of c) m) q.place.file q.place.there
 
-    abbrev lexed : Lexes (file_of (sources_of c) m) here.read.lexing.text q.file.tokens.tokens q.file.tokens.comments
-    lexed = lexes_of (file_of (sources_of c) m) q.file here
+    abbrev lexed : Lexes (file_of (sources_of c) m) here.read.lexing.text q.place.file.tokens.tokens q.place.file.tokens.comments
+    lexed = lexes_of (file_of (sources_of c) m) q.place.file here
 
-    abbrev range : IsRange q.file.tokens.tokens (m.first + m.from) (m.first + m.upto) (window_bytes (sources_of c) m).start (window_bytes (sources_of c) m).end
-    range = site_range known (file_of (sources_of c) m) q.file here.read.lexing.text lexed here.read.tree.derives (sources_of c) m q.there q.site
+    abbrev pub range_of_member : IsRange q.place.file.tokens.tokens (m.first + m.from) (m.first + m.upto) (window_bytes (sources_of c) m).start (window_bytes (sources_of c) m).end
+    range_of_member = site_range known (file_of (sources_of c) m) q.place.file here.read.lexing.text lexed here.read.tree.derives (sources_of c) m q.place.there q.place.site
 
-    ordered : AreOrdered 0 (map span_of q.file.tokens.tokens) (width here.read.lexing.text)
-    ordered = (placed (file_of (sources_of c) m) here.read.lexing.text q.file.tokens.tokens q.file.tokens.comments (width here.read.lexing.text) lexed refl).tokens
+    ordered : AreOrdered 0 (map span_of q.place.file.tokens.tokens) (width here.read.lexing.text)
+    ordered = (placed (file_of (sources_of c) m) here.read.lexing.text q.place.file.tokens.tokens q.place.file.tokens.comments (width here.read.lexing.text) lexed refl).tokens
 
-    long : width here.read.lexing.text ≡ length q.file.tokens.text
+    -- the tokens of its file, in order up to a place
+    pub tokens_ordered : (size : ℕ) × AreOrdered 0 (map span_of q.place.file.tokens.tokens) size
+    tokens_ordered = (width here.read.lexing.text, ordered)
+
+    long : width here.read.lexing.text ≡ length q.place.file.tokens.text
     unfolding width
     long = ap length (here.read.lexing.is_text.encoded ∙ sym here.read.bytes)
 
     pub has_bytes : HasBytes c m
     has_bytes = record {
-      file = q.file;
-      there = q.there;
-      some = range_some known (file_of (sources_of c) m) q.file here.read.lexing.text lexed here.read.tree.derives (m.first + m.from) (m.first + m.upto) (window_bytes (sources_of c) m).start (window_bytes (sources_of c) m).end range;
+      file = q.place.file;
+      there = q.place.there;
+      some = range_some known (file_of (sources_of c) m) q.place.file here.read.lexing.text lexed here.read.tree.derives (m.first + m.from) (m.first + m.upto) (window_bytes (sources_of c) m).start (window_bytes (sources_of c) m).end range_of_member;
       within = (
-          let r = range in
-          let e : end_in (slice_get q.file.tokens.tokens (m.first + m.upto - 1)) ≡ r.last.span.end = ap end_in r.has_last in
-          let le = ends_within q.file.tokens.tokens 0 (width here.read.lexing.text) ordered (m.first + m.upto - 1) (inside_some q.file.tokens.tokens (m.first + m.upto - 1) r.last r.has_last) in
+          let r = range_of_member in
+          let e : end_in (slice_get q.place.file.tokens.tokens (m.first + m.upto - 1)) ≡ r.last.span.end = ap end_in r.has_last in
+          let le = ends_within q.place.file.tokens.tokens 0 (width here.read.lexing.text) ordered (m.first + m.upto - 1) (inside_some q.place.file.tokens.tokens (m.first + m.upto - 1) r.last r.has_last) in
           omega (arith, e, le, r.ends, long)
       );
     }
@@ -82,28 +85,21 @@ module _ (known : Known) (c : Content) (texts : List FileText) (read : AreRead 0
     -- the first token of the file stands in front
     pub some_before : 0 < (window_bytes (sources_of c) m).start
     some_before =
-        let r = range in
-        let first = first_written (file_of (sources_of c) m) here.read.lexing.text q.file.tokens.tokens q.file.tokens.comments lexed categories.File (view q.file.root) refl here.read.tree.derives in
-        let zero_is : slice_get q.file.tokens.tokens 0 ≡ Some first.token = ap (slice_get q.file.tokens.tokens) (sym here.read.tree.begins) ∙ first.is in
-        let ends : end_in (slice_get q.file.tokens.tokens 0) ≡ first.token.span.end = ap end_in zero_is in
-        let starts : start_in (slice_get q.file.tokens.tokens (m.first + m.from)) ≡ r.first.span.start = ap start_in r.has_first in
+        let r = range_of_member in
+        let first = first_written (file_of (sources_of c) m) here.read.lexing.text q.place.file.tokens.tokens q.place.file.tokens.comments lexed categories.File (view q.place.file.root) refl here.read.tree.derives in
+        let zero_is : slice_get q.place.file.tokens.tokens 0 ≡ Some first.token = ap (slice_get q.place.file.tokens.tokens) (sym here.read.tree.begins) ∙ first.is in
+        let ends : end_in (slice_get q.place.file.tokens.tokens 0) ≡ first.token.span.end = ap end_in zero_is in
+        let starts : start_in (slice_get q.place.file.tokens.tokens (m.first + m.from)) ≡ r.first.span.start = ap start_in r.has_first in
         let some = q.behind in
-        let le = ends_before q.file.tokens.tokens 0 (width here.read.lexing.text) ordered 0 (m.first + m.from) (omega (arith, some)) (inside_some q.file.tokens.tokens (m.first + m.from) r.first r.has_first) in
+        let le = ends_before q.place.file.tokens.tokens 0 (width here.read.lexing.text) ordered 0 (m.first + m.from) (omega (arith, some)) (inside_some q.place.file.tokens.tokens (m.first + m.from) r.first r.has_first) in
         let w = first.written in
         omega (arith, ends, starts, le, w, r.begins)
 
 -- ---- functions stand behind the first token of their file
 
-spot_there : (ps : List FunctionPlace) (ds : List Declared) (k : ℕ) (d : Declared) → map name_spot ps ≡ map spot_of ds → slice_get ds k ≡ Some d → (p : FunctionPlace) × (slice_get ps k ≡ Some p) × (name_spot p ≡ spot_of d)
-spot_there ps [] k d e h = absurd cc
-spot_there [] (x ∷ ds) k d e h = absurd cc
-spot_there (p ∷ ps) (x ∷ ds) zero d e h = let one : name_spot p ≡ spot_of x = cc in (p, refl, one ∙ ap spot_of (same_some x d h))
-spot_there (p ∷ ps) (x ∷ ds) (suc k) d e h = let more : map name_spot ps ≡ map spot_of ds = cc in spot_there ps ds k d more h
-
-pub function_behind : (c : Content) → HavePlaces c → (k : ℕ) (d : Declared) → slice_get (functions_among c.uses.package_level) k ≡ Some d → 0 < d.name - 1
-function_behind c h k d e =
-    let p = spot_there h.places (functions_among c.uses.package_level) k d h.named e in
-    let stands = all_at (places.StandsIn c.files) h.places k p.0 h.stand p.1 in
-    let name : suc p.0.first ≡ d.name = ap (λ s. s.1) p.2 in
-    let some = stands.behind in
-    omega (arith, name, some)
+-- a place has a name
+pub declared_there : (ps : List FunctionPlace) (ds : List Declared) (k : ℕ) (p : FunctionPlace) → map name_spot ps ≡ map spot_of ds → slice_get ps k ≡ Some p → (d : Declared) × (slice_get ds k ≡ Some d) × (spot_of d ≡ name_spot p)
+declared_there [] ds k p e h = absurd cc
+declared_there (q ∷ ps) [] k p e h = absurd cc
+declared_there (q ∷ ps) (d ∷ ds) zero p e h = let one : name_spot q ≡ spot_of d = cc in (d, refl, sym one ∙ ap name_spot (same_some q p h))
+declared_there (q ∷ ps) (d ∷ ds) (suc k) p e h = let more : map name_spot ps ≡ map spot_of ds = cc in declared_there ps ds k p more h

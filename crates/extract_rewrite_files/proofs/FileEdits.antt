@@ -158,3 +158,15 @@ module _ (c : Content) (name : List ℕ) (ws : List Window) (t : Member TypeTree
 
   pub nothing_there : (n : ℕ) (ds : List Edit) (r : AreEdits n 0 (edits_in n ds)) → (n ≡ file_of (sources_of c) t → ⊥) → r.tail ≡ []
   nothing_there n ds r s = elim r.last [ inl k ↦ k | inr k ↦ absurd (s k.1) ]
+
+  -- the edit of a member of the file is one of them, where it is an edit at all
+  pub member_there : (n : ℕ) (ds : List Edit) (r : AreEdits n 0 (edits_in n ds)) (m : Member TypeTree) → P m → file_of (sources_of c) m ≡ n → IsIn (edit m) ds → IsIn (edit m) (map edit r.members)
+  member_there n ds r m p same h = by (in_first (edit m) (map edit r.members) r.tail (subst (IsIn (edit m)) r.is (in_some (edit m) n ds (edit_file m p ∙ same) h))) r.last
+    where
+      by : IsIn (edit m) (map edit r.members) ⊎ IsIn (edit m) r.tail → IsBehind n r.tail → IsIn (edit m) (map edit r.members)
+      by (inl a) k = a
+      by (inr b) (inl k) = absurd (subst (IsIn (edit m)) k b)
+      by (inr b) (inr k) = absurd (elim (subst (IsIn (edit m)) k.0 b) [
+        | inl e ↦ (let lt = not_behind m p (same ∙ k.1) in let start : (edit m).start ≡ behind.start = ap (λ (x : Edit). x.start) e in omega (arith, lt, start))
+        | inr x ↦ x
+      ])

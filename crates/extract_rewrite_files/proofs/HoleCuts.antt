@@ -34,27 +34,12 @@ use Rattle.extract_texts.specs.Texts.{hole_bytes}
 use Rattle.extract_files.specs.Functions.{AreAt}
 use Rattle.extract_files.specs.Holes.{AreHoles, IsHole, name_sites, named, whole_text}
 use Rattle.extract_files.specs.Holes as holes
+use Rattle.extract_rewrite_files.specs.Sites.{IsHoleSite}
 use Rattle.extract_rewrite_files.proofs.Expressions.{as_expression}
 use Rattle.extract_rewrite_files.proofs.Sites.{Known, place_range, range_some}
-use Rattle.extract_rewrite_files.proofs.Splits.{Divided, divided_front, divided_on, same_some, token_of}
+use Rattle.extract_rewrite_files.proofs.Splits.{Divided, both_parts, divided_front, divided_on, one_cut, same_some, token_of, two_cut, two_wide}
 use Rattle.extract_rewrite_files.proofs.Windows.{both_true}
 use Rattle.extract_rewrite_files.proofs.Written.{TextsEndWell, begins_well, tree_range_of}
-
--- A hole of a member is an expression below the node that lists the member's statements, and what stands above agrees with its parts
--- whatever it becomes.
-pub record IsHoleSite (c : Category) (tree : Tree) (m : Member TypeTree) (h : Hole TypeTree) : Type 0 where
-  pub statement : ℕ
-  pub part : ℕ
-  pub path : List ℕ
-  pub stood : Tree
-  pub category : Category
-  pub at_path : subtree_at (statement ∷ part ∷ path) tree ≡ Some stood
-  pub asked : asked_at c (statement ∷ part ∷ path) tree ≡ Some category
-  pub takes : takes_level level.Primary category ≡ true
-  pub expression : is_expression (kind_of stood) ≡ true
-  pub begins : first stood ≡ m.first + h.from
-  pub ends : last stood ≡ m.first + h.upto
-  pub clear : (new : Tree) → is_clear (statement ∷ part ∷ path) (whole new) tree ≡ true
 
 -- Holes lie behind a place, one behind the other, up to another place.
 abbrev pub HolesInRow : Sources → Member TypeTree → ℕ → ℕ → List (HoleParameter TypeTree) → Type 0
@@ -80,7 +65,7 @@ module _ (known : Known) (texts : TextsEndWell) (s : Sources) (m : Member TypeTr
   ts = f.tokens.tokens
 
   module _ (c : Category) (tree : Tree) (d : Derives (kinds f.tokens.tokens) c tree) where
-    hole_range : (h : Hole TypeTree) (q : IsHoleSite c tree m h) → IsRange ts (m.first + h.from) (m.first + h.upto) (hole_bytes s m h).start (hole_bytes s m h).end
+    pub hole_range : (h : Hole TypeTree) (q : IsHoleSite c tree m h) → IsRange ts (m.first + h.from) (m.first + h.upto) (hole_bytes s m h).start (hole_bytes s m h).end
     hole_range h q =
         let sub = known.subtrees (kinds ts) c tree q.stood (q.statement ∷ q.part ∷ q.path) d q.at_path in
         let same : sub.category ≡ q.category = same_some sub.category q.category (sym sub.asked ∙ q.asked) in
@@ -111,15 +96,14 @@ module _ (known : Known) (texts : TextsEndWell) (s : Sources) (m : Member TypeTr
         let a1 = divided_on front pre rest (hole_bytes s m p.hole).start g low o.0 in
         let p1 = a1.place in
         let one : width (pre ++ a1.front) ≡ (hole_bytes s m p.hole).start = omega (arith, p1, width-append pre a1.front) in
-        let e1 : front ≡ (pre ++ a1.front) ++ a1.behind = g ∙ ap (λ x. pre ++ x) a1.whole ∙ sym (append_assoc pre a1.front a1.behind) in
+        let e1 : front ≡ (pre ++ a1.front) ++ a1.behind = one_cut front pre rest a1.front a1.behind g a1.whole in
         let a2 = divided_on front (pre ++ a1.front) a1.behind (hole_bytes s m p.hole).end e1 high (omega (arith, one, some)) in
         let p2 = a2.place in
-        let both : width (pre ++ (a1.front ++ a2.front)) ≡ (hole_bytes s m p.hole).end = omega (arith, one, p2, width-append pre (a1.front ++ a2.front), width-append a1.front a2.front, width-append pre a1.front) in
-        let e2 : front ≡ (pre ++ (a1.front ++ a2.front)) ++ a2.behind =
-        g ∙ ap (λ x. pre ++ x) (a1.whole ∙ ap (λ x. a1.front ++ x) a2.whole ∙ sym (append_assoc a1.front a2.front a2.behind)) ∙ sym (append_assoc pre (a1.front ++ a2.front) a2.behind) in
+        let both : width (pre ++ (a1.front ++ a2.front)) ≡ (hole_bytes s m p.hole).end = omega (arith, one, p2, two_wide pre a1.front a2.front, width-append pre a1.front) in
+        let e2 : front ≡ (pre ++ (a1.front ++ a2.front)) ++ a2.behind = two_cut front pre rest a1.front a1.behind a2.front a2.behind g a1.whole a2.whole in
         let others = hole_cut front behind e ps names (pre ++ (a1.front ++ a2.front)) a2.behind e2 (omega (arith, z)) a.1 q.1 (subst (λ k. HolesInRow s m k (width front) ps) (sym both) o.2) in
         let start : (hole_bytes s m p.hole).start ≡ width pre + width a1.front = p1 in
-        let place : width (pre ++ (a1.front ++ a2.front)) ≡ width pre + width a1.front + width a2.front = omega (arith, width-append pre (a1.front ++ a2.front), width-append a1.front a2.front) in
+        let place : width (pre ++ (a1.front ++ a2.front)) ≡ width pre + width a1.front + width a2.front = two_wide pre a1.front a2.front in
         let end : (hole_bytes s m p.hole).end ≡ width pre + width a1.front + width a2.front = sym both ∙ place in
         let x : holes.Hole = record { kept = a1.front; old = a2.front; from = from; upto = upto; statement = site.statement; part = site.part; path = site.path; name = y } in
         let range : IsRange ts from upto (width pre + width a1.front) (width pre + width a1.front + width a2.front) =
@@ -139,7 +123,7 @@ module _ (known : Known) (texts : TextsEndWell) (s : Sources) (m : Member TypeTr
         record {
           holes = x ∷ others.holes;
           rest = others.rest;
-          is_text = a1.whole ∙ ap (λ w. a1.front ++ w) (a2.whole ∙ ap (λ w. a2.front ++ w) others.is_text);
+          is_text = both_parts rest a1.front a1.behind a2.front a2.behind (whole_text others.holes others.rest) a1.whole a2.whole others.is_text;
           are = (is, subst (λ k. AreHoles ts c tree k others.holes) place others.are);
           named = (start, end, refl, subst (λ k. AreAt (map (λ p. hole_bytes s m p.hole) ps) names k others.holes) place others.named);
           clear = λ xs. both_true (is_clear (site.statement ∷ site.part ∷ site.path) (whole (carry (λ k. moved_by xs from + k) (name_at 0))) tree) (all_clear tree (name_sites xs others.holes)) (site.clear (carry (λ k. moved_by xs from + k) (name_at 0))) (others.clear xs);

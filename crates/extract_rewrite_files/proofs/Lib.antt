@@ -13,4 +13,11 @@ mod CheckedFiles
 mod Texts
 mod Template
 mod Facts
+mod Rows
+mod Enough
+mod Behind
+mod Functions
+mod Complete
 mod Assembly
+mod Main
+mod Levels

@@ -57,3 +57,26 @@ pub inside_some : {A : Type 0} (xs : List A) (k : ℕ) (x : A) → slice_get xs 
 inside_some [] k x e = absurd cc
 inside_some (y ∷ xs) zero x e = omega arith
 inside_some (y ∷ xs) (suc k) x e = omega (arith, inside_some xs k x e)
+
+pub starts_rise : (ts : List Token) (at end : ℕ) → AreOrdered at (map span_of ts) end → (i j : ℕ) → i ≤ j → j < length ts → start_in (slice_get ts i) ≤ start_in (slice_get ts j)
+starts_rise ts at end h i j le inside = elim (cases_lt i j) [
+  | inl less ↦ (let a = ends_before ts at end h i j less inside in let b = forward ts at end h i (omega (arith, le, inside)) in omega (arith, a, b))
+  | inr more ↦ (let same : i ≡ j = omega (arith, le, more) in omega (arith, ap (λ k. start_in (slice_get ts k)) same))
+]
+
+pub ends_rise : (ts : List Token) (at end : ℕ) → AreOrdered at (map span_of ts) end → (i j : ℕ) → i ≤ j → j < length ts → end_in (slice_get ts i) ≤ end_in (slice_get ts j)
+ends_rise ts at end h i j le inside = elim (cases_lt i j) [
+  | inl less ↦ (let a = ends_before ts at end h i j less inside in let b = forward ts at end h j inside in omega (arith, a, b))
+  | inr more ↦ (let same : i ≡ j = omega (arith, le, more) in omega (arith, ap (λ k. end_in (slice_get ts k)) same))
+]
+
+-- written tokens that begin at one place are one token
+pub same_start : (ts : List Token) (at end : ℕ) → AreOrdered at (map span_of ts) end → (i j : ℕ) → i < length ts → j < length ts → start_in (slice_get ts i) < end_in (slice_get ts i) → start_in (slice_get ts j) < end_in (slice_get ts j)
+    → start_in (slice_get ts i) ≡ start_in (slice_get ts j) → i ≡ j
+same_start ts at end h i j u v w x e = elim (cases_lt i j) [
+  | inl less ↦ (let a = ends_before ts at end h i j less v in absurd (omega (arith, a, w, e)))
+  | inr more ↦ elim (cases_lt j i) [
+    | inl less ↦ (let a = ends_before ts at end h j i less u in absurd (omega (arith, a, x, e)))
+    | inr least ↦ omega (arith, more, least)
+  ]
+]

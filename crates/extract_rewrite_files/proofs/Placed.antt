@@ -8,6 +8,7 @@ use Rattle.edit_apply.specs.declared.edits.Edit.{Edit}
 use Rattle.edit_apply.specs.Applied.{Descends}
 use Rattle.extract_rewrite.specs.Apart.{AreApart, AllApart}
 use Rattle.extract_rewrite.specs.Order.{begins_before, begin_together, put_in, put_all, by_place, from_the_end}
+use Rattle.extract_rewrite_files.specs.NewFiles.{IsOneOf}
 use Rattle.extract_rewrite_files.proofs.Splits.{all_to}
 
 -- ---- what holds of each edit
@@ -119,7 +120,7 @@ front_of (d ∷ ds) e h =
     last_of [] e P h = (tt, h.0)
     last_of (d ∷ ds) e P h = let r = last_of ds e P h.1 in ((h.0, r.0), r.1)
 
-all_turned : (P : Edit → Type 0) (ds : List Edit) → AllByRecursion P (reverse ds) → AllByRecursion P ds
+pub all_turned : (P : Edit → Type 0) (ds : List Edit) → AllByRecursion P (reverse ds) → AllByRecursion P ds
 all_turned P [] h = tt
 all_turned P (d ∷ ds) h =
     let k = subst (AllByRecursion P) (reverse-append (d ∷ []) ds) h in
@@ -144,10 +145,9 @@ apart (d ∷ ds) h = (all_to {P = EndsBefore d} {Q = AreApart d} (λ e k same. i
 
 -- one of them
 abbrev pub IsIn : Edit → List Edit → Type 0
-IsIn e [] = ⊥
-IsIn e (d ∷ ds) = (e ≡ d) ⊎ IsIn e ds
+IsIn e ds = IsOneOf e ds
 
-put_there : (ds : List Edit) (e : Edit) → IsIn e (put_in ds e)
+pub put_there : (ds : List Edit) (e : Edit) → IsIn e (put_in ds e)
 put_there [] e = inl refl
 put_there (d ∷ ds) e =
     elim (begin_together e d) as (λ b. IsIn e (cond b (e ∷ ds) (cond (begins_before e d) (e ∷ d ∷ ds) (d ∷ put_in ds e)))) [
@@ -178,9 +178,3 @@ put_kept (d ∷ ds) e x n h = by (begin_together e d) refl (begins_before e d) (
 pub all_kept : (ds es : List Edit) (x : Edit) → AllByRecursion (λ e. begin_together e x ≡ false) es → IsIn x ds → IsIn x (put_all ds es)
 all_kept ds [] x n h = h
 all_kept ds (e ∷ es) x n h = all_kept (put_in ds e) es x n.1 (put_kept ds e x n.0 h)
-
--- each edit that begins apart from the later ones
-pub all_there : (ds es : List Edit) (x : Edit) → (k : (fs bs : List Edit) → es ≡ fs ++ x ∷ bs → AllByRecursion (λ e. begin_together e x ≡ false) bs) → IsIn x es → IsIn x (put_all ds es)
-all_there ds [] x k h = absurd h
-all_there ds (e ∷ es) x k (inl s) = subst (λ y. IsIn x (put_all (put_in ds y) es)) s (all_kept (put_in ds x) es x (k [] es (ap (λ y. y ∷ es) (sym s))) (put_there ds x))
-all_there ds (e ∷ es) x k (inr h) = all_there (put_in ds e) es x (λ fs bs eq. k (e ∷ fs) bs (ap (λ l. e ∷ l) eq)) h

@@ -28,25 +28,10 @@ use Rattle.go_print_laws.specs.Calls.{AreStatements, of_block, of_clause}
 use Rattle.param_choose.specs.Members.{Member}
 use Rattle.escape_check.specs.Places.{Sources, bytes_in, bytes_of, file_of, place}
 use Rattle.extract_texts.specs.Texts.{window_bytes}
+use Rattle.extract_rewrite_files.specs.Sites.{IsSite}
 use Rattle.extract_rewrite_files.proofs.Ordered.{begins_before, begins_strictly, inside_some}
 use Rattle.extract_rewrite_files.proofs.Splits.{same_some}
 use Rattle.extract_rewrite_files.proofs.Written.{RunsEndWell, begins_well, run_range_of}
-
--- A member's statements are adjoining parts of a node of the tree of a file, and what stands above agrees with its parts whatever they become.
-pub record IsSite (f : FileTree) (m : Member TypeTree) : Type 0 where
-  pub path : List ℕ
-  pub stood : Tree
-  pub category : Category
-  pub at_path : subtree_at path (view f.root) ≡ Some stood
-  pub asked : asked_at categories.File path (view f.root) ≡ Some category
-  pub list : Items
-  pub statements : AreStatements list
-  pub front : ℕ
-  pub others : ℕ
-  pub is_list : items_at front (rule (place_of category) (kind_of stood)) ≡ Some list
-  pub has : has_run front others (parts stood) ≡ true
-  pub place : run_range front others (parts stood) ≡ range (m.first + m.from) (m.first + m.upto)
-  pub clear : (new : Trees) → is_clear path (items front others new) (view f.root) ≡ true
 
 -- what the laws on trees say
 pub record Known : Type 0 where

@@ -144,3 +144,17 @@ divided_front a b n d le =
     let p = d.place in
     let r = later_one d.before d.behind a b (sym d.whole) (omega (arith, p, le)) in
     record { before = d.before; behind = r.middle; whole = r.second; place = d.place }
+
+-- ---- two parts cut off one behind the other
+
+pub one_cut : (text pre rest a r : List ℕ) → text ≡ pre ++ rest → rest ≡ a ++ r → text ≡ (pre ++ a) ++ r
+one_cut text pre rest a r e f = e ∙ ap (λ l. pre ++ l) f ∙ sym (append_assoc pre a r)
+
+pub two_cut : (text pre rest a r b q : List ℕ) → text ≡ pre ++ rest → rest ≡ a ++ r → r ≡ b ++ q → text ≡ (pre ++ (a ++ b)) ++ q
+two_cut text pre rest a r b q e f g = one_cut text pre rest (a ++ b) q e (f ∙ ap (λ l. a ++ l) g ∙ sym (append_assoc a b q))
+
+pub both_parts : (rest a r b q x : List ℕ) → rest ≡ a ++ r → r ≡ b ++ q → q ≡ x → rest ≡ a ++ (b ++ x)
+both_parts rest a r b q x e f g = e ∙ ap (λ l. a ++ l) (f ∙ ap (λ l. b ++ l) g)
+
+pub two_wide : (pre a b : List ℕ) → width (pre ++ (a ++ b)) ≡ width pre + width a + width b
+two_wide pre a b = omega (arith, width-append pre (a ++ b), width-append a b)

@@ -22,9 +22,10 @@ use Rattle.escape_check.specs.Places.{Sources, file_of}
 use Rattle.extract_texts.specs.Texts.{file_text, text_of, window_bytes}
 use Rattle.extract_files.specs.Functions.{AreAt, IsTemplateOf}
 use Rattle.extract_files.specs.Holes.{AreHoles, Template, named}
-use Rattle.extract_rewrite_files.proofs.HoleCuts.{HoleCut, HolesInRow, IsHoleSite, hole_cut}
-use Rattle.extract_rewrite_files.proofs.Sites.{IsSite, Known, range_some, site_range, site_run}
-use Rattle.extract_rewrite_files.proofs.Splits.{Divided, divided_on, token_of}
+use Rattle.extract_rewrite_files.specs.Sites.{IsHoleSite, IsSite}
+use Rattle.extract_rewrite_files.proofs.HoleCuts.{HoleCut, HolesInRow, hole_cut}
+use Rattle.extract_rewrite_files.proofs.Sites.{Known, range_some, site_range, site_run}
+use Rattle.extract_rewrite_files.proofs.Splits.{Divided, divided_on, one_cut, token_of}
 use Rattle.extract_rewrite_files.proofs.Texts.{inner_of}
 use Rattle.extract_rewrite_files.proofs.Written.{TextsEndWell}
 
@@ -51,8 +52,8 @@ module _ (known : Known) (texts : TextsEndWell) (s : Sources) (m : Member TypeTr
       let e = divided_on text d.before d.behind (window_bytes s m).end d.whole high (let p = d.place in omega (arith, p, some)) in
       let pre : width d.before ≡ (window_bytes s m).start = (let p = d.place in omega (arith, p)) in
       let end : (window_bytes s m).end ≡ width d.before + width e.front = e.place in
-      let whole : text ≡ d.before ++ (e.front ++ e.behind) = d.whole ∙ ap (λ y. d.before ++ y) e.whole in
-      let both : text ≡ (d.before ++ e.front) ++ e.behind = whole ∙ sym (append_assoc d.before e.front e.behind) in
+      let both : text ≡ (d.before ++ e.front) ++ e.behind = one_cut text d.before d.behind e.front e.behind d.whole e.whole in
+      let whole : text ≡ d.before ++ (e.front ++ e.behind) = both ∙ append_assoc d.before e.front e.behind in
       let wide : width (d.before ++ e.front) ≡ (window_bytes s m).end = omega (arith, end, width-append d.before e.front) in
       let run = site_run known n f text l derives m q in
       let c = hole_cut known texts s m n f text l derives there q.category q.stood run.derives (d.before ++ e.front) e.behind both h.holes names d.before e.front refl many are sites

@@ -23,8 +23,9 @@ use Rattle.extract_texts.specs.Texts.{call_of, window_bytes}
 use Rattle.extract_files.specs.Extracted.{AreMembers, IsExtracted}
 use Rattle.extract_files.specs.Files.{AreWindows, IsWindow, Window, call_sites, file_text}
 use Rattle.extract_rewrite_files.specs.NewFiles.{called_file}
-use Rattle.extract_rewrite_files.proofs.Sites.{IsSite, Known, range_some, site_range}
-use Rattle.extract_rewrite_files.proofs.Splits.{Divided, divided_on, token_of}
+use Rattle.extract_rewrite_files.specs.Sites.{IsSite}
+use Rattle.extract_rewrite_files.proofs.Sites.{Known, range_some, site_range}
+use Rattle.extract_rewrite_files.proofs.Splits.{Divided, both_parts, divided_on, one_cut, token_of, two_cut, two_wide}
 
 -- Windows lie behind a place, one behind the other.
 abbrev pub InRow : Sources → ℕ → List (Member TypeTree) → Type 0
@@ -71,16 +72,15 @@ module _ (known : Known) (s : Sources) (name : List ℕ) (t : Member TypeTree) (
       let a1 = divided_on text pre behind (window_bytes s m).start e low o.0 in
       let p1 = a1.place in
       let one : width (pre ++ a1.front) ≡ (window_bytes s m).start = omega (arith, p1, width-append pre a1.front) in
-      let e1 : text ≡ (pre ++ a1.front) ++ a1.behind = e ∙ ap (λ x. pre ++ x) a1.whole ∙ sym (append_assoc pre a1.front a1.behind) in
+      let e1 : text ≡ (pre ++ a1.front) ++ a1.behind = one_cut text pre behind a1.front a1.behind e a1.whole in
       let some = range_some known n f text l derives from upto (window_bytes s m).start (window_bytes s m).end r in
       let a2 = divided_on text (pre ++ a1.front) a1.behind (window_bytes s m).end e1 high (omega (arith, one, some)) in
       let p2 = a2.place in
-      let both : width (pre ++ (a1.front ++ a2.front)) ≡ (window_bytes s m).end = omega (arith, one, p2, width-append pre (a1.front ++ a2.front), width-append a1.front a2.front, width-append pre a1.front) in
-      let e2 : text ≡ (pre ++ (a1.front ++ a2.front)) ++ a2.behind =
-      e ∙ ap (λ x. pre ++ x) (a1.whole ∙ ap (λ x. a1.front ++ x) a2.whole ∙ sym (append_assoc a1.front a2.front a2.behind)) ∙ sym (append_assoc pre (a1.front ++ a2.front) a2.behind) in
+      let both : width (pre ++ (a1.front ++ a2.front)) ≡ (window_bytes s m).end = omega (arith, one, p2, two_wide pre a1.front a2.front, width-append pre a1.front) in
+      let e2 : text ≡ (pre ++ (a1.front ++ a2.front)) ++ a2.behind = two_cut text pre behind a1.front a1.behind a2.front a2.behind e a1.whole a2.whole in
       let others = cut ms (pre ++ (a1.front ++ a2.front)) a2.behind e2 a.1 (subst (λ k. InRow s k ms) (sym both) o.1) in
       let start : (window_bytes s m).start ≡ width pre + width a1.front = p1 in
-      let place : width (pre ++ (a1.front ++ a2.front)) ≡ width pre + width a1.front + width a2.front = omega (arith, width-append pre (a1.front ++ a2.front), width-append a1.front a2.front) in
+      let place : width (pre ++ (a1.front ++ a2.front)) ≡ width pre + width a1.front + width a2.front = two_wide pre a1.front a2.front in
       let end : (window_bytes s m).end ≡ width pre + width a1.front + width a2.front = sym both ∙ place in
       let call = call_of (λ x. x) s name t h m in
       let x : Window = record { kept = a1.front; old = a2.front; from = from; upto = upto; path = q.path; front = q.front; others = q.others; call = call_of (λ x. x) s name t h m } in
@@ -101,7 +101,7 @@ module _ (known : Known) (s : Sources) (name : List ℕ) (t : Member TypeTree) (
       record {
         windows = x ∷ others.windows;
         rest = others.rest;
-        whole = a1.whole ∙ ap (λ y. a1.front ++ y) (a2.whole ∙ ap (λ y. a2.front ++ y) others.whole);
+        whole = both_parts behind a1.front a1.behind a2.front a2.behind (file_text others.windows others.rest) a1.whole a2.whole others.whole;
         are = (is, subst (λ k. AreWindows (declared_text s) f.tokens.tokens (view f.root) k others.windows) place others.are);
         members = (start, end, refl, subst (λ k. AreMembers s name t h k ms others.windows) place others.members);
         clear = both_true (is_clear q.path (items q.front q.others (call_trees 0 call)) (view f.root)) (all_clear (view f.root) (call_sites others.windows)) (q.clear (call_trees 0 call)) others.clear;

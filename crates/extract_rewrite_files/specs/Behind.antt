@@ -1,46 +1,50 @@
 -- The new function of an extraction, behind the file of the template.
-use Rattle.std.specs.Prelude.{◌≡◌, ℕ, ◌≤◌, Some, None, length, List, slice_get}
+use Rattle.std.specs.Prelude.{◌≡◌, ℕ, ◌≤◌, ◌++◌, Some, None, length, List}
 use Rattle.std.specs.List.{AllByRecursion}
 use Rattle.go_base.specs.Package.{IsPackage}
 use Rattle.go_grammar.specs.Trees.{depth}
+use Rattle.go_print_laws.specs.Calls.{CallCanBeWritten}
+use Rattle.go_print_laws.specs.Headers.{HeaderCanBeWritten}
+use Rattle.go_print_laws.specs.Lexemes.{AreNames}
 use Rattle.go_print_laws.specs.Functions.{FunctionStands, function_tree, function_words}
 use Rattle.go_types.specs.Trees.{TypeTree}
 use Rattle.go_typed.specs.declared.window.Window.{Window}
-use Rattle.go_typed.specs.Contents.{Content, FuncContent, content}
+use Rattle.go_typed.specs.Contents.{Content, content}
 use Rattle.go_typed.specs.Packages.{PackageView}
-use Rattle.go_typed.specs.Windows.{Range}
 use Rattle.go_package_defs.specs.Checked.{IsCheckedPackage, texts_of}
-use Rattle.clone_window.specs.Spans.{range_over}
-use Rattle.clone_window.specs.Windows.{window_statements}
 use Rattle.param_choose.specs.Choosing.{chosen_of}
-use Rattle.param_choose.specs.Members.{Member, template_of}
+use Rattle.param_choose.specs.Members.{Member, members_of, template_of}
 use Rattle.escape_check.specs.Places.{file_of, sources_of}
 use Rattle.escape_check.specs.Refusals.{refused}
 use Rattle.escape_check.specs.Types.{declared_text}
 use Rattle.extract_texts.specs.Fresh.{fresh_names}
-use Rattle.extract_texts.specs.Texts.{function_for}
+use Rattle.extract_texts.specs.Texts.{call_of, function_for, header_of, variable_names}
 use Rattle.extract_files.specs.Functions.{IsTemplateOf, extracted_function}
 use Rattle.extract_files.specs.Holes.{Template, named_trees, named_words}
-
--- A window of a function of the package, which has a statement.
-pub record HasStatement (c : Content) (w : Window) : Type 0 where
-  pub function : FuncContent
-  pub there : slice_get c.functions w.func ≡ Some function
-  pub range : Range
-  pub is_range : range_over (window_statements function.tree w) ≡ Some range
+use Rattle.extract_rewrite_files.specs.Sites.{HasHoles, HaveSites}
 
 -- Windows of a package that type-checks, the first of which is the template, may be taken out into a function of this name as far as the codes
--- 3 to 16 go.
+-- 3 to 16 go; they stand in the trees of its files.
 pub record MayBeTaken (p : PackageView) (name : List ℕ) (ws : List Window) (t : Member TypeTree) : Type 0 where
   pub checked : IsCheckedPackage p
   pub within : IsPackage (texts_of p)
-  pub windows : AllByRecursion (HasStatement (content p)) ws
   pub template : template_of (content p) ws ≡ Some t
   pub allowed : refused (content p) name ws ≡ None
+  pub sites : HaveSites (content p) ws
 
 -- the names of the holes that are parameters
 abbrev pub names_for : Content → List ℕ → List Window → List (List ℕ)
 names_for c name ws = fresh_names (sources_of c) name (length (chosen_of c ws).holes)
+
+-- The calls can be written.
+abbrev pub CallsCanBeWritten : Content → List ℕ → List Window → Member TypeTree → Type 0
+CallsCanBeWritten c name ws t = AllByRecursion (λ m. CallCanBeWritten (declared_text (sources_of c)) (call_of (λ x. x) (sources_of c) name t (chosen_of c ws) m)) (members_of c ws)
+
+-- So can the header of the new function, the names that it returns, and those of its parameters for holes.
+pub record FunctionCanBeWritten (c : Content) (name : List ℕ) (ws : List Window) (t : Member TypeTree) : Type 0 where
+  pub header : HeaderCanBeWritten (declared_text (sources_of c)) (header_of (λ x. x) (sources_of c) name (names_for c name ws) t (chosen_of c ws))
+  pub returned : AreNames (variable_names (sources_of c) t ((chosen_of c ws).assigned ++ (chosen_of c ws).declared))
+  pub fresh : AreNames (names_for c name ws)
 
 -- the template as a part of its file, with its holes
 abbrev pub IsTemplateFor : Content → List ℕ → List Window → Member TypeTree → Template → Type 0
@@ -57,3 +61,17 @@ pub record StandsBehind (c : Content) (name : List ℕ) (ws : List Window) (t : 
   pub stands : FunctionStands (file_of (sources_of c) t) (function_for c name ws)
       (function_words (declared_text (sources_of c)) (extracted_function (sources_of c) name (names_for c name ws) t (chosen_of c ws)) (named_words template))
       (function_tree (extracted_function (sources_of c) name (names_for c name ws) t (chosen_of c ws)) (length (named_words template)) (named_trees template))
+
+-- The new function is within the limit on levels, whatever the template is.
+abbrev pub IsWithinLevels : Content → List ℕ → List Window → Member TypeTree → Type 0
+IsWithinLevels c name ws t = (w : Template) → IsTemplateFor c name ws t w → levels_of c name ws t w ≤ 100
+
+-- The template is a part of its file.
+abbrev pub TemplatesAreParts : Type 0
+TemplatesAreParts = (p : PackageView) (name : List ℕ) (ws : List Window) (t : Member TypeTree) → MayBeTaken p name ws t → HasHoles (content p) t → AreNames (names_for (content p) name ws)
+    → (w : Template) × IsTemplateFor (content p) name ws t w
+
+-- The new function stands behind the file of the template, where it is within the limit on levels.
+abbrev pub FunctionsStandBehind : Type 0
+FunctionsStandBehind = (p : PackageView) (name : List ℕ) (ws : List Window) (t : Member TypeTree) → MayBeTaken p name ws t → HasHoles (content p) t → FunctionCanBeWritten (content p) name ws t
+    → IsWithinLevels (content p) name ws t → StandsBehind (content p) name ws t

@@ -1,3 +1,4 @@
+pub mod Sites
 pub mod Behind
 pub mod NewFiles
-pub mod Trial
+pub mod Levels

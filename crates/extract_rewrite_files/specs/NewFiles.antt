@@ -25,6 +25,7 @@ use Rattle.extract_files.specs.Extracted.{IsExtracted, IsRewrittenFor}
 use Rattle.extract_files.specs.Files as files
 use Rattle.extract_files.specs.Files.{Called, called_text, file_text, rewriting_of}
 use Rattle.extract_files.specs.Levels.{HasOneTree}
+use Rattle.extract_rewrite_files.specs.Behind.{CallsCanBeWritten, MayBeTaken, StandsBehind}
 
 abbrev pub IsOneOf : {A : Type 0} → A → List A → Type 0
 IsOneOf x [] = ⊥
@@ -55,6 +56,8 @@ pub record IsNewFile (c : Content) (name : List ℕ) (ws : List Window) (t : Mem
   -- the members whose windows are in the file, in order of place
   pub members : List (Member TypeTree)
   pub are : AllByRecursion (λ m. IsOneOf m (members_of c ws) × (file_of (sources_of c) m ≡ n)) members
+  -- and the call at each of these is among those that stand there
+  pub all : AllByRecursion (λ m. file_of (sources_of c) m ≡ n → IsOneOf (window_edit c name ws m) (map (window_edit c name ws) members)) (members_of c ws)
   -- the old characters, cut into windows and what stands between them
   pub windows : List files.Window
   pub rest : List ℕ
@@ -79,3 +82,8 @@ pub record BecomesNew (p : PackageView) (name : List ℕ) (ws : List Window) (t 
   pub text : FileText
   pub there : slice_get (texts_after (content p) (edits (content p) name ws)) n ≡ Some text
   pub is : IsNewFile (content p) name ws t n f text.bytes
+
+-- Each file of the package becomes new; that of the template where the new function stands behind it.
+abbrev pub FilesBecomeNew : Type 0
+FilesBecomeNew = (p : PackageView) (name : List ℕ) (ws : List Window) (t : Member TypeTree) → MayBeTaken p name ws t → CallsCanBeWritten (content p) name ws t
+    → (n : ℕ) (f : FileTree) → slice_get p.files n ≡ Some f → (n ≡ file_of (sources_of (content p)) t → StandsBehind (content p) name ws t) → BecomesNew p name ws t n f

@@ -1,8 +1,66 @@
 //! Laws of the files of an extraction, for the crates above. The functions do nothing: their contracts are the laws.
 
-ghost use Rattle.extract_rewrite_files.specs.Trial.{Trial};
+ghost use Rattle.extract_rewrite_files.specs.Behind.{FunctionsStandBehind, TemplatesAreParts};
+ghost use Rattle.extract_rewrite_files.specs.Levels.{NewFilesHaveTrees};
+ghost use Rattle.extract_rewrite_files.specs.NewFiles.{FilesBecomeNew};
 
-/// Trial.
-pub fn trial()
-    ensures { Trial }
-{}
+use escape_check::laws::unrefused_windows_are_apart;
+use extract_files::laws::{called_files_have_one_tree, extracted_files_are_rewritten, extracted_functions_stand};
+use extract_rewrite::laws::{edits_can_be_done, other_bytes_stay};
+use extract_texts::laws::fresh_names_are_enough;
+use go_function_places::laws::functions_have_places;
+use go_rewriting::laws::{items_stand, subtrees_stand, texts_end_well};
+use go_tokens::laws::one_lexing;
+
+/// The template of an extraction is a part of the characters of its file: a run of statements, with expressions in it at the places of the
+/// holes that are parameters, each under a fresh name.
+pub fn templates_are_parts()
+    ensures { TemplatesAreParts }
+{
+    fresh_names_are_enough();
+    functions_have_places();
+    items_stand();
+    subtrees_stand();
+    texts_end_well();
+}
+
+/// So the new function is a declaration that may stand behind the template's file, where its header and its names can be written and it has at
+/// most 100 levels.
+pub fn functions_stand_behind()
+    ensures { FunctionsStandBehind }
+{
+    extracted_functions_stand();
+    fresh_names_are_enough();
+    functions_have_places();
+    items_stand();
+    subtrees_stand();
+    texts_end_well();
+}
+
+/// Each file of a package that type-checks becomes a rewriting of itself by an extraction that no code from 3 to 16 refuses: the edits give
+/// it the bytes that it had, with the call of each member whose window it has in place of that window, and the function behind the
+/// template's file; and these bytes have one lexing and one derivation over all their tokens.
+///
+/// A caller gives that the windows stand in the trees of their files and that the calls can be written; for the template's file also what
+/// stands behind it (`functions_stand_behind`). A file without members has no windows, and stays as it is.
+pub fn files_become_new()
+    ensures { FilesBecomeNew }
+{
+    called_files_have_one_tree();
+    edits_can_be_done();
+    extracted_files_are_rewritten();
+    functions_have_places();
+    items_stand();
+    other_bytes_stay();
+    subtrees_stand();
+    texts_end_well();
+    unrefused_windows_are_apart();
+}
+
+/// Where the new package is within the limits, as an extraction is that isn't refused, the one derivation of each new file is its tree, of at
+/// most 100 levels above any node.
+pub fn new_files_have_trees()
+    ensures { NewFilesHaveTrees }
+{
+    one_lexing();
+}
