@@ -5,3 +5,9 @@ mod Bare
 mod Stood
 mod Read
 mod Own
+mod Based
+mod Standing
+mod Functions
+mod Files
+mod Trees
+mod Windows
