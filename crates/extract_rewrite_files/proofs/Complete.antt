@@ -49,8 +49,7 @@ in_function c h w f e =
     let name : d.0.name ≡ suc p.0.first = ap (λ x. x.1) d.2 in
     let first : (over c w f).first ≡ d.0.name - 1 = ap first_token d.1 in
     let stands = all_at (places.StandsIn c.files) h.places w.func p.0 h.stand p.1 in
-    let behind = stands.behind in
-    (
+    let behind = stands.behind in (
       record {
         place = p.0;
         there = p.1;
@@ -85,7 +84,7 @@ module _ (known : Known) (c : Content) (texts : List FileText) (read : AreRead 0
       let u = r.first_written in
       let v = s.first_written in
       let same : m.first + m.from ≡ n.first + n.from = same_start ts 0 o.0 o.1 (m.first + m.from) (n.first + n.from) (inside_some ts (m.first + m.from) r.first r.has_first) (inside_some ts (n.first + n.from) s.first s.has_first)
-          (omega (arith, a, b, u)) (omega (arith, d, e, v)) (omega (arith, a, d, r.begins, s.begins, starts)) in
+      (omega (arith, a, b, u)) (omega (arith, d, e, v)) (omega (arith, a, d, r.begins, s.begins, starts)) in
       let some = r.order in
       let others = s.order in
       let x = p.1 in

@@ -79,7 +79,7 @@ module _ (known : Known) (c : Content) (texts : List FileText) (read : AreRead 0
           let e : end_in (slice_get q.place.file.tokens.tokens (m.first + m.upto - 1)) ≡ r.last.span.end = ap end_in r.has_last in
           let le = ends_within q.place.file.tokens.tokens 0 (width here.read.lexing.text) ordered (m.first + m.upto - 1) (inside_some q.place.file.tokens.tokens (m.first + m.upto - 1) r.last r.has_last) in
           omega (arith, e, le, r.ends, long)
-      );
+          );
     }
 
     -- the first token of the file stands in front

@@ -72,8 +72,7 @@ module _ (ms : List (Member TypeTree)) (t : Member TypeTree) where
         let ends : end_in (slice_get ts (upto - 1)) ≡ (hole_bytes s t p.hole).end = ap end_in q.has_last ∙ q.ends in
         let some = r.1 in
         let le = low (t.first + p.hole.from) (omega (arith, r.0)) (inside_some ts (t.first + p.hole.from) q.first q.has_first) in
-        let within = ends_rise ts 0 size o (t.first + p.hole.upto - 1) (t.first + j - 1) (omega (arith, r.2)) (omega (arith, many, r.1, r.2)) in
-        (
+        let within = ends_rise ts 0 size o (t.first + p.hole.upto - 1) (t.first + j - 1) (omega (arith, r.2)) (omega (arith, many, r.1, r.2)) in (
           omega (arith, le, starts),
           omega (arith, within, high, ends),
           bytes_row ps (hole_bytes s t p.hole).end p.hole.upto j

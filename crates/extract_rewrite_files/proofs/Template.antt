@@ -63,8 +63,7 @@ module _ (known : Known) (texts : TextsEndWell) (s : Sources) (m : Member TypeTr
       let here : IsRange f.tokens.tokens (m.first + m.from) (m.first + m.upto) (width d.before) (width d.before + width e.front) =
       subst (λ k. IsRange f.tokens.tokens (m.first + m.from) (m.first + m.upto) k (width d.before + width e.front)) (sym pre) (subst (IsRange f.tokens.tokens (m.first + m.from) (m.first + m.upto) (window_bytes s m).start) end range) in
       let is_part : IsPart part = record { lexes = l; before = d.before; behind = e.behind; whole = whole; range = here } in
-      let w : Template = record { part = part; category = q.category; tree = q.stood; front = q.front; others = q.others; holes = c.holes; rest = c.rest } in
-      (
+      let w : Template = record { part = part; category = q.category; tree = q.stood; front = q.front; others = q.others; holes = c.holes; rest = c.rest } in (
         w,
         record {
           template = record {

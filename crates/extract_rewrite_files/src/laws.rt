@@ -5,7 +5,9 @@ ghost use Rattle.extract_rewrite_files.specs.Levels.{NewFilesHaveTrees};
 ghost use Rattle.extract_rewrite_files.specs.NewFiles.{FilesBecomeNew};
 
 use escape_check::laws::unrefused_windows_are_apart;
-use extract_files::laws::{called_files_have_one_tree, extracted_files_are_rewritten, extracted_functions_stand};
+use extract_files::laws::{
+    called_files_have_one_tree, extracted_files_are_rewritten, extracted_functions_stand,
+};
 use extract_rewrite::laws::{edits_can_be_done, other_bytes_stay};
 use extract_texts::laws::fresh_names_are_enough;
 use go_function_places::laws::functions_have_places;
