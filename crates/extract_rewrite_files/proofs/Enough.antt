@@ -28,7 +28,10 @@ few_tokens k (x ∷ xs) (f ∷ fs) h =
 -- a file is no longer than all
 pub one_short : (xs : List FileText) (n : ℕ) (x : FileText) → slice_get xs n ≡ Some x → length x.bytes ≤ total_bytes xs
 one_short [] n x e = absurd cc
-one_short (y ∷ xs) zero x e = let same : y ≡ x = cc in let all : total_bytes (y ∷ xs) ≡ length y.bytes + total_bytes xs = sum_by-cons (λ (z : FileText). length z.bytes) y xs in omega (arith, all, ap (λ (z : FileText). length z.bytes) same)
+one_short (y ∷ xs) zero x e =
+    let same : y ≡ x = cc in
+    let all : total_bytes (y ∷ xs) ≡ length y.bytes + total_bytes xs = sum_by-cons (λ (z : FileText). length z.bytes) y xs in
+    omega (arith, all, ap (λ (z : FileText). length z.bytes) same)
 one_short (y ∷ xs) (suc n) x e = let r = one_short xs n x e in let all : total_bytes (y ∷ xs) ≡ length y.bytes + total_bytes xs = sum_by-cons (λ (z : FileText). length z.bytes) y xs in omega (arith, r, all)
 
 pub has_room : (xs : List FileText) (fs : List FileTree) (many : ℕ) → AreRead 0 xs fs → total_bytes xs ≤ most_bytes → many ≤ most_bytes → room_for fs many ≤ 2 ^ 64

@@ -73,7 +73,8 @@ module _ (known : Known) (c : Content) (texts : List FileText) (read : AreRead 0
     has_bytes = record {
       file = q.place.file;
       there = q.place.there;
-      some = range_some known (file_of (sources_of c) m) q.place.file here.read.lexing.text lexed here.read.tree.derives (m.first + m.from) (m.first + m.upto) (window_bytes (sources_of c) m).start (window_bytes (sources_of c) m).end range_of_member;
+      some = range_some known (file_of (sources_of c) m) q.place.file here.read.lexing.text lexed here.read.tree.derives (m.first + m.from) (m.first + m.upto)
+          (window_bytes (sources_of c) m).start (window_bytes (sources_of c) m).end range_of_member;
       within = (
           let r = range_of_member in
           let e : end_in (slice_get q.place.file.tokens.tokens (m.first + m.upto - 1)) ≡ r.last.span.end = ap end_in r.has_last in

@@ -126,5 +126,6 @@ module _ (known : Known) (texts : TextsEndWell) (s : Sources) (m : Member TypeTr
           is_text = both_parts rest a1.front a1.behind a2.front a2.behind (whole_text others.holes others.rest) a1.whole a2.whole others.is_text;
           are = (is, subst (λ k. AreHoles ts c tree k others.holes) place others.are);
           named = (start, end, refl, subst (λ k. AreAt (map (λ p. hole_bytes s m p.hole) ps) names k others.holes) place others.named);
-          clear = λ xs. both_true (is_clear (site.statement ∷ site.part ∷ site.path) (whole (carry (λ k. moved_by xs from + k) (name_at 0))) tree) (all_clear tree (name_sites xs others.holes)) (site.clear (carry (λ k. moved_by xs from + k) (name_at 0))) (others.clear xs);
+          clear = λ xs. both_true (is_clear (site.statement ∷ site.part ∷ site.path) (whole (carry (λ k. moved_by xs from + k) (name_at 0))) tree) (all_clear tree (name_sites xs others.holes))
+              (site.clear (carry (λ k. moved_by xs from + k) (name_at 0))) (others.clear xs);
         }

@@ -21,3 +21,4 @@ mod Complete
 mod Assembly
 mod Main
 mod Levels
+mod Accepted

@@ -88,5 +88,6 @@ files_become_new laws can apart places p name ws t h w n f e behind =
     let known : AllByRecursion (Known_member laws p name ws t h.within (are_read p h.checked) h.template (can p name ws t h.checked h.within.small h.template h.allowed)) (members_of (content p) ws) =
     all_three (Fact (content p)) (λ m. CallCanBeWritten (declared_text (sources_of (content p))) (call_of (λ x. x) (sources_of (content p)) name t (chosen_of (content p) ws) m)) (λ m. IsOneOf m (members_of (content p) ws))
     (members_of (content p) ws) (facts (content p) have (members_of (content p) ws) o h.sites) w (each_one (members_of (content p) ws)) in
-    file_new laws p name ws t h.within (are_read p h.checked) h.template (can p name ws t h.checked h.within.small h.template h.allowed) known have (insides (content p) have (members_of (content p) ws) o) (apart (content p) name ws t h.template h.allowed)
+    file_new laws p name ws t h.within (are_read p h.checked) h.template (can p name ws t h.checked h.within.small h.template h.allowed) known have
+    (insides (content p) have (members_of (content p) ws) o) (apart (content p) name ws t h.template h.allowed)
     n f e behind

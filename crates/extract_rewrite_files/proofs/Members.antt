@@ -17,12 +17,14 @@ module _ (c : Content) where
   over w f = member_over c.uses w f.locals f.tokens f.tree
 
   -- what holds of the member of each window holds of all members
-  one_of : (P : Member TypeTree → Type 0) (w : Window) (o : Option FuncContent) (ms : List (Member TypeTree)) → slice_get c.functions w.func ≡ o → ((f : FuncContent) → slice_get c.functions w.func ≡ Some f → P (over w f)) → AllByRecursion P ms
+  one_of : (P : Member TypeTree → Type 0) (w : Window) (o : Option FuncContent) (ms : List (Member TypeTree)) → slice_get c.functions w.func ≡ o → ((f : FuncContent) → slice_get c.functions w.func ≡ Some f → P (over w f))
+      → AllByRecursion P ms
       → AllByRecursion P (option_to_list (option_map (λ f. member_over c.uses w f.locals f.tokens f.tree) o) ++ ms)
   one_of P w None ms e p k = k
   one_of P w (Some f) ms e p k = (p f e, k)
 
-  pub all_of : (Q : Window → Type 0) (P : Member TypeTree → Type 0) → ((w : Window) (f : FuncContent) → Q w → slice_get c.functions w.func ≡ Some f → P (over w f)) → (ws : List Window) → AllByRecursion Q ws → AllByRecursion P (members_of c ws)
+  pub all_of : (Q : Window → Type 0) (P : Member TypeTree → Type 0) → ((w : Window) (f : FuncContent) → Q w → slice_get c.functions w.func ≡ Some f → P (over w f)) → (ws : List Window) → AllByRecursion Q ws
+      → AllByRecursion P (members_of c ws)
   all_of Q P p [] q = tt
   all_of Q P p (w ∷ ws) q = one_of P w (slice_get c.functions w.func) (members_of c ws) refl (λ f e. p w f q.0 e) (all_of Q P p ws q.1)
 
@@ -32,7 +34,8 @@ module _ (c : Content) where
   one_template P w None t e p k = absurd cc
   one_template P w (Some f) t e p k = subst P (same_some (over w f) t k) (p f e)
 
-  pub template_has : (Q : Window → Type 0) (P : Member TypeTree → Type 0) → ((w : Window) (f : FuncContent) → Q w → slice_get c.functions w.func ≡ Some f → P (over w f)) → (ws : List Window) (t : Member TypeTree) → AllByRecursion Q ws → template_of c ws ≡ Some t → P t
+  pub template_has : (Q : Window → Type 0) (P : Member TypeTree → Type 0) → ((w : Window) (f : FuncContent) → Q w → slice_get c.functions w.func ≡ Some f → P (over w f)) → (ws : List Window) (t : Member TypeTree)
+      → AllByRecursion Q ws → template_of c ws ≡ Some t → P t
   template_has Q P p [] t q e = absurd cc
   template_has Q P p (w ∷ ws) t q e = one_template P w (slice_get c.functions w.func) t refl (λ f k. p w f q.0 k) e
 

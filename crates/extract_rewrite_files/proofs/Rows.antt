@@ -24,7 +24,8 @@ each_place P (x ∷ xs) h = (h 0 x refl, each_place P xs (λ n y e. h (suc n) y 
 
 module _ (ms : List (Member TypeTree)) (t : Member TypeTree) where
   module _ (P : Hole TypeTree → Type 0) where
-    one_parameter : (n : ℕ) (x : Hole TypeTree) (o : Option TypeTree) (ps : List (HoleParameter TypeTree)) (b : Bool) → P x → AllByRecursion (λ p. P p.hole) ps → AllByRecursion (λ p. P p.hole) (cond b (parameter_with t.start n x o) [] ++ ps)
+    one_parameter : (n : ℕ) (x : Hole TypeTree) (o : Option TypeTree) (ps : List (HoleParameter TypeTree)) (b : Bool) → P x → AllByRecursion (λ p. P p.hole) ps
+        → AllByRecursion (λ p. P p.hole) (cond b (parameter_with t.start n x o) [] ++ ps)
     one_parameter n x o ps false h k = k
     one_parameter n x None ps true h k = k
     one_parameter n x (Some y) ps true h k = (h, k)
@@ -46,7 +47,8 @@ module _ (ms : List (Member TypeTree)) (t : Member TypeTree) where
   lie_end i [] j h = h
   lie_end i (x ∷ xs) j h = omega (arith, h.0, h.1, lie_end x.upto xs j h.2)
 
-  one_row : (n : ℕ) (x : Hole TypeTree) (o : Option TypeTree) (ps : List (HoleParameter TypeTree)) (b : Bool) (i j : ℕ) → i ≤ x.from → x.from < x.upto → x.upto ≤ j → Row x.upto j ps → Row i j (cond b (parameter_with t.start n x o) [] ++ ps)
+  one_row : (n : ℕ) (x : Hole TypeTree) (o : Option TypeTree) (ps : List (HoleParameter TypeTree)) (b : Bool) (i j : ℕ) → i ≤ x.from → x.from < x.upto → x.upto ≤ j → Row x.upto j ps
+      → Row i j (cond b (parameter_with t.start n x o) [] ++ ps)
   one_row n x o ps false i j a b c h = row_later i x.upto j ps (omega (arith, a, b)) h
   one_row n x None ps true i j a b c h = row_later i x.upto j ps (omega (arith, a, b)) h
   one_row n x (Some y) ps true i j a b c h = (a, b, c, h)

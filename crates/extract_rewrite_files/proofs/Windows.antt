@@ -84,7 +84,8 @@ module _ (known : Known) (s : Sources) (name : List ℕ) (t : Member TypeTree) (
       let end : (window_bytes s m).end ≡ width pre + width a1.front + width a2.front = sym both ∙ place in
       let call = call_of (λ x. x) s name t h m in
       let x : Window = record { kept = a1.front; old = a2.front; from = from; upto = upto; path = q.path; front = q.front; others = q.others; call = call_of (λ x. x) s name t h m } in
-      let range : IsRange f.tokens.tokens from upto (width pre + width a1.front) (width pre + width a1.front + width a2.front) = subst (λ k. IsRange f.tokens.tokens from upto k (width pre + width a1.front + width a2.front)) start (subst (IsRange f.tokens.tokens from upto (window_bytes s m).start) end r) in
+      let range : IsRange f.tokens.tokens from upto (width pre + width a1.front) (width pre + width a1.front + width a2.front) = subst (λ k. IsRange f.tokens.tokens from upto k (width pre + width a1.front + width a2.front)) start
+          (subst (IsRange f.tokens.tokens from upto (window_bytes s m).start) end r) in
       let is : IsWindow (declared_text s) f.tokens.tokens (view f.root) (width pre) x = record {
         at_tokens = range;
         stood = q.stood;
@@ -108,7 +109,8 @@ module _ (known : Known) (s : Sources) (name : List ℕ) (t : Member TypeTree) (
       }
 
   -- the file, with what is appended
-  pub called : (ms : List (Member TypeTree)) → AllByRecursion (IsMember s name t h f) ms → InRow s 0 ms → (tail : List ℕ) (us : List Token) (added : Option Tree) → IsTail n tail us → AddedFits (kinds us) added → Cutting s name t h n f text tail added ms
+  pub called : (ms : List (Member TypeTree)) → AllByRecursion (IsMember s name t h f) ms → InRow s 0 ms → (tail : List ℕ) (us : List Token) (added : Option Tree) → IsTail n tail us → AddedFits (kinds us) added
+      → Cutting s name t h n f text tail added ms
   called ms a o tail us added tl fits =
       let c = cut ms [] text refl a (subst (λ k. InRow s k ms) (sym width-nil) o) in
       record {

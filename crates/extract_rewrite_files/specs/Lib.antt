@@ -2,3 +2,4 @@ pub mod Sites
 pub mod Behind
 pub mod NewFiles
 pub mod Levels
+pub mod Accepted

@@ -1,5 +1,6 @@
 //! Laws of the files of an extraction, for the crates above. The functions do nothing: their contracts are the laws.
 
+ghost use Rattle.extract_rewrite_files.specs.Accepted.{AcceptedFilesAreNew};
 ghost use Rattle.extract_rewrite_files.specs.Behind.{FunctionsStandBehind, TemplatesAreParts};
 ghost use Rattle.extract_rewrite_files.specs.Levels.{NewFilesHaveTrees};
 ghost use Rattle.extract_rewrite_files.specs.NewFiles.{FilesBecomeNew};
@@ -65,4 +66,13 @@ pub fn new_files_have_trees()
     ensures { NewFilesHaveTrees }
 {
     one_lexing();
+}
+
+/// So each file is new behind the edits of an extraction that is accepted, as the answer of `extract` is, and its one derivation is its
+/// tree, within the limit on levels.
+pub fn accepted_files_are_new()
+    ensures { AcceptedFilesAreNew }
+{
+    files_become_new();
+    new_files_have_trees();
 }
