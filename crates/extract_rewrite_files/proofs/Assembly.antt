@@ -206,7 +206,7 @@ module _ (laws : Laws) (p : PackageView) (name : List ℕ) (ws : List Window) (t
           subst (λ y. IsText y f.tokens.text) cutting.text_is (subst (IsText text_here.read.lexing.text) (sym text_here.read.bytes) text_here.read.lexing.is_text) in
           let lexing : IsLexing n f.tokens.text f.tokens.tokens f.tokens.comments =
           subst (λ y. IsLexing n y f.tokens.tokens f.tokens.comments) (sym text_here.read.bytes) (subst (λ k. IsLexing k text_here.text.bytes f.tokens.tokens f.tokens.comments)
-              (let z : 0 + n ≡ n = omega arith in z) text_here.read.lexing) in
+          (let z : 0 + n ≡ n = omega arith in z) text_here.read.lexing) in
           let g = some_text (slice_get (applied (texts_of p) (edits c name ws)) n) _ (bytes_then n text_here.text text_here.there) in
           let old : encode_utf8_all (file_text cutting.windows cutting.rest) ≡ text_here.text.bytes = text.encoded ∙ text_here.read.bytes in
           let written : encode_utf8_all (called_text (declared_text (sources_of c)) cutting.windows (cutting.rest ++ b.tail))
@@ -215,7 +215,7 @@ module _ (laws : Laws) (p : PackageView) (name : List ℕ) (ws : List Window) (t
           let bytes : g.0.bytes ≡ encode_utf8_all (called_text (declared_text (sources_of c)) cutting.windows (cutting.rest ++ b.tail)) =
           g.2 ∙ ap (renewed text_here.text.bytes 0) r.is
           ∙ renewed_is c name ws t there text_here.text.bytes tb r.tail law r.members 0 (omega arith)
-              (all_to {P = λ m. Known_member m × (file_of (sources_of c) m ≡ n)} {Q = λ m. (member_of c m.window ≡ Some m) × ((window_bytes (sources_of c) m).end ≤ length text_here.text.bytes)} ends_here r.members r.are)
+          (all_to {P = λ m. Known_member m × (file_of (sources_of c) m ≡ n)} {Q = λ m. (member_of c m.window ≡ Some m) × ((window_bytes (sources_of c) m).end ≤ length text_here.text.bytes)} ends_here r.members r.are)
           ∙ sym written in
           let one = laws.one_tree w cutting.extracted.called (record { derives = text_here.read.tree.derives; begins = text_here.read.tree.begins; ends = text_here.read.tree.ends }) f.tokens.text tb text b.is_text in
           record {

@@ -126,7 +126,7 @@ module _ (known : Known) (texts : TextsEndWell) (enough : AreEnough) (c : Conten
   template_for names =
       let is_text : IsText text f.tokens.text = subst (IsText text) (sym here.read.bytes) here.read.lexing.is_text in
       let r = template.template_of known texts (sources_of c) t (chosen_of c ws) n f text is_text lexed here.read.tree.derives q.site.there q.site.site (names_for c name ws) many names
-          (some_before known c files read t fact) parameter_sites rows in
+      (some_before known c files read t fact) parameter_sites rows in
       (r.0, (r.1, r.2))
 
   pub stands_behind : ExtractedFunctionsStand → HeaderCanBeWritten (declared_text (sources_of c)) (header_of (λ x. x) (sources_of c) name (names_for c name ws) t (chosen_of c ws))

@@ -85,7 +85,7 @@ module _ (known : Known) (s : Sources) (name : List ℕ) (t : Member TypeTree) (
       let call = call_of (λ x. x) s name t h m in
       let x : Window = record { kept = a1.front; old = a2.front; from = from; upto = upto; path = q.path; front = q.front; others = q.others; call = call_of (λ x. x) s name t h m } in
       let range : IsRange f.tokens.tokens from upto (width pre + width a1.front) (width pre + width a1.front + width a2.front) = subst (λ k. IsRange f.tokens.tokens from upto k (width pre + width a1.front + width a2.front)) start
-          (subst (IsRange f.tokens.tokens from upto (window_bytes s m).start) end r) in
+      (subst (IsRange f.tokens.tokens from upto (window_bytes s m).start) end r) in
       let is : IsWindow (declared_text s) f.tokens.tokens (view f.root) (width pre) x = record {
         at_tokens = range;
         stood = q.stood;
