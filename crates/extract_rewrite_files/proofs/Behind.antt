@@ -1,5 +1,5 @@
 -- The template of a package that type-checks, and the function behind its file.
-use Rattle.std.proofs.Common.{◌≡◌, ◌∙◌, ℕ, zero, suc, ◌+◌, ◌-◌, ◌^◌, ◌<◌, ◌≤◌, List, [], ◌∷◌, ◌++◌, length, map, Option, Some, None, refl, sym, ap, subst, arith}
+use Rattle.std.proofs.Common.{◌≡◌, ◌∙◌, ℕ, zero, suc, ◌+◌, ◌-◌, ◌^◌, ◌<◌, ◌≤◌, true, List, [], ◌∷◌, ◌++◌, length, map, Option, Some, None, refl, sym, ap, subst, arith}
 use Rattle.std.specs.Prelude.{slice_get}
 use Rattle.std.specs.List.{AllByRecursion}
 use Rattle.go_base.specs.declared.bytes.FileText.{FileText}
@@ -9,10 +9,12 @@ use Rattle.go_tokens.specs.Encoding.{IsText}
 use Rattle.go_tokens.specs.Lexing.{Lexes, width}
 use Rattle.go_tokens.specs.Tokens.{AreOrdered, kinds, span_of}
 use Rattle.go_tokens.proofs.Public.{placed}
+use Rattle.go_grammar.specs.Trees.{depth, depths, kind_of}
 use Rattle.go_rewriting.specs.Lists.{IsRun}
 use Rattle.go_rewriting.specs.Rewriting.{IsRange}
 use Rattle.go_tree.specs.File.{FileTree}
 use Rattle.go_tree.specs.Units.{end_in, start_in}
+use Rattle.go_tree.specs.Views.{view}
 use Rattle.go_types.specs.Trees.{TypeTree}
 use Rattle.go_typed.specs.declared.window.Window.{Window}
 use Rattle.go_typed.specs.Contents.{Content}
@@ -29,9 +31,10 @@ use Rattle.escape_check.specs.Types.{declared_text}
 use Rattle.extract_texts.specs.Fresh.{AreEnough}
 use Rattle.extract_texts.specs.Texts.{function_among, function_with, header_of, hole_bytes, variable_names, window_bytes}
 use Rattle.extract_files.specs.Functions.{ExtractedFunctionsStand, extracted_function}
-use Rattle.extract_files.specs.Holes.{Template, named_trees, named_words}
-use Rattle.extract_rewrite_files.specs.Behind.{IsTemplateFor, StandsBehind, levels_of, names_for}
+use Rattle.extract_files.specs.Holes.{IsTemplate, Template, named_trees, named_words}
+use Rattle.extract_rewrite_files.specs.Behind.{HasTemplate, StandsBehind, names_for, signature_levels}
 use Rattle.extract_rewrite_files.proofs.CheckedFiles.{HasText}
+use Rattle.extract_rewrite_files.proofs.Depths.{KeepsDepth, function_low, lists_statements, lists_them_all, named_low, two_above}
 use Rattle.extract_rewrite_files.proofs.Enough.{has_room, one_short}
 use Rattle.extract_rewrite_files.proofs.Facts.{Fact, file_read, has_bytes, lexes_of, some_before}
 use Rattle.extract_rewrite_files.specs.Sites.{HasHoles, IsHoleSite}
@@ -43,7 +46,7 @@ use Rattle.extract_rewrite_files.proofs.Splits.{all_to, same_some}
 use Rattle.extract_rewrite_files.proofs.Template as template
 use Rattle.extract_rewrite_files.proofs.Written.{TextsEndWell}
 
-module _ (known : Known) (texts : TextsEndWell) (enough : AreEnough) (c : Content) (files : List FileText) (read : AreRead 0 files c.files) (small : total_bytes files ≤ most_bytes) (name : List ℕ) (ws : List Window) (t : Member TypeTree)
+module _ (known : Known) (texts : TextsEndWell) (enough : AreEnough) (keeps : KeepsDepth) (c : Content) (files : List FileText) (read : AreRead 0 files c.files) (small : total_bytes files ≤ most_bytes) (name : List ℕ) (ws : List Window) (t : Member TypeTree)
     (there : template_of c ws ≡ Some t) (own : member_of c t.window ≡ Some t) (behind : 0 < t.first) (q : HasHoles c t) where
   abbrev fact : Fact c t
   fact = record { own = own; place = q.site; behind = behind }
@@ -121,26 +124,44 @@ module _ (known : Known) (texts : TextsEndWell) (enough : AreEnough) (c : Conten
       let within = b.within in
       enough (sources_of c) name (length parameters) (has_room files c.files (length parameters) read small (omega (arith, few, short, long, within, small)))
 
+  listed : lists_statements (kind_of q.site.site.stood) ≡ true
+  listed = lists_them_all q.site.site.category q.site.site.stood q.site.site.list q.site.site.front q.site.site.statements q.site.site.is_list
+
+  -- the node of the template's statements lies below two others
+  node_low : depth q.site.site.stood ≤ 99
+  node_low =
+      let r = two_above known.subtrees (kinds ts) q.site.site.path (view f.root) q.site.site.stood here.read.tree.derives q.site.site.at_path listed in
+      let all = here.read.tree.shallow in
+      omega (arith, r, all)
+
+  trees_low : (w : Template) → IsTemplate w → w.tree ≡ q.site.site.stood → depths (named_trees w) ≤ 98
+  trees_low w i same =
+      named_low keeps w.part.tokens w.category w.tree (width i.is_part.before) w.part.from w.front w.others w.holes (subst (λ z. depth z ≤ 99) (sym same) node_low)
+      (subst (λ z. lists_statements (kind_of z) ≡ true) (sym same) listed) i.holes
+
   -- the template as a part of its file
-  pub template_for : AreNames (names_for c name ws) → (w : Template) × IsTemplateFor c name ws t w
+  pub template_for : AreNames (names_for c name ws) → HasTemplate c name ws t
   template_for names =
       let is_text : IsText text f.tokens.text = subst (IsText text) (sym here.read.bytes) here.read.lexing.is_text in
       let r = template.template_of known texts (sources_of c) t (chosen_of c ws) n f text is_text lexed here.read.tree.derives q.site.there q.site.site (names_for c name ws) many names
       (some_before known c files read t fact) parameter_sites rows in
-      (r.0, (r.1, r.2))
+      record {
+        template = r.0;
+        is_template = (r.1, r.2);
+        shallow = λ low. function_low (extracted_function (sources_of c) name (names_for c name ws) t (chosen_of c ws)) (length (named_words r.0)) (named_trees r.0) low (trees_low r.0 r.1.template r.3);
+      }
 
   pub stands_behind : ExtractedFunctionsStand → HeaderCanBeWritten (declared_text (sources_of c)) (header_of (λ x. x) (sources_of c) name (names_for c name ws) t (chosen_of c ws))
       → AreNames (variable_names (sources_of c) t ((chosen_of c ws).assigned ++ (chosen_of c ws).declared)) → AreNames (names_for c name ws)
-      → ((w : Template) → IsTemplateFor c name ws t w → levels_of c name ws t w ≤ 100) → StandsBehind c name ws t
+      → signature_levels c name ws t ≤ 99 → StandsBehind c name ws t
   stands_behind law header returned names low =
       let r = template_for names in
-      let h = chosen_of c ws in
-      let words = function_words (declared_text (sources_of c)) (extracted_function (sources_of c) name (names_for c name ws) t (chosen_of c ws)) (named_words r.0) in
-      let tree = function_tree (extracted_function (sources_of c) name (names_for c name ws) t (chosen_of c ws)) (length (named_words r.0)) (named_trees r.0) in
-      let stands = law (sources_of c) name (names_for c name ws) t (chosen_of c ws) r.0 header returned r.1.0 (low r.0 r.1) in
+      let words = function_words (declared_text (sources_of c)) (extracted_function (sources_of c) name (names_for c name ws) t (chosen_of c ws)) (named_words r.template) in
+      let tree = function_tree (extracted_function (sources_of c) name (names_for c name ws) t (chosen_of c ws)) (length (named_words r.template)) (named_trees r.template) in
+      let stands = law (sources_of c) name (names_for c name ws) t (chosen_of c ws) r.template header returned r.is_template.0 (r.shallow low) in
       record {
-        template = r.0;
-        is_template = r.1;
+        template = r.template;
+        is_template = r.is_template;
         stands = subst (λ b. FunctionStands n b words tree) (sym (ap (λ o. function_among c name o (chosen_of c ws)) there))
-            (subst (λ k. FunctionStands k (function_with (λ x. x) (sources_of c) name (names_for c name ws) t (chosen_of c ws)) words tree) r.1.1 stands);
+            (subst (λ k. FunctionStands k (function_with (λ x. x) (sources_of c) name (names_for c name ws) t (chosen_of c ws)) words tree) r.is_template.1 stands);
       }

@@ -15,6 +15,7 @@ mod Template
 mod Facts
 mod Rows
 mod Enough
+mod Depths
 mod Behind
 mod Functions
 mod Complete

@@ -26,6 +26,7 @@ use Rattle.extract_rewrite_files.proofs.Assembly.{Known_member, Laws, each_one, 
 use Rattle.extract_rewrite_files.proofs.Behind.{stands_behind, template_for}
 use Rattle.extract_rewrite_files.proofs.CheckedFiles.{are_read}
 use Rattle.extract_rewrite_files.proofs.Complete.{InFunction, in_function}
+use Rattle.extract_rewrite_files.proofs.Depths.{KeepsDepth}
 use Rattle.extract_rewrite_files.proofs.Facts.{Fact}
 use Rattle.extract_rewrite_files.proofs.Members.{all_of, over, own_member, template_has}
 use Rattle.extract_rewrite_files.proofs.Sites.{Known}
@@ -66,15 +67,15 @@ module _ (c : Content) (h : HavePlaces c) where
   insides [] a = tt
   insides (m ∷ ms) a = (a.0.inside, insides ms a.1)
 
-pub templates_are_parts : Known → TextsEndWell → AreEnough → AllHavePlaces → TemplatesAreParts
-templates_are_parts known texts enough places p name ws t h k names =
+pub templates_are_parts : Known → TextsEndWell → AreEnough → KeepsDepth → AllHavePlaces → TemplatesAreParts
+templates_are_parts known texts enough keeps places p name ws t h k names =
     let o = template_own (content p) (places p h.checked h.within.small) ws t h.template in
-    template_for known texts enough (content p) (texts_of p) (are_read p h.checked) h.within.small name ws t h.template o.own o.behind k names
+    template_for known texts enough keeps (content p) (texts_of p) (are_read p h.checked) h.within.small name ws t h.template o.own o.behind k names
 
-pub functions_stand_behind : Known → TextsEndWell → AreEnough → ExtractedFunctionsStand → AllHavePlaces → FunctionsStandBehind
-functions_stand_behind known texts enough law places p name ws t h k w low =
+pub functions_stand_behind : Known → TextsEndWell → AreEnough → KeepsDepth → ExtractedFunctionsStand → AllHavePlaces → FunctionsStandBehind
+functions_stand_behind known texts enough keeps law places p name ws t h k w low =
     let o = template_own (content p) (places p h.checked h.within.small) ws t h.template in
-    stands_behind known texts enough (content p) (texts_of p) (are_read p h.checked) h.within.small name ws t h.template o.own o.behind k law w.header w.returned w.fresh low
+    stands_behind known texts enough keeps (content p) (texts_of p) (are_read p h.checked) h.within.small name ws t h.template o.own o.behind k law w.header w.returned w.fresh low
 
 all_three : {A : Type 0} (P Q R : A → Type 0) (xs : List A) → AllByRecursion P xs → AllByRecursion Q xs → AllByRecursion R xs → AllByRecursion (λ x. P x × Q x × R x) xs
 all_three P Q R [] a b d = tt

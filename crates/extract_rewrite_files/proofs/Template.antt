@@ -46,7 +46,7 @@ module _ (known : Known) (texts : TextsEndWell) (s : Sources) (m : Member TypeTr
   -- the template of these names
   pub template_of : (names : List (List ℕ)) → length names ≡ length h.holes → AreNames names → 0 < (window_bytes s m).start
       → AllByRecursion (λ p. IsHoleSite q.category q.stood m p.hole) h.holes → HolesInRow s m (window_bytes s m).start (window_bytes s m).end h.holes
-      → (w : Template) × IsTemplateOf s names m h w × (w.part.file ≡ n)
+      → (w : Template) × IsTemplateOf s names m h w × (w.part.file ≡ n) × (w.tree ≡ q.stood)
   template_of names many are front sites row =
       let d = low in
       let e = divided_on text d.before d.behind (window_bytes s m).end d.whole high (let p = d.place in omega (arith, p, some)) in
@@ -83,5 +83,6 @@ module _ (known : Known) (texts : TextsEndWell) (s : Sources) (m : Member TypeTr
           end = end;
           holes = c.named;
         },
+        refl,
         refl,
       )

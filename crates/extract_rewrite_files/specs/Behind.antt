@@ -4,7 +4,7 @@ use Rattle.std.specs.List.{AllByRecursion}
 use Rattle.go_base.specs.Package.{IsPackage}
 use Rattle.go_grammar.specs.Trees.{depth}
 use Rattle.go_print_laws.specs.Calls.{CallCanBeWritten}
-use Rattle.go_print_laws.specs.Headers.{HeaderCanBeWritten}
+use Rattle.go_print_laws.specs.Headers.{HeaderCanBeWritten, signature_tree}
 use Rattle.go_print_laws.specs.Lexemes.{AreNames}
 use Rattle.go_print_laws.specs.Functions.{FunctionStands, function_tree, function_words}
 use Rattle.go_types.specs.Trees.{TypeTree}
@@ -62,16 +62,21 @@ pub record StandsBehind (c : Content) (name : List ℕ) (ws : List Window) (t : 
       (function_words (declared_text (sources_of c)) (extracted_function (sources_of c) name (names_for c name ws) t (chosen_of c ws)) (named_words template))
       (function_tree (extracted_function (sources_of c) name (names_for c name ws) t (chosen_of c ws)) (length (named_words template)) (named_trees template))
 
--- The new function is within the limit on levels, whatever the template is.
-abbrev pub IsWithinLevels : Content → List ℕ → List Window → Member TypeTree → Type 0
-IsWithinLevels c name ws t = (w : Template) → IsTemplateFor c name ws t w → levels_of c name ws t w ≤ 100
+-- the levels of its signature
+abbrev pub signature_levels : Content → List ℕ → List Window → Member TypeTree → ℕ
+signature_levels c name ws t = depth (signature_tree 2 (header_of (λ x. x) (sources_of c) name (names_for c name ws) t (chosen_of c ws)))
 
--- The template is a part of its file.
+-- The template is a part of its file, and the new function is within the limit on levels where its signature is.
+pub record HasTemplate (c : Content) (name : List ℕ) (ws : List Window) (t : Member TypeTree) : Type 0 where
+  pub template : Template
+  pub is_template : IsTemplateFor c name ws t template
+  pub shallow : signature_levels c name ws t ≤ 99 → levels_of c name ws t template ≤ 100
+
 abbrev pub TemplatesAreParts : Type 0
 TemplatesAreParts = (p : PackageView) (name : List ℕ) (ws : List Window) (t : Member TypeTree) → MayBeTaken p name ws t → HasHoles (content p) t → AreNames (names_for (content p) name ws)
-    → (w : Template) × IsTemplateFor (content p) name ws t w
+    → HasTemplate (content p) name ws t
 
--- The new function stands behind the file of the template, where it is within the limit on levels.
+-- The new function stands behind the file of the template, where its signature is within the limit on levels.
 abbrev pub FunctionsStandBehind : Type 0
 FunctionsStandBehind = (p : PackageView) (name : List ℕ) (ws : List Window) (t : Member TypeTree) → MayBeTaken p name ws t → HasHoles (content p) t → FunctionCanBeWritten (content p) name ws t
-    → IsWithinLevels (content p) name ws t → StandsBehind (content p) name ws t
+    → signature_levels (content p) name ws t ≤ 99 → StandsBehind (content p) name ws t

@@ -12,14 +12,16 @@ use extract_files::laws::{
 use extract_rewrite::laws::{edits_can_be_done, other_bytes_stay};
 use extract_texts::laws::fresh_names_are_enough;
 use go_function_places::laws::functions_have_places;
-use go_rewriting::laws::{items_stand, subtrees_stand, texts_end_well};
+use go_rewriting::laws::{changed_sites_keep_a_depth, items_stand, subtrees_stand, texts_end_well};
 use go_tokens::laws::one_lexing;
 
 /// The template of an extraction is a part of the characters of its file: a run of statements, with expressions in it at the places of the
-/// holes that are parameters, each under a fresh name.
+/// holes that are parameters, each under a fresh name. The new function has at most 100 levels where its signature has at most 99: its
+/// statements have had as many levels in their file.
 pub fn templates_are_parts()
     ensures { TemplatesAreParts }
 {
+    changed_sites_keep_a_depth();
     fresh_names_are_enough();
     functions_have_places();
     items_stand();
@@ -27,11 +29,12 @@ pub fn templates_are_parts()
     texts_end_well();
 }
 
-/// So the new function is a declaration that may stand behind the template's file, where its header and its names can be written and it has at
-/// most 100 levels.
+/// So the new function is a declaration that may stand behind the template's file, where its header and its names can be written and its
+/// signature has at most 99 levels.
 pub fn functions_stand_behind()
     ensures { FunctionsStandBehind }
 {
+    changed_sites_keep_a_depth();
     extracted_functions_stand();
     fresh_names_are_enough();
     functions_have_places();
