@@ -1,0 +1,7 @@
+mod Holed
+mod Below
+mod ExpressionKinds
+mod Typed
+mod Expressions
+mod Operands
+mod Found

@@ -14,11 +14,8 @@ abbrev mutual
   -- the same of the part with the number m of a node of this kind, which is the part n of those that are left
   pub part_named : Bool → Kind → ℕ → ℕ → List ℕ → Trees → Bool
   part_named operand k m n path none = false
-  part_named operand k m zero path (more p ps) = named_here operand k m path p
+  part_named operand k m zero [] (more p ps) = may_be_replaced operand k m && is_simple_part (kind_of p)
+  part_named operand k m zero (l ∷ path) (more p ps) = may_be_named (gives_operands k m) (l ∷ path) p
   part_named operand k m (suc n) path (more p ps) = part_named operand k m n path ps
   part_named operand k m zero path (skip ps) = false
   part_named operand k m (suc n) path (skip ps) = part_named operand k m n path ps
-
-  pub named_here : Bool → Kind → ℕ → List ℕ → Tree → Bool
-  named_here operand k m [] p = may_be_replaced operand k m && is_simple_part (kind_of p)
-  named_here operand k m (n ∷ path) p = may_be_named (gives_operands k m) (n ∷ path) p

@@ -1,0 +1,11 @@
+mod Words
+mod Identifiers
+mod Declared
+mod Origins
+mod Tables
+mod Types
+mod Packages
+mod Locals
+mod Choices
+mod Calls
+mod Assembled
