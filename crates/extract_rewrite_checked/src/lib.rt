@@ -1,4 +1,5 @@
-//! Windows of a package that type-checks stand where the laws on the files of an extraction ask for them.
+//! The files of an extraction of a package that type-checks: its windows stand where the laws on files ask for them, and what is written there
+//! can be written.
 #![tactic(auto)]
 
 pub mod laws;

@@ -46,8 +46,8 @@ use Rattle.extract_rewrite_files.proofs.Splits.{all_to, same_some}
 use Rattle.extract_rewrite_files.proofs.Template as template
 use Rattle.extract_rewrite_files.proofs.Written.{TextsEndWell}
 
-module _ (known : Known) (texts : TextsEndWell) (enough : AreEnough) (keeps : KeepsDepth) (c : Content) (files : List FileText) (read : AreRead 0 files c.files) (small : total_bytes files ≤ most_bytes) (name : List ℕ) (ws : List Window) (t : Member TypeTree)
-    (there : template_of c ws ≡ Some t) (own : member_of c t.window ≡ Some t) (behind : 0 < t.first) (q : HasHoles c t) where
+module _ (known : Known) (texts : TextsEndWell) (enough : AreEnough) (keeps : KeepsDepth) (c : Content) (files : List FileText) (read : AreRead 0 files c.files)
+    (small : total_bytes files ≤ most_bytes) (name : List ℕ) (ws : List Window) (t : Member TypeTree) (there : template_of c ws ≡ Some t) (own : member_of c t.window ≡ Some t) (behind : 0 < t.first) (q : HasHoles c t) where
   abbrev fact : Fact c t
   fact = record { own = own; place = q.site; behind = behind }
 
