@@ -1,0 +1,5 @@
+pub mod Sites
+pub mod Behind
+pub mod NewFiles
+pub mod Levels
+pub mod Accepted
