@@ -28,4 +28,8 @@ mod Circles
 mod Bare
 mod Tells
 mod Derived
+mod Closing
 pub mod Public
+mod SameInFiles
+mod DeclaredSame
+mod AsksSame

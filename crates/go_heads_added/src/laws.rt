@@ -25,6 +25,7 @@ ghost use Rattle.go_heads_added.specs.Examples.{Examples};
 ghost use Rattle.go_heads_added.specs.Faults.{FunctionIsFine, FileIsWithin, MayBeAdded, MeansOuter};
 ghost use Rattle.go_heads_added.specs.Kept.{KeepsPackage};
 ghost use Rattle.go_heads_added.specs.Within.{EventWithin, IsOfFunction};
+ghost use Rattle.go_heads_added.specs.Reported.{StaysPlaced};
 
 use go_scopes_cycles::laws::declarations_bound_rounds;
 use go_scopes_events::laws::locals_stand_in_functions;
@@ -43,6 +44,16 @@ pub fn added_names()
 pub fn added_functions_fail_no_rule()
     ensures { (k n : ℕ) (name : List ℕ) (old new : List Unit) (h : IsAdded k n name old new) → LiesIn k n name old new h → NoneSays name old
         → FileIsWithin k n name old new h → FunctionIsFine k n name old new h → reported old ≡ None → reported new ≡ None }
+{
+    declarations_bound_rounds();
+}
+
+/// Behind an appended function whose name no token says, and at which no rule fails, the rules on names fail at the places where they failed,
+/// so that the same fault is reported, or none: of clauses, of names declared twice, looked up or not used, of imports, of the limit on
+/// statements, and of declarations that need themselves.
+pub fn faults_of_names_stay()
+    ensures { (k n : ℕ) (name : List ℕ) (old new : List Unit) (h : IsAdded k n name old new) → LiesIn k n name old new h → NoneSays name old
+        → FileIsWithin k n name old new h → FunctionIsFine k n name old new h → StaysPlaced k n name old new h → reported new ≡ reported old }
 {
     declarations_bound_rounds();
 }

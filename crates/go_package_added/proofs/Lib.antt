@@ -18,3 +18,4 @@ mod Surrounding
 mod Closing
 mod Shared
 mod Staying
+pub mod Public
