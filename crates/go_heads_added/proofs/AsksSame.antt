@@ -98,7 +98,7 @@ module _ (k end : ℕ) (g : Gap) where
         looked_same undeclared (λ a. lacks_meaning a.it.constant a.name (object_asked a)) (λ a. a.place) (record { none = refl; more = λ a as_. refl })
         (λ a b s. (
           ap (λ (u : Use). lacks_meaning u.constant b.name (object_asked b)) s.moved.it ∙ ap (λ w. lacks_meaning a.it.constant w (object_asked b)) s.moved.name
-          ∙ ap (lacks_meaning a.it.constant a.name) (object_same k end g a b s.moved) ∙ lacks_same k end g a.it.constant a.name (object_asked a),
+              ∙ ap (lacks_meaning a.it.constant a.name) (object_same k end g a b s.moved) ∙ lacks_same k end g a.it.constant a.name (object_asked a),
           s.place,
         )) mid os bs h e
 
@@ -115,7 +115,7 @@ module _ (k end : ℕ) (g : Gap) where
         looked_same outside_members (λ a. is_import (object_asked a) && is_other_member a.it.role a.selected) (λ a. a.whole) (record { none = refl; more = λ a as_. refl })
         (λ a b s. (
           ap (λ x. x && is_other_member b.it.role b.selected) (imports_moved k end g a b s.moved) ∙ ap (λ (u : Use). is_import (object_asked a) && is_other_member u.role b.selected) s.moved.it
-          ∙ ap (λ w. is_import (object_asked a) && is_other_member a.it.role w) s.moved.selected,
+              ∙ ap (λ w. is_import (object_asked a) && is_other_member a.it.role w) s.moved.selected,
           s.whole,
         )) mid os bs h e
 
@@ -124,7 +124,7 @@ module _ (k end : ℕ) (g : Gap) where
         looked_same not_called (λ a. is_import (object_asked a) && is_no_call a.it.role a.selected) (λ a. a.whole) (record { none = refl; more = λ a as_. refl })
         (λ a b s. (
           ap (λ x. x && is_no_call b.it.role b.selected) (imports_moved k end g a b s.moved) ∙ ap (λ (u : Use). is_import (object_asked a) && is_no_call u.role b.selected) s.moved.it
-          ∙ ap (λ w. is_import (object_asked a) && is_no_call a.it.role w) s.moved.selected,
+              ∙ ap (λ w. is_import (object_asked a) && is_no_call a.it.role w) s.moved.selected,
           s.whole,
         )) mid os bs h e
 

@@ -148,9 +148,10 @@ module _ (k n end : ℕ) (name : List ℕ) (f : Found) (ps : List Found) (own : 
   hidden_same b ds es m =
       let t : Found → Bool = λ d. b && is_package d.it.block && is_fmt d.name in
       between_same k end (hidden_imports b) (hidden_imports b) t t (hidden_tested b) (hidden_tested b) ds (f ∷ ps) es
-      (each (λ d. t (longer k end d) ≡ t d) (λ d. refl) ds)
-      (twice.three_third k n end name f ps own params b (is_package f.it.block) (is_fmt f.name) (ap is_fmt own.name ∙ m),
-      all_more (IsParameter k n) (λ d. t d ≡ false) (λ d h. twice.three_second k n end name f ps own params b (is_package d.it.block) (is_fmt d.name) (ap is_package h.block)) ps params)
+      (each (λ d. t (longer k end d) ≡ t d) (λ d. refl) ds) (
+        twice.three_third k n end name f ps own params b (is_package f.it.block) (is_fmt f.name) (ap is_fmt own.name ∙ m),
+        all_more (IsParameter k n) (λ d. t d ≡ false) (λ d h. twice.three_second k n end name f ps own params b (is_package d.it.block) (is_fmt d.name) (ap is_package h.block)) ps params,
+      )
       (each (λ d. t (longer k end d) ≡ t d) (λ d. refl) es)
 
   -- ---- what is new at `:=`
@@ -176,13 +177,13 @@ module _ (k n end : ℕ) (name : List ℕ) (f : Found) (ps : List Found) (own : 
       let t : Found → Bool = λ x. is_by_define x.it.manner && nat_eq x.it.column 0 && not (has_new x old) in
       let u : Found → Bool = λ x. is_by_define x.it.manner && nat_eq x.it.column 0 && not (has_new x new) in
       let same : (d : Found) → u (longer k end d) ≡ t d = λ d.
-          ap (λ b. is_by_define d.it.manner && nat_eq d.it.column 0 && not b)
-          (twice.new_append k n end name f ps own params (longer k end d) (to ds) ((f ∷ qs) ++ to es)
-          ∙ ap (λ b. has_new (longer k end d) (to ds) || b)
-          (twice.new_append k n end name f ps own params (longer k end d) (f ∷ qs) (to es)
-          ∙ or_false (has_new (longer k end d) (f ∷ qs)) (has_new (longer k end d) (to es)) (none_apart (longer k end d) (f ∷ qs) (ap is_by_define own.manner, parameters_declared qs q)))
-          ∙ ap (λ b. b || has_new (longer k end d) (to es)) (twice.new_longer k n end name f ps own params d ds) ∙ ap (λ b. has_new d ds || b) (twice.new_longer k n end name f ps own params d es)
-          ∙ sym (twice.new_append k n end name f ps own params d ds es)) in
+      ap (λ b. is_by_define d.it.manner && nat_eq d.it.column 0 && not b)
+      (twice.new_append k n end name f ps own params (longer k end d) (to ds) ((f ∷ qs) ++ to es)
+      ∙ ap (λ b. has_new (longer k end d) (to ds) || b)
+      (twice.new_append k n end name f ps own params (longer k end d) (f ∷ qs) (to es)
+      ∙ or_false (has_new (longer k end d) (f ∷ qs)) (has_new (longer k end d) (to es)) (none_apart (longer k end d) (f ∷ qs) (ap is_by_define own.manner, parameters_declared qs q)))
+      ∙ ap (λ b. b || has_new (longer k end d) (to es)) (twice.new_longer k n end name f ps own params d ds) ∙ ap (λ b. has_new d ds || b) (twice.new_longer k n end name f ps own params d es)
+      ∙ sym (twice.new_append k n end name f ps own params d ds es)) in
       let out : (x : Found) → is_by_define x.it.manner ≡ false → u x ≡ false = λ x e. twice.three_first k n end name f ps own params (is_by_define x.it.manner) (nat_eq x.it.column 0) (not (has_new x new)) e in
       between_same k end (none_new old) (none_new new) t u (new_tested old) (new_tested new) xs (f ∷ ps) ys (each (λ d. u (longer k end d) ≡ t d) same xs)
       (out f (ap is_by_define own.manner), all_more (λ x. is_by_define x.it.manner ≡ false) (λ x. u x ≡ false) out ps (parameters_declared ps params)) (each (λ d. u (longer k end d) ≡ t d) same ys)

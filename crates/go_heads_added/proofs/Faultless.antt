@@ -175,7 +175,7 @@ every_follows r s f (u ∷ us) = (f u, every_follows r s f us)
 
 -- ---- members, whatever the number of their file
 
-members_aside : (k m : ℕ) (before : List Event) (ts : TokenList) (es : List Event) → second_members before k ts es ≡ [] → second_members before m ts es ≡ []
+pub members_aside : (k m : ℕ) (before : List Event) (ts : TokenList) (es : List Event) → second_members before k ts es ≡ [] → second_members before m ts es ≡ []
 members_aside k m before ts [] z = refl
 members_aside k m before ts (event.Member x g i ∷ es) z =
     let b = is_duplicate x g (word ts i) ts before in

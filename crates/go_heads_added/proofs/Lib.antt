@@ -29,6 +29,12 @@ mod Bare
 mod Tells
 mod Derived
 mod Closing
+mod CirclesSame
+mod Distinct
+mod Named
+mod ClausesSame
+mod Reported
+mod SameFault
 pub mod Public
 mod SameInFiles
 mod DeclaredSame
