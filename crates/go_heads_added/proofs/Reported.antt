@@ -233,7 +233,7 @@ module _ (k n : ℕ) (name : List ℕ) (old new : List Unit) (h : IsAdded k n na
   -- an old local variable
   record IsCounted (d : Found) : Type 0 where
     among : Among d (declarations old)
-    old : IsOld k n e (g k n name old new h i) d
+    aged : IsOld k n e (g k n name old new h i) d
 
   module _ (d : Found) (there : IsCounted d) (counted : is_counted d.it.entity d.it.block ≡ true) where
     abbrev Elsewhere : Found → Type 0
@@ -252,7 +252,7 @@ module _ (k n : ℕ) (name : List ℕ) (old new : List Unit) (h : IsAdded k n na
         by true p =
             let file = a.0.0 in
             let named = a.0.1 in
-            let below = (there.old (let z : nat_eq d.file k ≡ true = grind (arith, nat_tests) in z)).0 in
+            let below = (there.aged (let z : nat_eq d.file k ≡ true = grind (arith, nat_tests) in z)).0 in
             let z : nat_eq x.it.name d.it.name ≡ false = grind (arith, nat_tests) in z
 
     all_elsewhere : AllByRecursion Elsewhere (declarations new)
@@ -303,7 +303,7 @@ module _ (k n : ℕ) (name : List ℕ) (old new : List Unit) (h : IsAdded k n na
 
   both_parts : (ds : List Found) → AllByRecursion (λ x. Among x (declarations old)) ds → AllByRecursion (IsOld k n e (g k n name old new h i)) ds → AllByRecursion (λ d. unused_now (longer k e d) ≡ unused_then d) ds
   both_parts [] x y = tt
-  both_parts (d ∷ ds) x y = (one_unused d (record { among = x.0; old = y.0 }), both_parts ds x.1 y.1)
+  both_parts (d ∷ ds) x y = (one_unused d (record { among = x.0; aged = y.0 }), both_parts ds x.1 y.1)
 
   no_unused : unused_variables more_asks (declarations new) ≡ unused_variables asks (declarations old)
   no_unused =

@@ -92,18 +92,17 @@ module _ (follow : LocalsFollowAll) (orderly : FilesAreOrderly) (k j end x y u v
     own_placed : AllByRecursion (EventPlaced j) (events (file_context j) t)
     own_placed = tree_placed j (file_context j) t (derives_laid ts t category.File file.derives) (omega arith)
 
-    more : TellsMore k j name (unit_of a t) (unit_of b (with_declaration t d end))
+    abbrev more : TellsMore k j name (unit_of a t) (unit_of b (with_declaration t d end))
     more = tells_more k j 0 j end x y u v a b us ps s front h l
+
+    tells : AllByRecursion (IsOfFunction j) more.longer.added
+    tells = subst (AllByRecursion (IsOfFunction j)) (sym (told_is k j 0 j end x y u v a b us ps s front h l)) (function_of us j end x y u v s ps h l)
 
     clauses : clause_faults new ≡ clause_faults old
     clauses =
         let m : IsAdded k j name old new = record { before = before; a = unit_of a t; b = unit_of b (with_declaration t d end); behind = behind; was = refl; is = refl; place = place; longer = more.longer } in
         let w : FileIsWithin k j name old new m = record { clause = clause_behind ts j ps file; events = file_within j t (derives_laid ts t category.File file.derives) (omega arith) } in
-        clauses_same k j name old new m (file_earlier ts t j file refl) blank q w may.initial (added_tells m refl) bytes own_placed
-      where
-        added_tells : (m : IsAdded k j name old new) → m.longer ≡ more.longer → AllByRecursion (IsOfFunction j) m.longer.added
-        added_tells m e =
-            subst (λ z. AllByRecursion (IsOfFunction j) z.added) (sym e) (subst (AllByRecursion (IsOfFunction j)) (sym (told_is k j 0 j end x y u v a b us ps s front h l)) (function_of us j end x y u v s ps h l))
+        clauses_same k j name old new m (file_earlier ts t j file refl) blank q w may.initial tells bytes own_placed
 
     abbrev own_derived : IsDerived (unit_of a t)
     own_derived = record { kinds = ts; tree = t; is = file; told = refl }
