@@ -129,7 +129,7 @@ module _ (k : ℕ) (ss us : List Source) (h : IsAppended k ss us) (keeps : Keeps
 
   -- ---- the file
 
-  derived : IsFile (kinds h.old_tokens.tokens) (node kind.File 0 h.count h.declarations)
+  pub derived : IsFile (kinds h.old_tokens.tokens) (node kind.File 0 h.count h.declarations)
   derived = element_there (λ (s : Source). IsFile (kinds s.tokens.tokens) s.tree) h.before were_file h.behind (subst (AllByRecursion (λ (s : Source). IsFile (kinds s.tokens.tokens) s.tree)) h.was faultless.trees)
 
   pub clause : 1 < n
@@ -158,7 +158,7 @@ module _ (k : ℕ) (ss us : List Source) (h : IsAppended k ss us) (keeps : Keeps
   pub were : ds ≡ front ++ rest
   were = ap (specifications 0) h.was ∙ specifications_were k h.before h.place were_file 0 h.count h.declarations h.behind refl
 
-  are : es ≡ front ++ f ∷ rest
+  pub are : es ≡ front ++ f ∷ rest
   are =
       ap (specifications 0) h.is
       ∙ specifications_are k h.before h.place is_file 0 h.count h.end h.first h.last h.declarations (more h.signature (more (node kind.Block h.opens h.closes none) none)) h.behind refl

@@ -21,4 +21,6 @@ mod Told
 mod Where
 mod Exact
 mod Reporting
+mod Lows
+mod BodyFaults
 pub mod Public

@@ -258,7 +258,7 @@ module _ (k : ℕ) (ss us : List Source) (h : IsAppended k ss us) (keeps : Keeps
   abbrev new_file : Source
   new_file = record { tokens = h.new_tokens; tree = with_declaration (node kind.File 0 h.count h.declarations) (function_tree k ss us h) h.end }
 
-  stay_there : (m x y : ℕ) → (m ≡ k → (x < n) × (y ≤ n)) → bytes_of m (tokens_in q m) x y ≡ bytes_of m (tokens_in p m) x y
+  pub stay_there : (m x y : ℕ) → (m ≡ k → (x < n) × (y ≤ n)) → bytes_of m (tokens_in q m) x y ≡ bytes_of m (tokens_in p m) x y
   stay_there m x y below =
       ap (λ zs. bytes_of m (tokens_there (slice_get zs m)) x y) h.is ∙ bytes_same n m old_file new_file bytes h.before h.behind m x y (λ e. below (e ∙ h.place))
       ∙ ap (λ zs. bytes_of m (tokens_there (slice_get zs m)) x y) (sym h.was)

@@ -8,10 +8,12 @@ ghost use Rattle.go_tree.specs.Faults.{reported};
 ghost use Rattle.go_tree.specs.declared.object.Object.{Object};
 ghost use Rattle.go_tree.specs.Uses.{object_of, uses};
 ghost use Rattle.go_types.specs.Relations.{Rights};
+ghost use Rattle.go_tree.specs.declared.context.Entity.TheVariants as entity;
+ghost use Rattle.go_package_defs.specs.Bodies.{those_of};
 ghost use Rattle.go_package_defs.specs.Checked.{surroundings_of};
 ghost use Rattle.go_heads_added.specs.Kept.{KeepsPackage};
 ghost use Rattle.go_heads_added.specs.Reported.{KeepsBytes};
-ghost use Rattle.go_package_added.specs.Reported.{KeepsFaults, answered_with};
+ghost use Rattle.go_package_added.specs.Reported.{KeepsBodies, KeepsFaults, answered_with};
 ghost use Rattle.go_package_added.specs.Closed.{DeclaresShared, NeedsStayShared};
 ghost use Rattle.go_package_added.specs.Unchanged.{StaysTyped};
 ghost use Rattle.go_exprs_rules.specs.Sorts.{Stands};
@@ -154,4 +156,21 @@ pub fn unchanged_functions_keep_their_types()
 {
     functions_are_typed_elsewhere();
     trees_spelled_the_same_keep_it();
+}
+
+/// In such a package the functions in front of the appended one, and those behind it under the next numbers, have their types, or the same fault
+/// is reported of the first of them that has one, at the bytes where it stood. Of the appended function itself nothing is said: with results and
+/// an empty body it lacks a return (Go specification: Terminating statements).
+pub fn unchanged_functions_keep_their_fault()
+    ensures { (k : ℕ) (ss us : List Source) (h : IsAppended k ss us) (keeps : KeepsPackage k h.count (suc h.first) (map unit_of ss) (map unit_of us)) → IsFaultless ss
+        → KeepsBytes h.count h.old_tokens h.new_tokens → (x : Environment) → package_answer ss (uses (map unit_of ss)) ≡ Ok x → (s : Stands) → let a = surroundings_of (uses (map unit_of ss)) x in
+        let b = surroundings_of (uses (map unit_of us)) (with_function keeps.gap.shared s x) in
+        KeepsBodies (package_in ss) (package_in us) keeps.gap a b (function_specification k ss us h) (those_of entity.Function (specifications 0 ss)) (those_of entity.Function (specifications 0 us)) }
+{
+    functions_are_typed_elsewhere();
+    trees_spelled_the_same_keep_it();
+    unchanged_functions_keep_their_types();
+    files_are_orderly();
+    shared_declarations_need_no_locals();
+    shared_needs_are_closed();
 }
