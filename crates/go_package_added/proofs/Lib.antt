@@ -11,6 +11,7 @@ mod Needing
 mod Numbered
 mod Appending
 mod Keeping
+mod KeepingFault
 mod Signed
 mod Unchanged
 mod Surrounding

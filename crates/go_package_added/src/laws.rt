@@ -3,7 +3,9 @@
 ghost use Rattle.std.specs.List.{AllByRecursion};
 ghost use Rattle.std.specs.Prelude.{◌≡◌, ℕ, suc, Bool, true, false, Ok, List, map, Option, None, codes};
 ghost use Rattle.std.specs.Option.{option_map};
+ghost use Rattle.go_grammar.specs.Grammar.{IsFile};
 ghost use Rattle.go_tokens.specs.Spellings.{same_text};
+ghost use Rattle.go_tokens.specs.Tokens.{kinds};
 ghost use Rattle.go_tree.specs.Faults.{reported};
 ghost use Rattle.go_tree.specs.declared.object.Object.{Object};
 ghost use Rattle.go_tree.specs.Uses.{object_of, uses};
@@ -23,14 +25,14 @@ ghost use Rattle.go_package_defs.specs.Declarations.{Specification};
 ghost use Rattle.go_package_defs.specs.Knowledge.{outlines};
 ghost use Rattle.go_package_defs.specs.Sources.{Package, Source, rounds, text_at, unit_of};
 ghost use Rattle.go_package_defs.specs.Verdicts.{known};
-ghost use Rattle.go_package_added.specs.Appended.{AnswersWith, AreClosed, FitsNames, IsAppended, IsClosed, found_in, function_name, function_specification, outlines_in, package_in};
+ghost use Rattle.go_package_added.specs.Appended.{AnswersWith, AreClosed, FitsNames, IsAppended, IsClosed, SharesNames, found_in, function_name, function_specification, outlines_in, package_in};
 ghost use Rattle.go_package_added.specs.Examples.{ClosedExamples, Examples};
 ghost use Rattle.go_package_settled.specs.Read.{IsFaultless};
 ghost use Rattle.go_package_added.specs.OneMore.{IsOneMore, IsSignature, IsSignatureBefore, MaybeReadAt, Settles, with_function};
 
 use go_exprs_elsewhere::laws::{expressions_are_typed_elsewhere, trees_spelled_the_same_keep_it};
 use go_heads_added::laws::{
-    appended_functions_fail_no_rule, appended_functions_keep_the_package,
+    appended_functions_fail_no_rule, appended_functions_keep_the_package, appended_functions_keep_the_reported_fault,
     signatures_mean_what_is_declared_elsewhere,
 };
 use go_package_alike::laws::expressions_follow_from_their_tokens;
@@ -144,6 +146,16 @@ pub fn names_stay_free_of_faults()
 {
     appended_functions_fail_no_rule();
     signatures_mean_what_is_declared_elsewhere();
+}
+
+/// Behind a function with an empty body that is appended to a file, and whose name no token says, the same fault of names is reported as before,
+/// or none, where no rule fails at the function itself, and the names of its signature mean objects of the package or predeclared ones; and the
+/// tokens in front of it stand at the bytes where they stood.
+pub fn appended_functions_keep_the_fault_of_names()
+    ensures { (k : ℕ) (ss us : List Source) (h : IsAppended k ss us) → AllByRecursion (λ s. IsFile (kinds s.tokens.tokens) s.tree) ss → KeepsBytes h.count h.old_tokens h.new_tokens
+        → NoneSays (function_name k ss us h) (map unit_of ss) → FitsNames k ss us h → SharesNames k ss us h → reported (map unit_of us) ≡ reported (map unit_of ss) }
+{
+    appended_functions_keep_the_reported_fault();
 }
 
 /// In such a package the functions that stay as they are have the same types under their new numbers, behind the same right sides and where
