@@ -59,7 +59,7 @@ module _ (at : ℕ → ℕ) (bounds : Bounds) (func : ℕ) where
           ap (λ ws. ws ++ windows_in bounds (at func) k p ++ windows_along bounds (at func) list ahead (k + list_count p) (suc index) ps) (from_here list ahead index (each_mass (more p ps)))
           ∙ ap (λ ws. to own ++ ws ++ windows_along bounds (at func) list ahead (k + list_count p) (suc index) ps) (in_tree k p)
           ∙ ap (λ ws. to own ++ to inner ++ ws) (along list ahead (k + list_count p) (suc index) ps)
-          ∙ ap (λ ws. to own ++ ws) (sym (map-append (window_in at) inner rest)) ∙ sym (map-append (window_in at) own (inner ++ rest))
+          ∙ ap (λ ws. ws ++ to rest) (sym (map-append (window_in at) own inner)) ∙ sym (map-append (window_in at) (own ++ inner) rest)
       along list ahead k index (skip ps) = along list ahead k index ps
 
 -- ---- classes

@@ -32,15 +32,15 @@ module _ (r : Referent → Referent) (objects : (a b : Referent) → same_outlin
   other_apart : (f : Form) (o : Referent) → IsOther r f → same_outline (outline f) (referent_outline o) ≡ false
   other_apart f o x = apart_left (outline f) (referent_outline o) (ap (nat_eq (outline f).kind) (referent_kind o) ∙ x.right)
 
-  outlines_kept : (f h : Form) → same_outline (outline (form_reworded r f)) (outline (form_reworded r h)) ≡ same_outline (outline f) (outline h)
+  abbrev new : Form → Form → Bool
+  new x y = same_outline (outline (form_reworded r x)) (outline (form_reworded r y))
+
+  abbrev old : Form → Form → Bool
+  old x y = same_outline (outline x) (outline y)
+
+  outlines_kept : (f h : Form) → new f h ≡ old f h
   outlines_kept f h = by (either_form r f) (either_form r h)
     where
-      abbrev new : Form → Form → Bool
-      new x y = same_outline (outline (form_reworded r x)) (outline (form_reworded r y))
-
-      abbrev old : Form → Form → Bool
-      old x y = same_outline (outline x) (outline y)
-
       by : ((o : Referent) × (f ≡ form.Object o)) ⊎ IsOther r f → ((o : Referent) × (h ≡ form.Object o)) ⊎ IsOther r h → new f h ≡ old f h
       by (inl x) (inl y) =
           ap (λ z. new z h) x.1 ∙ ap (λ z. new (form.Object x.0) z) y.1 ∙ objects x.0 y.0 ∙ ap (λ z. old z (form.Object y.0)) (sym x.1) ∙ ap (old f) (sym y.1)
@@ -206,7 +206,7 @@ module _ {T U : Type 0} (g : T → U) (r : Referent → Referent) (d : T → T �
   whole here there ps qs =
       ap (λ b. b && window_fields_agree m m (all_to ps) (all_to qs)) (runs here there ps qs)
       ∙ if_same (is_same d here there ps qs) (window_fields_agree m m (all_to ps) (all_to qs)) (window_fields_agree n n ps qs)
-      (λ h. rows_name g r n m is.fields d false false Nothing Nothing ps qs (agreeing here there ps qs h))
+      (λ h. rows_name g r n m is.members d false false Nothing Nothing ps qs (agreeing here there ps qs h))
 
   -- ---- windows
 

@@ -1,9 +1,7 @@
 -- What a listing keeps of windows where a function is put between others.
-use Rattle.std.proofs.Common.{◌≡◌, ◌∙◌, ℕ, zero, suc, ◌+◌, ◌<◌, ◌≤◌, Bool, true, false, List, [], ◌∷◌, ◌++◌, length, map, Option, Some, None, slice_get, ap, refl, sym, arith, append_assoc}
-use Rattle.std.specs.Prelude.{nat_eq, nat_lt}
+use Rattle.std.proofs.Common.{◌≡◌, ◌∙◌, ℕ, zero, suc, ◌+◌, ◌≤◌, false, List, [], ◌∷◌, ◌++◌, length, map, slice_get, ap, refl, sym, arith, append_assoc}
 use Rattle.std.specs.Option.{option_map}
 use Rattle.std.specs.List.{AllByRecursion}
-use Rattle.std.proofs.lemmas.Bool.Decides.{nat_tests}
 use Rattle.std.proofs.lemmas.Option.{slice_get-map}
 use Rattle.std.proofs.lemmas.List.{map-append}
 use Rattle.go_types.specs.Relations.{Rights}
@@ -20,7 +18,7 @@ use Rattle.clone_window.specs.Windows.{windows}
 use Rattle.clone_window.specs.declared.bounds.Bounds.{Bounds}
 use Rattle.clone_classes.specs.Classes.{classes}
 use Rattle.clone_classes.specs.Listing.{windows_of_all}
-use Rattle.clone_window_added.specs.Reworded.{IsRewording, StaysThere, body_reworded, window_in}
+use Rattle.clone_window_added.specs.Reworded.{IsRewording, StaysThere}
 use Rattle.clone_window_added.specs.Unchanged.{KeepsWindows, renumbered, window_beyond, with_between}
 use Rattle.clone_window_added.proofs.Classes.{classes_kept, in_tree}
 use Rattle.clone_window_added.proofs.Compared.{windows_same}
@@ -71,7 +69,7 @@ module _ (g : Gap) (f : Body TypeTree) where
   -- ---- sameness and masses
 
   rewording : (rights : Rights) → IsRewording (λ (t : TypeTree). t) anew is_identical is_identical (field_by rights) (field_by rights)
-  rewording rights = record { types = λ t u. refl; fields = λ t k. refl; objects = objects_apart g }
+  rewording rights = record { types = λ t u. refl; members = λ t k. refl; objects = objects_apart g }
 
   module _ (front rest : List (Body TypeTree)) (place : length front ≡ g.functions) where
     stays : (w : Window) → StaysThere (λ (t : TypeTree). t) anew (beyond g.functions) (front ++ rest) (with_between g f front rest) w

@@ -1,36 +1,29 @@
 -- A function under the new numbers of functions is the function reworded.
-use Rattle.std.proofs.Common.{◌≡◌, ◌∙◌, ℕ, zero, suc, ◌+◌, ◌<◌, ◌≤◌, Bool, true, false, List, [], ◌∷◌, ◌++◌, length, map, Option, Some, None, slice_get, ap, refl, sym, arith}
+use Rattle.std.proofs.Common.{◌≡◌, ◌∙◌, ℕ, zero, suc, Bool, true, false, List, [], ◌∷◌, map, Option, Some, None, slice_get, ap, refl, sym, arith}
 use Rattle.std.specs.Prelude.{if◌then◌else◌, nat_eq, nat_lt, Result, Ok, Err}
-use Rattle.std.specs.Option.{option_map}
 use Rattle.std.specs.List.{AllByRecursion}
 use Rattle.std.proofs.lemmas.Bool.Decides.{nat_tests}
-use Rattle.std.proofs.lemmas.Option.{slice_get-map}
-use Rattle.std.proofs.lemmas.List.{map-append}
 use Rattle.go_types.specs.Trees.{TypeTree}
 use Rattle.go_types.specs.Relations.{Rights}
-use Rattle.go_types_relations.specs.Identity.{is_identical}
 use Rattle.go_typed.specs.Contents.{FuncContent}
 use Rattle.go_typed.specs.declared.form.Form.{Form}
 use Rattle.go_typed.specs.declared.form.Form.TheVariants as form
 use Rattle.go_typed.specs.declared.form.Referent.{Referent}
 use Rattle.go_typed.specs.declared.form.Referent.TheVariants as referent
-use Rattle.go_typed.specs.declared.window.Window.{Window}
 use Rattle.go_typed.specs.Trees.{Sort, Nothing, Unknown, Blank, Nil, Builtin, Println, Package, IsType, Value, Constant, Open, OpenConstant, Results}
-use Rattle.go_typed.specs.Trees.{Label, Typed, typed, Typeds, none, more, skip, sort_mapped, label_mapped}
+use Rattle.go_typed.specs.Trees.{Label, typed, Typeds, none, more, skip, sort_mapped, label_mapped}
 use Rattle.go_exprs_rules.specs.Settling.{Part}
 use Rattle.go_exprs_rules.specs.declared.fault.TypeFault.{TypeFault}
-use Rattle.go_exprs_elsewhere.specs.Elsewhere.{referent_moved, form_moved, placed, all_placed, fault_placed}
+use Rattle.go_exprs_elsewhere.specs.Elsewhere.{referent_moved, form_moved, placed, all_placed}
 use Rattle.go_stmts_elsewhere.specs.Functions.{AlongFunctions, FunctionAlong, KeepsOrder}
 use Rattle.go_package_defs.specs.Bodies.{Behind, Surroundings, portion_of, typed_function}
 use Rattle.go_package_defs.specs.Declarations.{Specification}
-use Rattle.go_package_defs.specs.Sources.{Package}
+use Rattle.go_package_defs.specs.Sources.{Package as Packaged}
 use Rattle.go_heads_added.specs.Added.{Gap, beyond}
 use Rattle.go_package_added.specs.OneMore.{function_moves}
 use Rattle.go_package_added.specs.Unchanged.{StaysTyped, last_in}
 use Rattle.clone_window.specs.Bodies.{Body}
-use Rattle.clone_window.specs.Kinds.{referent_outline}
-use Rattle.clone_window.specs.Sameness.{same_outline}
-use Rattle.clone_window_added.specs.Reworded.{KeepsObjects, form_reworded, reworded, all_reworded, body_reworded}
+use Rattle.clone_window_added.specs.Reworded.{KeepsObjects, form_reworded, reworded, all_reworded}
 use Rattle.clone_window_added.specs.Unchanged.{KeepsBody, StaysBody, body_in, renumbered}
 
 -- ---- numbers stay apart
@@ -123,7 +116,7 @@ module _ (g : Gap) where
   stays_body end n (Ok b) (Err e) h = absurd h
   stays_body end n (Err f) (Ok c) h = absurd h
 
-pub all_keep : (p q : Package) (g : Gap) (a b : Surroundings) (ds : List Specification) → AllByRecursion (λ d. (rights : Rights) (number : ℕ) → StaysTyped p q g a b rights number d) ds → AllByRecursion (KeepsBody p q g a b) ds
+pub all_keep : (p q : Packaged) (g : Gap) (a b : Surroundings) (ds : List Specification) → AllByRecursion (λ d. (rights : Rights) (number : ℕ) → StaysTyped p q g a b rights number d) ds → AllByRecursion (KeepsBody p q g a b) ds
 all_keep p q g a b [] h = tt
 all_keep p q g a b (d ∷ ds) h =
     ((λ rights number. stays_body g (last_in (portion_of p d).tree) (beyond g.functions number) (typed_function p a rights number d) (typed_function q b rights (beyond g.functions number) d) (h.0 rights number)), all_keep p q g a b ds h.1)

@@ -40,6 +40,8 @@ module _ (r : Referent → Referent) where
 
   pub either_form : (f : Form) → ((o : Referent) × (f ≡ form.Object o)) ⊎ IsOther f
   either_form (form.Object o) = inl (o, refl)
+  either_form (form.Range false n) = inr (record { same = refl; left = refl; right = refl })
+  either_form (form.Range true n) = inr (record { same = refl; left = refl; right = refl })
   either_form f = inr (record { same = refl; left = refl; right = refl })
 
   pub kind_kept : (f : Form) → (outline (form_reworded r f)).kind ≡ (outline f).kind

@@ -1,5 +1,5 @@
 -- Typed trees with other types and with other numbers of the objects of the package, and windows of functions under other numbers.
-use Rattle.std.specs.Prelude.{◌≡◌, ℕ, Bool, List, map, Option, slice_get}
+use Rattle.std.specs.Prelude.{◌≡◌, ℕ, Bool, List, map, slice_get}
 use Rattle.std.specs.Option.{option_map}
 use Rattle.go_typed.specs.declared.form.Form.{Form}
 use Rattle.go_typed.specs.declared.form.Form.TheVariants as form
@@ -37,7 +37,7 @@ KeepsObjects r = (a b : Referent) → same_outline (referent_outline (r a)) (ref
 -- objects tell these apart.
 pub record IsRewording {T U : Type 0} (g : T → U) (r : Referent → Referent) (identical : T → T → Bool) (other : U → U → Bool) (fields : FieldNames T) (names : FieldNames U) : Type 0 where
   pub types : (t u : T) → other (g t) (g u) ≡ identical t u
-  pub fields : (t : T) (k : ℕ) → names (g t) k ≡ fields t k
+  pub members : (t : T) (k : ℕ) → names (g t) k ≡ fields t k
   pub objects : KeepsObjects r
 
 -- the window in a function of another number

@@ -70,8 +70,8 @@ module _ (k : ℕ) (ss us : List Source) (h : IsAppended k ss us) (trees : AllBy
       let later = rest_of HasTree h.before (s ∷ h.behind) all_trees in
       ap reported new ∙
       law k h.count h.end h.first h.last h.opens h.closes h.old_tokens h.new_tokens (kinds h.old_tokens.tokens) (kinds h.new_tokens.tokens) h.declarations h.signature before behind
-          (mapped_count unit_of h.before ∙ h.place) (all_derived h.before (front_of HasTree h.before (s ∷ h.behind) all_trees)) (all_derived h.behind later.1) later.0
-          h.front bytes h.derives h.later h.named (subst (NoneSays (function_name k ss us h)) old none)
+      (mapped_count unit_of h.before ∙ h.place) (all_derived h.before (front_of HasTree h.before (s ∷ h.behind) all_trees)) (all_derived h.behind later.1) later.0
+      h.front bytes h.derives h.later h.named (subst (NoneSays (function_name k ss us h)) old none)
       (record {
         initial = fits.initial;
         imported = fits.imported;

@@ -24,4 +24,7 @@ mod Exact
 mod Reporting
 mod Lows
 mod BodyFaults
+mod Ordered
+mod Counted
+mod Whole
 pub mod Public

@@ -1,4 +1,4 @@
-use Rattle.std.proofs.Common.{◌≡◌, ◌∙◌}
+use Rattle.std.proofs.Common.{◌∙◌}
 use Rattle.clone_window_added.proofs.Classes.{in_tree}
 use Rattle.clone_window_added.proofs.Reworded.{window_mass_kept, windows_kept}
 use Rattle.clone_window_added.proofs.laws.reworded_functions_have_the_same_windows.Goals as goal
