@@ -39,7 +39,16 @@ beyond_apart n a b = by (nat_lt a n) (nat_lt b n) refl refl
 
 pub objects_apart : (g : Gap) → KeepsObjects (referent_moved (function_moves g))
 objects_apart g (referent.Function a) (referent.Function b) = beyond_apart g.functions a b
-objects_apart g a b = refl
+objects_apart g (referent.Constant a) (referent.Function b) = refl
+objects_apart g (referent.Type a) (referent.Function b) = refl
+objects_apart g (referent.Variable a) (referent.Function b) = refl
+objects_apart g (referent.Predeclared a) (referent.Function b) = refl
+objects_apart g referent.Println (referent.Function b) = refl
+objects_apart g a (referent.Constant b) = refl
+objects_apart g a (referent.Type b) = refl
+objects_apart g a (referent.Variable b) = refl
+objects_apart g a (referent.Predeclared b) = refl
+objects_apart g a referent.Println = refl
 
 -- ---- trees
 

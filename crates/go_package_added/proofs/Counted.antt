@@ -88,14 +88,17 @@ those_other z P f (d ∷ ds) h = by (is_this entity.Function d.entity) (those_ot
     by true g = (f d h.0, g)
     by false g = g
 
-first_of : (a b c d : ℕ) → (a, b) ≡ (c, d) → a ≡ c
-first_of a b c d e = ap (λ p. p.0) e
+abbrev spot : ℕ → ℕ → ℕ × ℕ
+spot a b = (a, b)
 
-second_of : (a b c d : ℕ) → (a, b) ≡ (c, d) → b ≡ d
-second_of a b c d e = ap (λ p. p.1) e
+first_of : (a b c d : ℕ) → spot a b ≡ spot c d → a ≡ c
+first_of a b c d e = ap (λ (p : ℕ × ℕ). p.0) e
+
+second_of : (a b c d : ℕ) → spot a b ≡ spot c d → b ≡ d
+second_of a b c d e = ap (λ (p : ℕ × ℕ). p.1) e
 
 -- a specification that stands in another file, or in front of the token n, isn't that of a function that begins behind that
-other_spot : (k n x : ℕ) → n ≤ x → (d : Specification) → IsPlaced k n d → Other (k, suc x) (specified_spot d)
+other_spot : (k n x : ℕ) → n ≤ x → (d : Specification) → IsPlaced k n d → Other (spot k (suc x)) (specified_spot d)
 other_spot k n x l d (inl h) e = let f = first_of d.file (suc d.first) k (suc x) e in grind (arith, nat_tests)
 other_spot k n x l d (inr h) e = let f = second_of d.file (suc d.first) k (suc x) e in let b = h.begins in absurd (omega (arith, f, b, l))
 
@@ -110,7 +113,7 @@ pub counted : (k : ℕ) (ss us : List Source) (h : IsAppended k ss us) (keeps : 
 counted k ss us h keeps faultless old new front rest were are =
     let kept = keeps.declared in
     let longer = map (longer_declared k keeps.end) in
-    let z = (k, suc h.first) in
+    let z : ℕ × ℕ = (k, suc h.first) in
     let there = map specified_spot front in
     let behind = map specified_spot rest in
     let all : AllByRecursion (Other z) (map specified_spot (those_of entity.Function (specifications 0 ss))) =
@@ -118,7 +121,7 @@ counted k ss us h keeps faultless old new front rest were are =
     let front_other : AllByRecursion (Other z) there = front_of (Other z) there behind (subst (AllByRecursion (Other z)) (ap (map specified_spot) were ∙ map-append specified_spot front rest) all) in
     let first_other : AllByRecursion (Other z) (spots kept.first) =
     front_of (Other z) (spots kept.first) (spots kept.second) (subst (AllByRecursion (Other z)) (sym old ∙ ap spots kept.were ∙ spots_both kept.first kept.second) all) in
-    let function : (kept.function.file, kept.function.name) ≡ z = ap (λ i. (i, kept.function.name)) keeps.file ∙ ap (λ i. (k, i)) keeps.name in
+    let function : declared_spot kept.function ≡ z = ap (λ i. spot i kept.function.name) keeps.file ∙ ap (spot k) keeps.name in
     let objects : spots (uses (map unit_of us)).package_level ≡ spots kept.first ++ z ∷ spots kept.second =
     ap spots kept.are ∙ spots_both (longer kept.first) (kept.function ∷ longer kept.second)
     ∙ ap (λ l. l ++ spots (kept.function ∷ longer kept.second)) (longer_spots k keeps.end kept.first)
