@@ -154,4 +154,6 @@ module _ (k : ℕ) (ss us : List Source) (h : IsAppended k ss us) (keeps : Keeps
         own_passes q b y.rights keeps.gap.functions own kept.rest c f typed (subst (λ r. functions_from q b r (suc keeps.gap.functions) kept.rest ≡ Err f) (sym rights) later) in
         fails f
         (behind_fails q b 0 kept.front (own ∷ kept.rest) x.rights there.0 f there.1
-        (subst (λ i. functions_from q b there.0.rights i (own ∷ kept.rest) ≡ Err f) (sym count) (subst (λ r. functions_from q b r keeps.gap.functions (own ∷ kept.rest) ≡ Err f) (sym there.2) whole)))
+        (subst (λ i. functions_from q b there.0.rights i (own ∷ kept.rest) ≡ Err f)
+        (let e = count in let place : keeps.gap.functions ≡ 0 + length kept.front = omega (arith, e) in place)
+        (subst (λ r. functions_from q b r keeps.gap.functions (own ∷ kept.rest) ≡ Err f) (sym there.2) whole)))
