@@ -38,17 +38,42 @@ beyond_apart n a b = by (nat_lt a n) (nat_lt b n) refl refl
     by false false e f = grind (arith, nat_tests)
 
 pub objects_apart : (g : Gap) → KeepsObjects (referent_moved (function_moves g))
-objects_apart g (referent.Function a) (referent.Function b) = beyond_apart g.functions a b
+objects_apart g (referent.Constant a) (referent.Constant b) = refl
+objects_apart g (referent.Constant a) (referent.Type b) = refl
+objects_apart g (referent.Constant a) (referent.Variable b) = refl
 objects_apart g (referent.Constant a) (referent.Function b) = refl
+objects_apart g (referent.Constant a) (referent.Predeclared b) = refl
+objects_apart g (referent.Constant a) referent.Println = refl
+objects_apart g (referent.Type a) (referent.Constant b) = refl
+objects_apart g (referent.Type a) (referent.Type b) = refl
+objects_apart g (referent.Type a) (referent.Variable b) = refl
 objects_apart g (referent.Type a) (referent.Function b) = refl
+objects_apart g (referent.Type a) (referent.Predeclared b) = refl
+objects_apart g (referent.Type a) referent.Println = refl
+objects_apart g (referent.Variable a) (referent.Constant b) = refl
+objects_apart g (referent.Variable a) (referent.Type b) = refl
+objects_apart g (referent.Variable a) (referent.Variable b) = refl
 objects_apart g (referent.Variable a) (referent.Function b) = refl
+objects_apart g (referent.Variable a) (referent.Predeclared b) = refl
+objects_apart g (referent.Variable a) referent.Println = refl
+objects_apart g (referent.Function a) (referent.Constant b) = refl
+objects_apart g (referent.Function a) (referent.Type b) = refl
+objects_apart g (referent.Function a) (referent.Variable b) = refl
+objects_apart g (referent.Function a) (referent.Function b) = beyond_apart g.functions a b
+objects_apart g (referent.Function a) (referent.Predeclared b) = refl
+objects_apart g (referent.Function a) referent.Println = refl
+objects_apart g (referent.Predeclared a) (referent.Constant b) = refl
+objects_apart g (referent.Predeclared a) (referent.Type b) = refl
+objects_apart g (referent.Predeclared a) (referent.Variable b) = refl
 objects_apart g (referent.Predeclared a) (referent.Function b) = refl
+objects_apart g (referent.Predeclared a) (referent.Predeclared b) = refl
+objects_apart g (referent.Predeclared a) referent.Println = refl
+objects_apart g referent.Println (referent.Constant b) = refl
+objects_apart g referent.Println (referent.Type b) = refl
+objects_apart g referent.Println (referent.Variable b) = refl
 objects_apart g referent.Println (referent.Function b) = refl
-objects_apart g a (referent.Constant b) = refl
-objects_apart g a (referent.Type b) = refl
-objects_apart g a (referent.Variable b) = refl
-objects_apart g a (referent.Predeclared b) = refl
-objects_apart g a referent.Println = refl
+objects_apart g referent.Println (referent.Predeclared b) = refl
+objects_apart g referent.Println referent.Println = refl
 
 -- ---- trees
 
