@@ -11,7 +11,6 @@ mod Needing
 mod Numbered
 mod Appending
 mod Keeping
-mod KeepingFault
 mod Signed
 mod Unchanged
 mod Surrounding
@@ -24,7 +23,4 @@ mod Exact
 mod Reporting
 mod Lows
 mod BodyFaults
-mod Ordered
-mod Counted
-mod Whole
 pub mod Public

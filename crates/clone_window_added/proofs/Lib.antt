@@ -1,6 +1,0 @@
-mod Reworded
-mod FieldNames
-mod Compared
-mod Classes
-mod Placed
-mod Kept

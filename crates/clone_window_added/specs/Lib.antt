@@ -1,2 +1,0 @@
-pub mod Reworded
-pub mod Unchanged
