@@ -48,7 +48,7 @@ module _ (k end : ℕ) (g : Gap) where
   AreMoved (a ∷ os) [] = ⊥
   AreMoved (a ∷ os) (b ∷ bs) = Moved a b × AreMoved os bs
 
-  moved_both : (os bs cs ds : List Asked) → AreMoved os bs → AreMoved cs ds → AreMoved (os ++ cs) (bs ++ ds)
+  pub moved_both : (os bs cs ds : List Asked) → AreMoved os bs → AreMoved cs ds → AreMoved (os ++ cs) (bs ++ ds)
   moved_both [] [] cs ds h f = f
   moved_both [] (b ∷ bs) cs ds h f = absurd h
   moved_both (a ∷ os) [] cs ds h f = absurd h
@@ -88,10 +88,10 @@ module _ (k end : ℕ) (g : Gap) where
   by_same w None = known_same (known_in known_names w)
   by_same w (Some m) = refl
 
-  object_same : (a b : Asked) → Moved a b → object_asked b ≡ option_map (shifted g) (object_asked a)
+  pub object_same : (a b : Asked) → Moved a b → object_asked b ≡ option_map (shifted g) (object_asked a)
   object_same a b h = ap (λ w. object_by w b.meaning) h.name ∙ ap (object_by a.name) h.meaning ∙ by_same a.name a.meaning
 
-  lacks_same : (c : Bool) (w : List ℕ) (o : Option Object) → lacks_meaning c w (option_map (shifted g) o) ≡ lacks_meaning c w o
+  pub lacks_same : (c : Bool) (w : List ℕ) (o : Option Object) → lacks_meaning c w (option_map (shifted g) o) ≡ lacks_meaning c w o
   lacks_same c w None = refl
   lacks_same c w (Some (object.Predeclared predeclared.Iota)) = refl
   lacks_same c w (Some (object.Predeclared p)) = refl
@@ -99,7 +99,7 @@ module _ (k end : ℕ) (g : Gap) where
   lacks_same c w (Some (object.Local i m)) = refl
   lacks_same c w (Some object.Import) = refl
 
-  unknown_same : (w : List ℕ) (o : Option Object) → is_unknown w (option_map (shifted g) o) ≡ is_unknown w o
+  pub unknown_same : (w : List ℕ) (o : Option Object) → is_unknown w (option_map (shifted g) o) ≡ is_unknown w o
   unknown_same w None = refl
   unknown_same w (Some o) = refl
 
@@ -114,7 +114,7 @@ module _ (k end : ℕ) (g : Gap) where
   source_initial None = refl
   source_initial (Some d) = refl
 
-  initial_same : (o : Option Meaning) → is_initial (option_map (moved k end g) o) ≡ is_initial o
+  pub initial_same : (o : Option Meaning) → is_initial (option_map (moved k end g) o) ≡ is_initial o
   initial_same None = refl
   initial_same (Some m) = source_initial m.source
 
@@ -161,7 +161,7 @@ module _ (k end : ℕ) (g : Gap) where
   members_none [] h = refl
   members_none (a ∷ os) h = none_there (is_import (object_asked a) && is_other_member a.it.role a.selected) a.whole (outside_members os) h.0 (members_none os h.1)
 
-  imports_moved : (a b : Asked) → Moved a b → is_import (object_asked b) ≡ is_import (object_asked a)
+  pub imports_moved : (a b : Asked) → Moved a b → is_import (object_asked b) ≡ is_import (object_asked a)
   imports_moved a b h = ap is_import (object_same a b h) ∙ import_same (object_asked a)
 
   member_moved : (a b : Asked) → Moved a b → IsMember a → IsMember b
@@ -218,7 +218,7 @@ module _ (k end : ℕ) (g : Gap) where
 
   -- ---- what is used
 
-  used_append : (d : Found) (xs ys : List Asked) → is_used d (xs ++ ys) ≡ (is_used d xs || is_used d ys)
+  pub used_append : (d : Found) (xs ys : List Asked) → is_used d (xs ++ ys) ≡ (is_used d xs || is_used d ys)
   used_append d [] ys = refl
   used_append d (x ∷ xs) ys =
       ap (λ b. (means d x.meaning && not (is_assigned x.it.role)) || b) (used_append d xs ys) ∙ or_assoc (means d x.meaning && not (is_assigned x.it.role)) (is_used d xs) (is_used d ys)
@@ -227,11 +227,11 @@ module _ (k end : ℕ) (g : Gap) where
   means_source d None = refl
   means_source d (Some x) = refl
 
-  means_same : (d : Found) (o : Option Meaning) → means (longer k end d) (option_map (moved k end g) o) ≡ means d o
+  pub means_same : (d : Found) (o : Option Meaning) → means (longer k end d) (option_map (moved k end g) o) ≡ means d o
   means_same d None = refl
   means_same d (Some m) = means_source d m.source
 
-  used_moved : (d : Found) (os bs : List Asked) → AreMoved os bs → is_used (longer k end d) bs ≡ is_used d os
+  pub used_moved : (d : Found) (os bs : List Asked) → AreMoved os bs → is_used (longer k end d) bs ≡ is_used d os
   used_moved d [] [] h = refl
   used_moved d [] (b ∷ bs) h = absurd h
   used_moved d (a ∷ os) [] h = absurd h
@@ -254,11 +254,11 @@ module _ (k end : ℕ) (g : Gap) where
       (ap (λ x. x || is_used l h.second_new) (used_moved d h.first h.first_new h.front) ∙ ap (λ x. is_used d h.first || x) (used_moved d h.second h.second_new h.rest)
       ∙ sym (used_append d h.first h.second) ∙ ap (is_used d) (sym h.was) ∙ e)
 
-  uses_append : (m : ℕ) (xs ys : List Asked) → uses_import m (xs ++ ys) ≡ (uses_import m xs || uses_import m ys)
+  pub uses_append : (m : ℕ) (xs ys : List Asked) → uses_import m (xs ++ ys) ≡ (uses_import m xs || uses_import m ys)
   uses_append m [] ys = refl
   uses_append m (x ∷ xs) ys = ap (λ b. (nat_eq x.file m && is_import (object_asked x)) || b) (uses_append m xs ys) ∙ or_assoc (nat_eq x.file m && is_import (object_asked x)) (uses_import m xs) (uses_import m ys)
 
-  uses_moved : (m : ℕ) (os bs : List Asked) → AreMoved os bs → uses_import m bs ≡ uses_import m os
+  pub uses_moved : (m : ℕ) (os bs : List Asked) → AreMoved os bs → uses_import m bs ≡ uses_import m os
   uses_moved m [] [] h = refl
   uses_moved m [] (b ∷ bs) h = absurd h
   uses_moved m (a ∷ os) [] h = absurd h
@@ -282,7 +282,7 @@ module _ (k n : ℕ) (name : List ℕ) (end : ℕ) (g : Gap) (xs ds ys : List Me
   abbrev new : List Meaning
   new = are k n name end g xs ds ys
 
-  meaning_moved : (m t : ℕ) (w : List ℕ) → Stands k n m t → same_text name w ≡ false → meaning_at new m t w ≡ option_map (moved k end g) (meaning_at old m t w)
+  pub meaning_moved : (m t : ℕ) (w : List ℕ) → Stands k n m t → same_text name w ≡ false → meaning_at new m t w ≡ option_map (moved k end g) (meaning_at old m t w)
   meaning_moved m t w s q = meant_as_before (moved k end g) (record { name = λ x. refl; extent = λ x. refl }) m t w xs ds ys (a.aside m t w s q)
 
   -- a file that is as it was
@@ -303,7 +303,7 @@ module _ (k n : ℕ) (name : List ℕ) (end : ℕ) (g : Gap) (xs ds ys : List Me
   other_asks m ts (e ∷ es) o q = other_asks m ts es o q
 
   -- the file that is longer
-  selected_same : (ts us : TokenList) (r : Role) → ((t : ℕ) → t < n → word us t ≡ word ts t) → 0 < n → RoleWithin n r → selected_of us r ≡ selected_of ts r
+  pub selected_same : (ts us : TokenList) (r : Role) → ((t : ℕ) → t < n → word us t ≡ word ts t) → 0 < n → RoleWithin n r → selected_of us r ≡ selected_of ts r
   selected_same ts us (role.Selected last called) w l h = w (last - 1) (omega (arith, l, h))
   selected_same ts us r w l h = refl
 
@@ -332,7 +332,7 @@ module _ (k n : ℕ) (name : List ℕ) (end : ℕ) (g : Gap) (xs ds ys : List Me
       )
   own_asks ts us (e ∷ es) w q h = own_asks ts us es w q h.1
 
-  in_append : (ms : List Meaning) (m : ℕ) (ts : TokenList) (es fs : List Event) → asked_in ms m ts (es ++ fs) ≡ asked_in ms m ts es ++ asked_in ms m ts fs
+  pub in_append : (ms : List Meaning) (m : ℕ) (ts : TokenList) (es fs : List Event) → asked_in ms m ts (es ++ fs) ≡ asked_in ms m ts es ++ asked_in ms m ts fs
   in_append ms m ts [] fs = refl
   in_append ms m ts (event.Use u ∷ es) fs = by (is_blank (word ts u.name)) (in_append ms m ts es fs)
     where
@@ -355,7 +355,7 @@ module _ (k n : ℕ) (name : List ℕ) (end : ℕ) (g : Gap) (xs ds ys : List Me
       moved_both k end g (asked_in old m u.tokens u.events) (asked_in new m u.tokens u.events) (asked_from old (suc m) us) (asked_from new (suc m) us)
       (other_asks m u.tokens u.events (grind (arith, nat_tests)) q.0) (files_behind (suc m) us (omega (arith, l)) q.1)
 
-  from_append : (ms : List Meaning) (m j : ℕ) (us vs : List Unit) → j ≡ m + length us → asked_from ms m (us ++ vs) ≡ asked_from ms m us ++ asked_from ms j vs
+  pub from_append : (ms : List Meaning) (m j : ℕ) (us vs : List Unit) → j ≡ m + length us → asked_from ms m (us ++ vs) ≡ asked_from ms m us ++ asked_from ms j vs
   from_append ms m j [] vs e = ap (λ i. asked_from ms i vs) (let z : m ≡ j = omega (arith, e) in z)
   from_append ms m j (u ∷ us) vs e =
       ap (λ l. asked_in ms m u.tokens u.events ++ l) (from_append ms (suc m) j us vs (omega (arith, e)))

@@ -114,13 +114,13 @@ not_true : (b : Bool) → not b ≡ true → b ≡ false
 not_true true e = cc
 not_true false e = refl
 
-spelled_same : (ts us : TokenList) (i : ℕ) (ws : List (List ℕ)) → ((t : ℕ) → t < i + length ws → word us t ≡ word ts t) → is_spelled us i ws ≡ is_spelled ts i ws
+pub spelled_same : (ts us : TokenList) (i : ℕ) (ws : List (List ℕ)) → ((t : ℕ) → t < i + length ws → word us t ≡ word ts t) → is_spelled us i ws ≡ is_spelled ts i ws
 spelled_same ts us i [] w = refl
 spelled_same ts us i (v ∷ ws) w =
     ap (λ x. same_text x v && is_spelled us (suc i) ws) (w i (omega arith)) ∙ ap (λ x. same_text (word ts i) v && x) (spelled_same ts us (suc i) ws (λ t l. w t (omega (arith, l))))
 
 -- its last word is `int`
-last_word : (ts : TokenList) (i : ℕ) → is_spelled ts i read_byte ≡ true → same_text (word ts (suc (suc (suc (suc i))))) (codes "int") ≡ true
+pub last_word : (ts : TokenList) (i : ℕ) → is_spelled ts i read_byte ≡ true → same_text (word ts (suc (suc (suc (suc i))))) (codes "int") ≡ true
 last_word ts i e =
     let one = and_second (same_text (word ts i) (codes "func")) _ e in
     let two = and_second (same_text (word ts (suc i)) (codes "readByte")) _ one in
@@ -175,7 +175,7 @@ every_follows r s f (u ∷ us) = (f u, every_follows r s f us)
 
 -- ---- members, whatever the number of their file
 
-members_aside : (k m : ℕ) (before : List Event) (ts : TokenList) (es : List Event) → second_members before k ts es ≡ [] → second_members before m ts es ≡ []
+pub members_aside : (k m : ℕ) (before : List Event) (ts : TokenList) (es : List Event) → second_members before k ts es ≡ [] → second_members before m ts es ≡ []
 members_aside k m before ts [] z = refl
 members_aside k m before ts (event.Member x g i ∷ es) z =
     let b = is_duplicate x g (word ts i) ts before in
@@ -197,7 +197,7 @@ many_same n (u ∷ us) a b vs f =
     let new = length-append (statements n u.tokens u.events) (of_files statements (suc n) (us ++ b ∷ vs)) in
     omega (arith, later, old, new)
 
-import_same : (us : List Unit) (a b : Unit) (vs : List Unit) → imports_fmt b.tokens b.events ≡ imports_fmt a.tokens a.events → has_import (us ++ b ∷ vs) ≡ has_import (us ++ a ∷ vs)
+pub import_same : (us : List Unit) (a b : Unit) (vs : List Unit) → imports_fmt b.tokens b.events ≡ imports_fmt a.tokens a.events → has_import (us ++ b ∷ vs) ≡ has_import (us ++ a ∷ vs)
 import_same [] a b vs e = ap (λ x. x || has_import vs) e
 import_same (u ∷ us) a b vs e = ap (λ x. imports_fmt u.tokens u.events || x) (import_same us a b vs e)
 
@@ -217,19 +217,19 @@ module _ (k n : ℕ) (name : List ℕ) (old new : List Unit) (h : IsAdded k n na
   abbrev longest : List Event
   longest = map (reaching e) h.a.events ++ extra
 
-  abbrev asks : List Asked
+  abbrev pub asks : List Asked
   asks = asked_from (meanings old) 0 old
 
-  abbrev more_asks : List Asked
+  abbrev pub more_asks : List Asked
   more_asks = asked_from (meanings new) 0 new
 
-  abbrev mid : List Asked
+  abbrev pub mid : List Asked
   mid = asked_in (meanings new) k us extra
 
-  says : AllByRecursion (Says name) (h.before ++ h.a ∷ h.behind)
+  pub says : AllByRecursion (Says name) (h.before ++ h.a ∷ h.behind)
   says = following.says k n name old new h i q w
 
-  own_says : Says name h.a
+  pub own_says : Says name h.a
   own_says = (all_behind (Says name) h.before (h.a ∷ h.behind) says).0
 
   -- a rule on the events of each file
@@ -299,19 +299,19 @@ module _ (k n : ℕ) (name : List ℕ) (old new : List Unit) (h : IsAdded k n na
   all_apart : AllByRecursion (IsApart name) (front k n name old new h i ++ rest k n name old new h i)
   all_apart = subst (AllByRecursion (IsApart name)) (found_before k n name old new h i) (from_apart name 0 old q)
 
-  kept_old : AllByRecursion IsStill (kept k n name old new h i)
+  pub kept_old : AllByRecursion IsStill (kept k n name old new h i)
   kept_old =
       let f = front k n name old new h i in
       let r = rest k n name old new h i in
       new_all IsStill (f ++ r) f (together f (all_front (IsApart name) f r all_apart) i.front_blocks)
 
-  others_old : AllByRecursion IsStill (others k n name old new h i)
+  pub others_old : AllByRecursion IsStill (others k n name old new h i)
   others_old =
       let f = front k n name old new h i in
       let r = rest k n name old new h i in
       new_all IsStill (f ++ r) r (together r (all_behind (IsApart name) f r all_apart) i.rest_blocks)
 
-  new_parameters : AllByRecursion (IsParameter k n) (new_among (all k n name old new h i) h.longer.parameters)
+  pub new_parameters : AllByRecursion (IsParameter k n) (new_among (all k n name old new h i) h.longer.parameters)
   new_parameters = parameters_new k n (all k n name old new h i) h.longer.parameters h.longer.are_parameters
 
   no_second : second_declarations [] (declarations old) ≡ [] → second_declarations [] (declarations new) ≡ []
@@ -347,7 +347,7 @@ module _ (k n : ℕ) (name : List ℕ) (old new : List Unit) (h : IsAdded k n na
 
   -- ---- names that are looked up
 
-  follow : AsksFollow k e (g k n name old new h i) mid asks more_asks
+  pub follow : AsksFollow k e (g k n name old new h i) mid asks more_asks
   follow = following.follow k n name old new h i q w
 
   lookups : lookup_faults asks ≡ [] → lookup_faults more_asks ≡ []
@@ -453,20 +453,20 @@ module _ (k n : ℕ) (name : List ℕ) (old new : List Unit) (h : IsAdded k n na
 
   -- ---- declarations that need themselves
 
-  abbrev IsInFront : Found → Type 0
+  abbrev pub IsInFront : Found → Type 0
   IsInFront = IsOld k n e (g k n name old new h i)
 
-  kept_is_old : AllByRecursion IsInFront (kept k n name old new h i)
+  pub kept_is_old : AllByRecursion IsInFront (kept k n name old new h i)
   kept_is_old = following.kept_is_old k n name old new h i q w
 
-  others_is_old : AllByRecursion IsInFront (others k n name old new h i)
+  pub others_is_old : AllByRecursion IsInFront (others k n name old new h i)
   others_is_old = following.others_is_old k n name old new h i q w
 
-  declared_is_old : AllByRecursion IsInFront (declarations old)
+  pub declared_is_old : AllByRecursion IsInFront (declarations old)
   declared_is_old = following.declared_is_old k n name old new h i q w
 
   -- each name that is looked up means what is declared
-  abbrev IsThere : Found → Type 0
+  abbrev pub IsThere : Found → Type 0
   IsThere d = IsInFront d × IsDeclared d (declarations old)
 
   one_itself : (d : Found) → is_same d d ≡ true
@@ -488,7 +488,7 @@ module _ (k n : ℕ) (name : List ℕ) (old new : List Unit) (h : IsAdded k n na
       all_both (λ m. SourceHas IsThere m.source) (imported_from 0 old) (numbered first_numbers (declarations old)) (imports_have IsThere 0 old)
       (numbered_has IsThere first_numbers (declarations old) (pair (declarations old) declared_is_old (all_there (declarations old))))
 
-  asks_there : AllByRecursion (λ a. Maybe (λ m. SourceHas IsThere m.source) a.meaning) asks
+  pub asks_there : AllByRecursion (λ a. Maybe (λ m. SourceHas IsThere m.source) a.meaning) asks
   asks_there = from_has (λ m. SourceHas IsThere m.source) (meanings old) meanings_there 0 old
 
   are_declared : (xs : List Asked) → AllByRecursion (λ a. Maybe (λ m. SourceHas IsThere m.source) a.meaning) xs → AreDeclared xs (declarations old)
@@ -515,7 +515,7 @@ module _ (k n : ℕ) (name : List ℕ) (old new : List Unit) (h : IsAdded k n na
   maybe_old None x = tt
   maybe_old (Some m) x = source_is_old m.source x
 
-  asks_old : AllByRecursion (λ a. Maybe (λ m. SourceHas IsInFront m.source) a.meaning) asks
+  pub asks_old : AllByRecursion (λ a. Maybe (λ m. SourceHas IsInFront m.source) a.meaning) asks
   asks_old = all_more (λ a. Maybe (λ m. SourceHas IsThere m.source) a.meaning) (λ a. Maybe (λ m. SourceHas IsInFront m.source) a.meaning) (λ a x. maybe_old a.meaning x) asks asks_there
 
   -- names of the file stand in specifications in front of its end
@@ -609,7 +609,7 @@ module _ (k n : ℕ) (name : List ℕ) (old new : List Unit) (h : IsAdded k n na
           let below = z (let q : nat_eq y.file k ≡ true = grind (arith, nat_tests) in q) in
           absurd (omega (arith, named, below))
 
-  added_stand : AllByRecursion (λ d. (d.file ≡ k) × (n ≤ d.it.name)) (added k n name old new h i)
+  pub added_stand : AllByRecursion (λ d. (d.file ≡ k) × (n ≤ d.it.name)) (added k n name old new h i)
   added_stand = (
     (h.longer.is_function.file, h.longer.is_function.named),
     all_more (IsParameter k n) (λ d. (d.file ≡ k) × (n ≤ d.it.name)) (λ d p. (p.file, p.named)) (new_among (all k n name old new h i) h.longer.parameters) new_parameters,
@@ -635,7 +635,7 @@ module _ (k n : ℕ) (name : List ℕ) (old new : List Unit) (h : IsAdded k n na
   mid_comes : AllByRecursion (λ a. Maybe Comes a.meaning) mid
   mid_comes = asked_has Comes (meanings new) all_come k us extra
 
-  mid_news : AllByRecursion (λ a. (a.file ≡ k) × SiteBehind n a.it.site) mid
+  pub mid_news : AllByRecursion (λ a. (a.file ≡ k) × SiteBehind n a.it.site) mid
   mid_news = following.news_in k n name old new h i q w (meanings new) extra fine.tells
 
   comes_from : (xs : List Asked) → AllByRecursion (λ a. Maybe Comes a.meaning) xs → AllByRecursion (λ a. MeansOuter k n a.meaning) xs
@@ -647,7 +647,7 @@ module _ (k n : ℕ) (name : List ℕ) (old new : List Unit) (h : IsAdded k n na
       by None p q = tt
       by (Some m) p q = p q
 
-  abbrev Never : List Asked → ℕ → Found → Type 0
+  abbrev pub Never : List Asked → ℕ → Found → Type 0
   Never as_ r d = needs_itself as_ r d ≡ false
 
   or_front : (a b : Bool) → (a || b) ≡ false → a ≡ false
@@ -676,7 +676,7 @@ module _ (k n : ℕ) (name : List ℕ) (old new : List Unit) (h : IsAdded k n na
   still_never r [] o z = tt
   still_never r (d ∷ ds) o z = (itself_same k n e (g k n name old new h i) mid asks more_asks follow mid_news asks_old r d o.0 ∙ z.0, still_never r ds o.1 z.1)
 
-  new_never : (r : ℕ) → AllByRecursion (Never more_asks r) (added k n name old new h i)
+  pub new_never : (r : ℕ) → AllByRecursion (Never more_asks r) (added k n name old new h i)
   new_never r = (
     function_never k n e (g k n name old new h i) mid asks more_asks follow mid_news asks_old h.longer.function h.longer.is_function.file h.longer.is_function.named own_declared.0.1 asks_early (comes_from mid mid_comes fine.outer) r,
     new_all (Never more_asks r) (all k n name old new h i) h.longer.parameters (parameters_never h.longer.parameters h.longer.are_parameters own_declared.1),
@@ -686,7 +686,7 @@ module _ (k n : ℕ) (name : List ℕ) (old new : List Unit) (h : IsAdded k n na
       parameters_never [] x y = tt
       parameters_never (d ∷ ds) x y = (sourceless more_asks r d (y.0.0 (ap is_function x.0.entity)), parameters_never ds x.1 y.1)
 
-  no_cycles : Bound → cycle_faults (declarations old) asks ≡ [] → cycle_faults (declarations new) more_asks ≡ []
+  pub no_cycles : Bound → cycle_faults (declarations old) asks ≡ [] → cycle_faults (declarations new) more_asks ≡ []
   no_cycles bound z =
       let ds = declarations old in
       let few = none_any (length ds + length ds) ds (failing_none code.Cycle (cycles asks (length ds + length ds) ds) z) in

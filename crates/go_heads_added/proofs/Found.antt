@@ -88,6 +88,37 @@ module _ (k end : ℕ) where
 
 -- ---- the whole package
 
+module _ (k n : ℕ) (name : List ℕ) (old new : List Unit) (h : IsAdded k n name old new) (earlier : AreEarlier n h.a.events) where
+  abbrev firsts : List Found
+  firsts = found_from 0 h.before ++ found_in k h.a.tokens h.a.events
+
+  abbrev lasts : List Found
+  lasts = found_from (suc k) h.behind
+
+  abbrev middle : List Found
+  middle = h.longer.function ∷ h.longer.parameters
+
+  pub found_earlier : found old ≡ firsts ++ lasts
+  found_earlier =
+      ap found h.was ∙ from_append 0 k h.before (h.a ∷ h.behind) (let e = h.place in omega arith)
+      ∙ sym (append_assoc (found_from 0 h.before) (found_in k h.a.tokens h.a.events) (found_from (suc k) h.behind))
+
+  pub found_later : found new ≡ map (longer k h.longer.end) firsts ++ (middle ++ map (longer k h.longer.end) lasts)
+  found_later =
+      let end = h.longer.end in
+      ap found h.is ∙ from_append 0 k h.before (h.b ∷ h.behind) (let e = h.place in omega arith)
+      ∙ ap (λ l. found_from 0 h.before ++ (l ++ lasts))
+      (ap (found_in k h.b.tokens) h.longer.events ∙ found_append k h.b.tokens (map (reaching end) h.a.events) h.longer.added
+      ∙ ap (λ l. l ++ found_in k h.b.tokens h.longer.added) (own_found k end n h.a.tokens h.b.tokens h.a.events earlier h.longer.words h.longer.places)
+      ∙ ap (λ l. map (longer k end) (found_in k h.a.tokens h.a.events) ++ l) h.longer.declares)
+      ∙ ap (λ l. l ++ ((map (longer k end) (found_in k h.a.tokens h.a.events) ++ middle) ++ lasts)) (sym (front_others k end 0 h.before (let e = h.place in omega arith)))
+      ∙ ap (λ l. map (longer k end) (found_from 0 h.before) ++ ((map (longer k end) (found_in k h.a.tokens h.a.events) ++ middle) ++ l)) (sym (rest_others k end (suc k) h.behind (omega arith)))
+      ∙ regroup (map (longer k end) (found_from 0 h.before)) (map (longer k end) (found_in k h.a.tokens h.a.events)) middle (map (longer k end) lasts)
+      ∙ ap (λ l. l ++ (middle ++ map (longer k end) lasts)) (sym (map_append k end (found_from 0 h.before) (found_in k h.a.tokens h.a.events)))
+    where
+      regroup : (a b c d : List Found) → a ++ ((b ++ c) ++ d) ≡ (a ++ b) ++ (c ++ d)
+      regroup a b c d = simp append_assoc
+
 module _ (k n : ℕ) (name : List ℕ) (old new : List Unit) (h : IsAdded k n name old new) (in_trees : LiesIn k n name old new h) where
   abbrev pub front : List Found
   front = found_from 0 h.before ++ found_in k h.a.tokens h.a.events
@@ -99,25 +130,10 @@ module _ (k n : ℕ) (name : List ℕ) (old new : List Unit) (h : IsAdded k n na
   between = h.longer.function ∷ h.longer.parameters
 
   pub found_before : found old ≡ front ++ rest
-  found_before =
-      ap found h.was ∙ from_append 0 k h.before (h.a ∷ h.behind) (let e = h.place in omega arith)
-      ∙ sym (append_assoc (found_from 0 h.before) (found_in k h.a.tokens h.a.events) (found_from (suc k) h.behind))
+  found_before = found_earlier k n name old new h in_trees.earlier
 
   pub found_after : found new ≡ map (longer k h.longer.end) front ++ (between ++ map (longer k h.longer.end) rest)
-  found_after =
-      let end = h.longer.end in
-      ap found h.is ∙ from_append 0 k h.before (h.b ∷ h.behind) (let e = h.place in omega arith)
-      ∙ ap (λ l. found_from 0 h.before ++ (l ++ rest))
-      (ap (found_in k h.b.tokens) h.longer.events ∙ found_append k h.b.tokens (map (reaching end) h.a.events) h.longer.added
-      ∙ ap (λ l. l ++ found_in k h.b.tokens h.longer.added) (own_found k end n h.a.tokens h.b.tokens h.a.events in_trees.earlier h.longer.words h.longer.places)
-      ∙ ap (λ l. map (longer k end) (found_in k h.a.tokens h.a.events) ++ l) h.longer.declares)
-      ∙ ap (λ l. l ++ ((map (longer k end) (found_in k h.a.tokens h.a.events) ++ between) ++ rest)) (sym (front_others k end 0 h.before (let e = h.place in omega arith)))
-      ∙ ap (λ l. map (longer k end) (found_from 0 h.before) ++ ((map (longer k end) (found_in k h.a.tokens h.a.events) ++ between) ++ l)) (sym (rest_others k end (suc k) h.behind (omega arith)))
-      ∙ regroup (map (longer k end) (found_from 0 h.before)) (map (longer k end) (found_in k h.a.tokens h.a.events)) between (map (longer k end) rest)
-      ∙ ap (λ l. l ++ (between ++ map (longer k end) rest)) (sym (map_append k end (found_from 0 h.before) (found_in k h.a.tokens h.a.events)))
-    where
-      regroup : (a b c d : List Found) → a ++ ((b ++ c) ++ d) ≡ (a ++ b) ++ (c ++ d)
-      regroup a b c d = simp append_assoc
+  found_after = found_later k n name old new h in_trees.earlier
 
   -- ---- the new function's names are reused by none
 

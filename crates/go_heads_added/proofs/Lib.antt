@@ -28,4 +28,14 @@ mod Circles
 mod Bare
 mod Tells
 mod Derived
+mod Closing
+mod CirclesSame
+mod Distinct
+mod Named
+mod ClausesSame
+mod Reported
+mod SameFault
 pub mod Public
+mod SameInFiles
+mod DeclaredSame
+mod AsksSame

@@ -65,7 +65,7 @@ module _ (n end : ℕ) (ts us : TokenList) (w : (t : ℕ) → t < n → word us 
 
   -- ---- imports
 
-  others_none : (k : ℕ) (es : List Event) → AllOf es → other_imports k us es ≡ []
+  pub others_none : (k : ℕ) (es : List Event) → AllOf es → other_imports k us es ≡ []
   others_none k [] h = refl
   others_none k (event.Import p ∷ es) h = absurd h.0
   others_none k (e ∷ es) h = others_none k es h.1
@@ -79,7 +79,7 @@ module _ (n end : ℕ) (ts us : TokenList) (w : (t : ℕ) → t < n → word us 
       (imports_none k es added h.1 a (rest_none x (bytes_at k ts p) (other_imports k ts es) e))
   imports_none k (x ∷ es) added h a e = imports_none k es added h.1 a e
 
-  seconds_none : (b : Bool) (k : ℕ) (es : List Event) → AllOf es → second_imports b k us es ≡ []
+  pub seconds_none : (b : Bool) (k : ℕ) (es : List Event) → AllOf es → second_imports b k us es ≡ []
   seconds_none b k [] h = refl
   seconds_none b k (event.Import p ∷ es) h = absurd h.0
   seconds_none b k (e ∷ es) h = seconds_none b k es h.1
@@ -95,7 +95,7 @@ module _ (n end : ℕ) (ts us : TokenList) (w : (t : ℕ) → t < n → word us 
       (second_none (b || is_fmt_path ts p) k es added h.1 a (rest_none x (bytes_at k ts p) (second_imports (b || is_fmt_path ts p) k ts es) e)))
   second_none b k (x ∷ es) added h a e = second_none b k es added h.1 a e
 
-  unused_none : (b : Bool) (k : ℕ) (es : List Event) → AllOf es → imports_unless b k us es ≡ []
+  pub unused_none : (b : Bool) (k : ℕ) (es : List Event) → AllOf es → imports_unless b k us es ≡ []
   unused_none b k [] h = refl
   unused_none b k (event.Import p ∷ es) h = absurd h.0
   unused_none b k (e ∷ es) h = unused_none b k es h.1
@@ -114,7 +114,7 @@ module _ (n end : ℕ) (ts us : TokenList) (w : (t : ℕ) → t < n → word us 
 
   -- ---- functions without bodies
 
-  bodies_none : (hidden : Bool) (k : ℕ) (es : List Event) → AllOf es → bodiless hidden k us es ≡ []
+  pub bodies_none : (hidden : Bool) (k : ℕ) (es : List Event) → AllOf es → bodiless hidden k us es ≡ []
   bodies_none hidden k [] h = refl
   bodies_none hidden k (event.Bodiless i j ∷ es) h = absurd h.0
   bodies_none hidden k (e ∷ es) h = bodies_none hidden k es h.1
@@ -130,7 +130,7 @@ module _ (n end : ℕ) (ts us : TokenList) (w : (t : ℕ) → t < n → word us 
 
   -- ---- branches, defaults and statements
 
-  branches_none : (k : ℕ) (es : List Event) → AllOf es → misplaced k us es ≡ []
+  pub branches_none : (k : ℕ) (es : List Event) → AllOf es → misplaced k us es ≡ []
   branches_none k [] h = refl
   branches_none k (event.Misplaced i j ∷ es) h = absurd h.0
   branches_none k (e ∷ es) h = branches_none k es h.1
@@ -140,7 +140,7 @@ module _ (n end : ℕ) (ts us : TokenList) (w : (t : ℕ) → t < n → word us 
   misplaced_none k (event.Misplaced i j ∷ es) added a e = cc
   misplaced_none k (x ∷ es) added a e = misplaced_none k es added a e
 
-  default_none : (k : ℕ) (es : List Event) → AllOf es → second_defaults k us es ≡ []
+  pub default_none : (k : ℕ) (es : List Event) → AllOf es → second_defaults k us es ≡ []
   default_none k [] h = refl
   default_none k (event.SecondDefault i ∷ es) h = absurd h.0
   default_none k (e ∷ es) h = default_none k es h.1
@@ -150,7 +150,7 @@ module _ (n end : ℕ) (ts us : TokenList) (w : (t : ℕ) → t < n → word us 
   defaults_none k (event.SecondDefault i ∷ es) added a e = cc
   defaults_none k (x ∷ es) added a e = defaults_none k es added a e
 
-  no_statements : (k : ℕ) (es : List Event) → AllOf es → statements k us es ≡ []
+  pub no_statements : (k : ℕ) (es : List Event) → AllOf es → statements k us es ≡ []
   no_statements k [] h = refl
   no_statements k (event.Statement i j ∷ es) h = absurd h.0
   no_statements k (e ∷ es) h = no_statements k es h.1
@@ -189,7 +189,7 @@ module _ (n end : ℕ) (ts us : TokenList) (w : (t : ℕ) → t < n → word us 
       grouped false b c = refl
   member_append m g v (e ∷ es) fs = member_append m g v es fs
 
-  duplicate_same : (m : Member) (g : ℕ) (v : List ℕ) (before : List Event) → AllWithin before → is_duplicate m g v us (to before) ≡ is_duplicate m g v ts before
+  pub duplicate_same : (m : Member) (g : ℕ) (v : List ℕ) (before : List Event) → AllWithin before → is_duplicate m g v us (to before) ≡ is_duplicate m g v ts before
   duplicate_same member.Field g v before h = ap (λ z. is_blank v || z) (member_same member.Field g v before h)
   duplicate_same member.Key g v before h = member_same member.Key g v before h
   duplicate_same member.Parameter g v before h = ap (λ z. not (is_blank v) && z) (member_same member.Parameter g v before h)
@@ -203,7 +203,7 @@ module _ (n end : ℕ) (ts us : TokenList) (w : (t : ℕ) → t < n → word us 
   duplicate_behind member.Parameter g v all before h l = ap (λ z. not (is_blank v) && z) (behind_same member.Parameter g v all before h l)
 
   -- those that are added
-  added_members : (k : ℕ) (all before es : List Event) → AllWithin all → AllOf es → second_members before k us es ≡ [] → second_members (to all ++ before) k us es ≡ []
+  pub added_members : (k : ℕ) (all before es : List Event) → AllWithin all → AllOf es → second_members before k us es ≡ [] → second_members (to all ++ before) k us es ≡ []
   added_members k all before [] h a e = refl
   added_members k all before (event.Member m g i ∷ es) h a e =
       let x = is_duplicate m g (word us i) us before in
@@ -214,11 +214,11 @@ module _ (n end : ℕ) (ts us : TokenList) (w : (t : ℕ) → t < n → word us 
   added_members k all before (x ∷ es) h a e =
       subst (λ zs. second_members zs k us es ≡ []) (sym (append_assoc (to all) before (x ∷ []))) (added_members k all (before ++ x ∷ []) es h a.1 e)
 
-  to_append : (es fs : List Event) → to (es ++ fs) ≡ to es ++ to fs
+  pub to_append : (es fs : List Event) → to (es ++ fs) ≡ to es ++ to fs
   to_append [] fs = refl
   to_append (e ∷ es) fs = ap (λ l. reaching end e ∷ l) (to_append es fs)
 
-  within_more : (es : List Event) (e : Event) → AllWithin es → EventWithin n e → AllWithin (es ++ e ∷ [])
+  pub within_more : (es : List Event) (e : Event) → AllWithin es → EventWithin n e → AllWithin (es ++ e ∷ [])
   within_more [] e h l = (l, tt)
   within_more (x ∷ es) e h l = (h.0, within_more es e h.1 l)
 
@@ -253,12 +253,12 @@ module _ (n end : ℕ) (ts us : TokenList) (w : (t : ℕ) → t < n → word us 
       (hides_same s all es a h.1)
   hides_same s all (e ∷ es) a h = hides_same s all es a h.1
 
-  hidden_same : (o : Option ℕ) (before : List Event) → AllWithin before → is_hidden o (word us) (to before) ≡ is_hidden o (word ts) before
+  pub hidden_same : (o : Option ℕ) (before : List Event) → AllWithin before → is_hidden o (word us) (to before) ≡ is_hidden o (word ts) before
   hidden_same None before h = refl
   hidden_same (Some s) before h = hides_same s before before h h
 
   -- a function repeats none
-  no_lists : (place : ℕ → Place) (before es : List Event) → AllOf es → hidden_lists_by (word us) place before es ≡ []
+  pub no_lists : (place : ℕ → Place) (before es : List Event) → AllOf es → hidden_lists_by (word us) place before es ≡ []
   no_lists place before [] a = refl
   no_lists place before (event.Declaration d ∷ es) a =
       none_there (is_repetition d && is_hidden (list_of d) (word us) before) (place d.name) (hidden_lists_by (word us) place (before ++ event.Declaration d ∷ []) es)

@@ -57,12 +57,12 @@ module _ (k n end : ℕ) (name : List ℕ) (f : Found) (ps : List Found) (own : 
   abbrev to : List Found → List Found
   to ds = map (longer k end) ds
 
-  function_inside : is_blank name ≡ false → same_text name (codes "init") ≡ false → IsInside f
+  pub function_inside : is_blank name ≡ false → same_text name (codes "init") ≡ false → IsInside f
   function_inside b i =
       ap (λ e. is_outside e f.it.block f.name) own.entity ∙ ap (λ x. is_outside entity.Function f.it.block x) own.name
       ∙ or_none (is_blank name) (is_package f.it.block && same_text name (codes "init")) b (and_none (is_package f.it.block) (same_text name (codes "init")) i)
 
-  parameter_inside : (d : Found) → IsParameter k n d → IsInside d
+  pub parameter_inside : (d : Found) → IsParameter k n d → IsInside d
   parameter_inside d h = ap (λ e. is_outside e d.it.block d.name) h.entity ∙ ap (λ x. is_package x && same_text d.name (codes "init")) h.block
 
   pub outside_none : (ds es : List Found) → is_blank name ≡ false → same_text name (codes "init") ≡ false → outside_declarations (ds ++ es) ≡ [] → outside_declarations (to ds ++ ((f ∷ ps) ++ to es)) ≡ []
@@ -74,16 +74,16 @@ module _ (k n end : ℕ) (name : List ℕ) (f : Found) (ps : List Found) (own : 
 
   -- ---- a name that is declared in the package block
 
-  declares_append : (w : List ℕ) (xs ys : List Found) → declares w (xs ++ ys) ≡ (declares w xs || declares w ys)
+  pub declares_append : (w : List ℕ) (xs ys : List Found) → declares w (xs ++ ys) ≡ (declares w xs || declares w ys)
   declares_append w [] ys = refl
   declares_append w (x ∷ xs) ys =
       ap (λ b. (is_package x.it.block && same_text x.name w) || b) (declares_append w xs ys) ∙ grouped (is_package x.it.block && same_text x.name w) (declares w xs) (declares w ys)
 
-  declares_longer : (w : List ℕ) (ds : List Found) → declares w (to ds) ≡ declares w ds
+  pub declares_longer : (w : List ℕ) (ds : List Found) → declares w (to ds) ≡ declares w ds
   declares_longer w [] = refl
   declares_longer w (d ∷ ds) = ap (λ b. (is_package d.it.block && same_text d.name w) || b) (declares_longer w ds)
 
-  parameters_declare : (w : List ℕ) (ds : List Found) → AllByRecursion (IsParameter k n) ds → declares w ds ≡ false
+  pub parameters_declare : (w : List ℕ) (ds : List Found) → AllByRecursion (IsParameter k n) ds → declares w ds ≡ false
   parameters_declare w [] h = refl
   parameters_declare w (d ∷ ds) h = or_none (is_package d.it.block && same_text d.name w) (declares w ds) (ap (λ x. is_package x && same_text d.name w) h.0.block) (parameters_declare w ds h.1)
 
@@ -99,24 +99,24 @@ module _ (k n end : ℕ) (name : List ℕ) (f : Found) (ps : List Found) (own : 
 
   -- ---- names that are declared twice
 
-  clash_append : (d : Found) (xs ys : List Found) → has_clash d (xs ++ ys) ≡ (has_clash d xs || has_clash d ys)
+  pub clash_append : (d : Found) (xs ys : List Found) → has_clash d (xs ++ ys) ≡ (has_clash d xs || has_clash d ys)
   clash_append d [] ys = refl
   clash_append d (x ∷ xs) ys = ap (λ b. clashes d x || b) (clash_append d xs ys) ∙ grouped (clashes d x) (has_clash d xs) (has_clash d ys)
 
-  clash_longer : (d : Found) (xs : List Found) → has_clash (longer k end d) (to xs) ≡ has_clash d xs
+  pub clash_longer : (d : Found) (xs : List Found) → has_clash (longer k end d) (to xs) ≡ has_clash d xs
   clash_longer d [] = refl
   clash_longer d (x ∷ xs) = ap (λ b. clashes d x || b) (clash_longer d xs)
 
-  three_first : (a b c : Bool) → a ≡ false → (a && b && c) ≡ false
+  pub three_first : (a b c : Bool) → a ≡ false → (a && b && c) ≡ false
   three_first true b c e = cc
   three_first false b c e = refl
 
-  three_second : (a b c : Bool) → b ≡ false → (a && b && c) ≡ false
+  pub three_second : (a b c : Bool) → b ≡ false → (a && b && c) ≡ false
   three_second true true c e = cc
   three_second true false c e = refl
   three_second false b c e = refl
 
-  three_third : (a b c : Bool) → c ≡ false → (a && b && c) ≡ false
+  pub three_third : (a b c : Bool) → c ≡ false → (a && b && c) ≡ false
   three_third a b c e = and_none (a && b) c e
 
   -- blocks of the new function's parameters are none of the old
@@ -152,7 +152,7 @@ module _ (k n end : ℕ) (name : List ℕ) (f : Found) (ps : List Found) (own : 
   old_function : (d : Found) → IsApart name d → clashes d f ≡ false
   old_function d a = three_first (same_text d.name f.name) (same_block d f) (not (are_parameters d.it.entity f.it.entity)) (ap (same_text d.name) own.name ∙ turned name d.name a)
 
-  old_apart : (qs : List Found) → AllByRecursion (IsParameter k n) qs → (d : Found) → IsOld d → has_clash (longer k end d) (f ∷ qs) ≡ false
+  pub old_apart : (qs : List Found) → AllByRecursion (IsParameter k n) qs → (d : Found) → IsOld d → has_clash (longer k end d) (f ∷ qs) ≡ false
   old_apart qs h d o = or_none (clashes d f) (has_clash (longer k end d) qs) (old_function d o.0) (same_clash qs ∙ old_parameters d qs o.1 h)
     where
       same_clash : (xs : List Found) → has_clash (longer k end d) xs ≡ has_clash d xs
@@ -160,13 +160,13 @@ module _ (k n end : ℕ) (name : List ℕ) (f : Found) (ps : List Found) (own : 
       same_clash (x ∷ xs) = ap (λ b. clashes d x || b) (same_clash xs)
 
   -- the new ones against the old, and against one another
-  function_apart : (ds : List Found) → AllByRecursion IsOld ds → has_clash f (to ds) ≡ false
+  pub function_apart : (ds : List Found) → AllByRecursion IsOld ds → has_clash f (to ds) ≡ false
   function_apart [] h = refl
   function_apart (d ∷ ds) h =
       or_none (clashes f (longer k end d)) (has_clash f (to ds))
       (three_first (same_text f.name d.name) (same_block f (longer k end d)) (not (are_parameters f.it.entity d.it.entity)) (ap (λ x. same_text x d.name) own.name ∙ h.0.0)) (function_apart ds h.1)
 
-  parameter_apart : (p : Found) → IsParameter k n p → (ds : List Found) → AllByRecursion IsOld ds → has_clash p (to ds) ≡ false
+  pub parameter_apart : (p : Found) → IsParameter k n p → (ds : List Found) → AllByRecursion IsOld ds → has_clash p (to ds) ≡ false
   parameter_apart p h [] o = refl
   parameter_apart p h (d ∷ ds) o =
       or_none (clashes p (longer k end d)) (has_clash p (to ds))
@@ -174,12 +174,12 @@ module _ (k n end : ℕ) (name : List ℕ) (f : Found) (ps : List Found) (own : 
       (ap (λ b. are_one_block p.file b d.file d.it.block) h.block ∙ ap (λ m. are_one_block m (block.Local h.first) d.file d.it.block) h.file ∙ block_apart d.file h.first d.it.block o.0.1.block h.later))
       (parameter_apart p h ds o.1)
 
-  parameter_function : (p : Found) → IsParameter k n p → clashes p f ≡ false
+  pub parameter_function : (p : Found) → IsParameter k n p → clashes p f ≡ false
   parameter_function p h =
       three_second (same_text p.name f.name) (same_block p f) (not (are_parameters p.it.entity f.it.entity))
       (ap (λ b. are_one_block p.file b f.file f.it.block) h.block ∙ ap (λ b. are_one_block p.file (block.Local h.first) f.file b) own.block)
 
-  parameter_parameters : (p : Found) → IsParameter k n p → (qs : List Found) → AllByRecursion (IsParameter k n) qs → has_clash p qs ≡ false
+  pub parameter_parameters : (p : Found) → IsParameter k n p → (qs : List Found) → AllByRecursion (IsParameter k n) qs → has_clash p qs ≡ false
   parameter_parameters p h [] o = refl
   parameter_parameters p h (q ∷ qs) o =
       or_none (clashes p q) (has_clash p qs)
@@ -275,11 +275,11 @@ module _ (k n end : ℕ) (name : List ℕ) (f : Found) (ps : List Found) (own : 
 
   -- ---- what is new at `:=`
 
-  new_append : (d : Found) (xs ys : List Found) → has_new d (xs ++ ys) ≡ (has_new d xs || has_new d ys)
+  pub new_append : (d : Found) (xs ys : List Found) → has_new d (xs ++ ys) ≡ (has_new d xs || has_new d ys)
   new_append d [] ys = refl
   new_append d (x ∷ xs) ys = ap (λ b. same_statement d x || b) (new_append d xs ys) ∙ grouped (same_statement d x) (has_new d xs) (has_new d ys)
 
-  new_longer : (d : Found) (xs : List Found) → has_new (longer k end d) (to xs) ≡ has_new d xs
+  pub new_longer : (d : Found) (xs : List Found) → has_new (longer k end d) (to xs) ≡ has_new d xs
   new_longer d [] = refl
   new_longer d (x ∷ xs) = ap (λ b. same_statement d x || b) (new_longer d xs)
 

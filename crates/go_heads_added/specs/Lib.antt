@@ -4,3 +4,4 @@ pub mod Examples
 pub mod Within
 pub mod Faults
 pub mod Kept
+pub mod Reported

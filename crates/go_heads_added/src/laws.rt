@@ -25,9 +25,10 @@ ghost use Rattle.go_heads_added.specs.Examples.{Examples};
 ghost use Rattle.go_heads_added.specs.Faults.{FunctionIsFine, FileIsWithin, MayBeAdded, MeansOuter};
 ghost use Rattle.go_heads_added.specs.Kept.{KeepsPackage};
 ghost use Rattle.go_heads_added.specs.Within.{EventWithin, IsOfFunction};
+ghost use Rattle.go_heads_added.specs.Reported.{IsDerived, KeepsBytes, NamesShared, StaysPlaced};
 
 use go_scopes_cycles::laws::declarations_bound_rounds;
-use go_scopes_events::laws::locals_stand_in_functions;
+use go_scopes_events::laws::{files_are_orderly, locals_stand_in_functions};
 
 /// Behind a function that is appended to a file, and the name of which no token says, each token of the package means what it meant: the
 /// objects of the package behind the function, and the functions behind it, have the next numbers; and the objects of the package are those
@@ -46,6 +47,14 @@ pub fn added_functions_fail_no_rule()
 {
     declarations_bound_rounds();
 }
+
+/// Behind an appended function whose name no token says, and at which no rule fails, the rules on names fail at the places where they failed,
+/// so that the same fault is reported, or none: of clauses, of names declared twice, looked up or not used, of imports, of the limit on
+/// statements, and of declarations that need themselves.
+pub fn faults_of_names_stay()
+    ensures { (k n : ℕ) (name : List ℕ) (old new : List Unit) (h : IsAdded k n name old new) → LiesIn k n name old new h → NoneSays name old
+        → FileIsWithin k n name old new h → FunctionIsFine k n name old new h → StaysPlaced k n name old new h → reported new ≡ reported old }
+{}
 
 /// A file with a declaration behind all others tells what it told, to its own end, and then what that declaration tells. This holds of any
 /// tree.
@@ -120,6 +129,21 @@ pub fn appended_functions_fail_no_rule()
     locals_stand_in_functions();
     longer_files_import_the_same();
     declarations_bound_rounds();
+}
+
+/// Where the files of a package are derived, the same fault of names is reported behind such a function as before, or none, where the names of
+/// its signature mean objects of the package or predeclared ones; and the tokens in front of it stand at the bytes where they stood.
+pub fn appended_functions_keep_the_reported_fault()
+    ensures { (k j end x y u v : ℕ) (a b : TokenList) (ts us : List TokenKind) (ps : Trees) (s : Tree) (before behind : List Unit) → let d = empty_function x y s u v in
+        let t = node kind.File 0 j ps in let old = before ++ unit_of a t ∷ behind in let new = before ++ unit_of b (with_declaration t d end) ∷ behind in
+        let name = word b (suc x) in let told = events (context_behind end ps d) d in length before ≡ k → AllByRecursion IsDerived before → AllByRecursion IsDerived behind → IsFile ts t
+        → IsFront j a b → KeepsBytes j a b → Derives us category.Declaration d → j ≤ x → is_blank name ≡ false
+        → NoneSays name old → MayBeAdded k j name b told new → NamesShared k b told new → reported new ≡ reported old }
+{
+    locals_stand_in_functions();
+    longer_files_import_the_same();
+    declarations_bound_rounds();
+    files_are_orderly();
 }
 
 /// Where the files of a package are derived, and a function with an empty body is appended to one of them whose name no token says, each token

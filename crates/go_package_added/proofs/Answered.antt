@@ -128,20 +128,20 @@ if_none : (b : Bool) (t : ℕ) → no_faults (fault_if b t) ≡ not b
 if_none true t = refl
 if_none false t = refl
 
-first_of : {A : Type 0} (a b : A) (xs ys : List A) → (a ∷ xs) ≡ (b ∷ ys) → a ≡ b
+pub first_of : {A : Type 0} (a b : A) (xs ys : List A) → (a ∷ xs) ≡ (b ∷ ys) → a ≡ b
 first_of a b xs ys e = cc
 
-others_of : {A : Type 0} (a b : A) (xs ys : List A) → (a ∷ xs) ≡ (b ∷ ys) → xs ≡ ys
+pub others_of : {A : Type 0} (a b : A) (xs ys : List A) → (a ∷ xs) ≡ (b ∷ ys) → xs ≡ ys
 others_of a b xs ys e = cc
 
-none_there : {A : Type 0} (a : A) (xs : List A) → (a ∷ xs) ≡ [] → ⊥
+pub none_there : {A : Type 0} (a : A) (xs : List A) → (a ∷ xs) ≡ [] → ⊥
 none_there a xs e = cc
 
 module _ (moves : MovesTyped) (keeps : KeepsWords) (follows : FollowsTokens) (p q : Package) (ds es : List Specification) (g : Gap) (h : IsOneMore p q ds es g) where
   abbrev xs : List Outline
   xs = outlines p ds
 
-  inside : g.shared ≤ length (outlines p ds)
+  pub inside : g.shared ≤ length (outlines p ds)
   inside = let e = mapped_count (λ (d : Declared). d.entity) p.uses.package_level in let f = outlines_count in let l = h.place in omega (arith, f, l)
     where
       outlines_count : length (outlines p ds) ≡ length p.uses.package_level
@@ -158,17 +158,17 @@ module _ (moves : MovesTyped) (keeps : KeepsWords) (follows : FollowsTokens) (p 
       anew : IsTypedAnew g k.test (free_scope p xs ss d) (free_scope q os ts d)
       anew = scopes_anew moves keeps follows p q ds es g h inside y ss as_many is_sound true d k
 
-      expressions_same : expression_faults (free_scope q os ts d) d ≡ expression_faults (free_scope p xs ss d) d
+      pub expressions_same : expression_faults (free_scope q os ts d) d ≡ expression_faults (free_scope p xs ss d) d
       expressions_same = expressions_anew g k.test (free_scope p xs ss d) (free_scope q os ts d) anew d k.type_read k.values_read
 
-      rule_same : specification_rule (free_scope q os ts d) d ≡ specification_rule (free_scope p xs ss d) d
+      pub rule_same : specification_rule (free_scope q os ts d) d ≡ specification_rule (free_scope p xs ss d) d
       rule_same = rule_anew g k.test (free_scope p xs ss d) (free_scope q os ts d) anew d k.type_read k.values_read
 
       unblocked_on_same : (fs : List TypeFault) → unblocked_faults_on (free_scope q os ts d) d fs ≡ unblocked_faults_on (free_scope p xs ss d) d fs
       unblocked_on_same [] = rule_same
       unblocked_on_same (f ∷ fs) = refl
 
-      unblocked_same : unblocked_faults q os ts d ≡ unblocked_faults p xs ss d
+      pub unblocked_same : unblocked_faults q os ts d ≡ unblocked_faults p xs ss d
       unblocked_same = ap (unblocked_faults_on (free_scope q os ts d) d) expressions_same ∙ unblocked_on_same (expression_faults (free_scope p xs ss d) d)
 
     -- ---- the function
@@ -194,7 +194,7 @@ module _ (moves : MovesTyped) (keeps : KeepsWords) (follows : FollowsTokens) (p 
       no_rule : specification_rule around f ≡ []
       no_rule = ap (λ e. specification_failing e around.rights f (part_type (typed_type around f)) (typed_values around f)) h.is_function
 
-      function_unblocked : unblocked_faults q os ts f ≡ []
+      pub function_unblocked : unblocked_faults q os ts f ≡ []
       function_unblocked = ap (unblocked_faults_on around f) sound ∙ no_rule
 
       -- ---- the function `main`
@@ -308,13 +308,13 @@ module _ (moves : MovesTyped) (keeps : KeepsWords) (follows : FollowsTokens) (p 
         ap (known q os) two_more ∙ known_with moves keeps follows p q ds es g h inside (suc (suc (rounds p)))
         ∙ ap (λ z. inserted g.shared z (known p xs (suc (suc (rounds p))))) function_last ∙ ap (inserted g.shared (function_state s)) further_two
 
-    many : g.shared ≤ length found
+    pub many : g.shared ≤ length found
     many = long_enough moves keeps follows p q ds es g h inside (rounds p)
 
     abbrev failures_then : List Failure
     failures_then = package_failures q os (inserted g.shared (function_state s) found) es
 
-    answer_there : answer_by q es ≡ unless (least failures_then) (with_function g.shared s (environment_of p found))
+    pub answer_there : answer_by q es ≡ unless (least failures_then) (with_function g.shared s (environment_of p found))
     answer_there =
         ap (answer_with q es) h.outlined
         ∙ ap (answer_on q es os) known_at_last

@@ -97,42 +97,42 @@ module _ (k n : ℕ) where
       by false w = w
 
 module _ (k : ℕ) (ss us : List Source) (h : IsAppended k ss us) (keeps : KeepsPackage k h.count (suc h.first) (map unit_of ss) (map unit_of us)) (faultless : IsFaultless ss) where
-  abbrev n : ℕ
+  abbrev pub n : ℕ
   n = h.count
 
-  abbrev p : Package
+  abbrev pub p : Package
   p = package_in ss
 
-  abbrev q : Package
+  abbrev pub q : Package
   q = package_in us
 
-  abbrev ds : List Specification
+  abbrev pub ds : List Specification
   ds = specifications 0 ss
 
-  abbrev es : List Specification
+  abbrev pub es : List Specification
   es = specifications 0 us
 
-  abbrev f : Specification
+  abbrev pub f : Specification
   f = function_specification k ss us h
 
-  abbrev a : ℕ
+  abbrev pub a : ℕ
   a = keeps.gap.shared
 
-  abbrev to : Declared → Declared
+  abbrev pub to : Declared → Declared
   to d = longer_declared k keeps.end d
 
-  abbrev were_file : Source
+  abbrev pub were_file : Source
   were_file = record { tokens = h.old_tokens; tree = node kind.File 0 h.count h.declarations }
 
-  abbrev is_file : Source
+  abbrev pub is_file : Source
   is_file = record { tokens = h.new_tokens; tree = with_declaration (node kind.File 0 h.count h.declarations) (node kind.FunctionDeclaration h.first h.last (more h.signature (more (node kind.Block h.opens h.closes none) none))) h.end }
 
   -- ---- the file
 
-  derived : IsFile (kinds h.old_tokens.tokens) (node kind.File 0 h.count h.declarations)
+  pub derived : IsFile (kinds h.old_tokens.tokens) (node kind.File 0 h.count h.declarations)
   derived = element_there (λ (s : Source). IsFile (kinds s.tokens.tokens) s.tree) h.before were_file h.behind (subst (AllByRecursion (λ (s : Source). IsFile (kinds s.tokens.tokens) s.tree)) h.was faultless.trees)
 
-  clause : 1 < n
+  pub clause : 1 < n
   clause = clause_behind (kinds h.old_tokens.tokens) h.count h.declarations derived
 
   below : AreBelow n h.declarations
@@ -149,24 +149,24 @@ module _ (k : ℕ) (ss us : List Source) (h : IsAppended k ss us) (keeps : Keeps
 
   -- ---- specifications
 
-  abbrev front : List Specification
+  abbrev pub front : List Specification
   front = specifications 0 h.before ++ declarations k h.declarations
 
-  abbrev rest : List Specification
+  abbrev pub rest : List Specification
   rest = specifications (suc k) h.behind
 
-  were : ds ≡ front ++ rest
+  pub were : ds ≡ front ++ rest
   were = ap (specifications 0) h.was ∙ specifications_were k h.before h.place were_file 0 h.count h.declarations h.behind refl
 
-  are : es ≡ front ++ f ∷ rest
+  pub are : es ≡ front ++ f ∷ rest
   are =
       ap (specifications 0) h.is
       ∙ specifications_are k h.before h.place is_file 0 h.count h.end h.first h.last h.declarations (more h.signature (more (node kind.Block h.opens h.closes none) none)) h.behind refl
 
-  placed_front : AllByRecursion (IsPlaced k n) front
+  pub placed_front : AllByRecursion (IsPlaced k n) front
   placed_front = front_placed k n h.before h.declarations h.place below
 
-  placed_rest : AllByRecursion (IsPlaced k n) rest
+  pub placed_rest : AllByRecursion (IsPlaced k n) rest
   placed_rest = behind_placed k n (suc k) h.behind (omega arith)
 
   pub all_placed : AllByRecursion (IsPlaced k n) ds
@@ -196,7 +196,7 @@ module _ (k : ℕ) (ss us : List Source) (h : IsAppended k ss us) (keeps : Keeps
       let e = keeps.declared.place in
       omega (arith, y, c, e)
 
-  tokens_kept : KeepsTokens k n p q keeps.gap
+  pub tokens_kept : KeepsTokens k n p q keeps.gap
   tokens_kept = record {
     texts = texts;
     objects = keeps.objects.objects;
@@ -208,7 +208,7 @@ module _ (k : ℕ) (ss us : List Source) (h : IsAppended k ss us) (keeps : Keeps
       level_stands k n (new_among (found (map unit_of ss)) (found (map unit_of ss)))
       (new_stand k n (found (map unit_of ss)) (found (map unit_of ss)) (subst (AllByRecursion (StandsInFront k n)) (sym keeps.needs.were) keeps.needs.stand))
 
-  both_level : AllByRecursion (StandsThere k n) (keeps.declared.first ++ keeps.declared.second)
+  pub both_level : AllByRecursion (StandsThere k n) (keeps.declared.first ++ keeps.declared.second)
   both_level = subst (AllByRecursion (StandsThere k n)) keeps.declared.were level
 
   -- ---- the function `main`
@@ -307,6 +307,11 @@ module _ (k : ℕ) (ss us : List Source) (h : IsAppended k ss us) (keeps : Keeps
       front_kept = all_kept k n p q keeps.gap tokens_kept front placed_front;
       rest_kept = all_kept k n p q keeps.gap tokens_kept rest placed_rest;
     }
+
+    -- in front of it and behind it are the specifications that there were
+    pub parts_are : (one_more.front ≡ front) × (one_more.rest ≡ rest)
+    unfolding one_more
+    parts_are = (refl, refl)
 
     -- the function that it has is the appended one
     pub as_signature : (s : Sort) → IsSignature q (outlines_in us) a f 0 (found_in ss) s → IsSignature q (outlines_in us) a one_more.function.specification one_more.function.column (found_in ss) s

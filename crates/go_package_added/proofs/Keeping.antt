@@ -23,7 +23,7 @@ use Rattle.go_package_defs.specs.Sources.{Source, unit_of}
 use Rattle.go_package_settled.specs.Read.{IsFaultless}
 use Rattle.go_package_added.specs.Appended.{FitsNames, IsAppended, function_name, function_tree}
 use Rattle.go_package_added.proofs.Inserted.{front_of, map_both, mapped_count, rest_of}
-use Rattle.go_package_added.proofs.Named.{have_names}
+use Rattle.go_heads_added.proofs.Public.{have_names}
 
 abbrev pub KeepsNames : Type 0
 KeepsNames = (k j end x y u v : ℕ) (a b : TokenList) (ts us : List TokenKind) (ps : Trees) (s : Tree) (before behind : List Unit) → let d = empty_function x y s u v in

@@ -8,7 +8,6 @@ mod Answered
 mod Specified
 mod Outlined
 mod Needing
-mod Named
 mod Numbered
 mod Appending
 mod Keeping
@@ -18,3 +17,10 @@ mod Surrounding
 mod Closing
 mod Shared
 mod Staying
+mod Told
+mod Where
+mod Exact
+mod Reporting
+mod Lows
+mod BodyFaults
+pub mod Public

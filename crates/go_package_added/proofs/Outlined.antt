@@ -26,7 +26,7 @@ pub record KeepsTokens (k n : ℕ) (p q : Package) (g : Gap) : Type 0 where
   pub objects : (m t : ℕ) → Stands k n m t → object_of q.uses m t ≡ option_map (shifted g) (object_of p.uses m t)
   pub needed : (m t : ℕ) → Stands k n m t → IsClosed p m t → (c : ℕ) (full : Bool) → needed_at q m t c full ≡ all_beyond g.shared (needed_at p m t c full)
 
-beyond_append : (a : ℕ) (xs ys : List ℕ) → all_beyond a (xs ++ ys) ≡ all_beyond a xs ++ all_beyond a ys
+pub beyond_append : (a : ℕ) (xs ys : List ℕ) → all_beyond a (xs ++ ys) ≡ all_beyond a xs ++ all_beyond a ys
 beyond_append a [] ys = refl
 beyond_append a (x ∷ xs) ys = ap (λ l. beyond a x ∷ l) (beyond_append a xs ys)
 

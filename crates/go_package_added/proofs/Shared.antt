@@ -110,8 +110,8 @@ distinct n i (d ∷ ds) x y h (inr k) (inr l) e = distinct d.file (suc d.it.name
 
 pub record IsFoundAt (m t : ℕ) (xs : List Found) (e : Found) : Type 0 where
   pub among : IsIn e xs
-  file : e.file ≡ m
-  name : e.it.name ≡ t
+  pub file : e.file ≡ m
+  pub name : e.it.name ≡ t
 
 pub found_at : (m t : ℕ) (xs : List Found) (e : Found) → declared_at m t xs ≡ Some e → IsFoundAt m t xs e
 found_at m t [] e h = cc
@@ -135,12 +135,12 @@ found_at m t (x ∷ xs) e h = by (is_at m t x) refl h (λ r. found_at m t xs e r
 
 -- ---- objects of the package
 
-record ComesFrom (xs : List Found) (d : Declared) : Type 0 where
-  it : Found
-  among : IsIn it xs
-  file : it.file ≡ d.file
-  name : it.it.name ≡ d.name
-  block : is_package it.it.block ≡ true
+pub record ComesFrom (xs : List Found) (d : Declared) : Type 0 where
+  pub it : Found
+  pub among : IsIn it xs
+  pub file : it.file ≡ d.file
+  pub name : it.it.name ≡ d.name
+  pub block : is_package it.it.block ≡ true
 
 pub new_in : (all xs : List Found) (d : Found) → IsIn d (new_among all xs) → IsIn d xs
 new_in all [] d h = h
@@ -166,17 +166,20 @@ same_test x y e = grind (arith, e)
 both_true : (a b : Bool) → a ≡ true → b ≡ true → (a && b) ≡ true
 both_true a b e f = ap (λ c. c && b) e ∙ f
 
-are_orderly : FilesAreOrderly → (ss : List Source) → AllByRecursion (λ (s : Source). IsFile (kinds s.tokens.tokens) s.tree) ss → AreOrderly (map unit_of ss)
+pub are_orderly : FilesAreOrderly → (ss : List Source) → AllByRecursion (λ (s : Source). IsFile (kinds s.tokens.tokens) s.tree) ss → AreOrderly (map unit_of ss)
 are_orderly law [] h = tt
 are_orderly law (s ∷ ss) h = (law (kinds s.tokens.tokens) s.tree h.0, are_orderly law ss h.1)
 
 module _ (us : List names.Unit) (orderly : AreOrderly us) where
+  -- a token at which a name of the package block is declared
+  pub shared_at : (m t : ℕ) (x : Found) → IsIn x (found us) → x.file ≡ m → x.it.name ≡ t → is_package x.it.block ≡ true → DeclaresShared us m t
+  shared_at m t x among file name block e h =
+      let at = found_at m t (found us) e h in
+      let same : is_same x e ≡ true = both_true (nat_eq x.file e.file) (nat_eq x.it.name e.it.name) (same_test x.file e.file (file ∙ sym at.file)) (same_test x.it.name e.it.name (name ∙ sym at.name)) in
+      ap (λ (z : Found). is_package z.it.block) (sym (distinct 0 0 (found us) x e (follow_found 0 us orderly) among at.among same)) ∙ block
+
   one_shared : (d : Declared) → ComesFrom (found us) d → DeclaresShared us d.file d.name
-  one_shared d c e h =
-      let at = found_at d.file d.name (found us) e h in
-      let same : is_same c.it e ≡ true =
-      both_true (nat_eq c.it.file e.file) (nat_eq c.it.it.name e.it.name) (same_test c.it.file e.file (c.file ∙ sym at.file)) (same_test c.it.it.name e.it.name (c.name ∙ sym at.name)) in
-      ap (λ (z : Found). is_package z.it.block) (sym (distinct 0 0 (found us) c.it e (follow_found 0 us orderly) c.among at.among same)) ∙ c.block
+  one_shared d c = shared_at d.file d.name c.it c.among c.file c.name c.block
 
   all_shared : (ds : List Declared) → AllByRecursion (ComesFrom (found us)) ds → AllByRecursion (λ d. DeclaresShared us d.file d.name) ds
   all_shared [] h = tt

@@ -127,6 +127,7 @@ pub record StandsBelow (k n : ℕ) (d : Specification) : Type 0 where
   pub type_below : MaybeBelow n d.type_tree
   pub values_below : AllByRecursion (IsBelow n) d.values
   pub names_below : AllByRecursion (λ t. t < n) d.names
+  pub begins : d.first < n
   pub ends : d.last ≤ n
 
 module _ (k n : ℕ) where
@@ -183,15 +184,15 @@ module _ (k n : ℕ) where
   source_below (more ns (more t (more u ps))) r h o = o
   source_below (more ns (more t (skip ps))) r h o = o
 
-  named_is : (e : Entity) (m : ℕ) (r : Option Tree) (t : Tree) (i j : ℕ) (ps : Trees) → j ≤ n → AreBelow n ps → MaybeBelow n r → Below (named_specification k e m t i j ps r)
-  named_is e m r t i j ps v h o = record { file = refl; type_below = type_below r o; values_below = values_below r o; names_below = names_below ps h; ends = v }
+  named_is : (e : Entity) (m : ℕ) (r : Option Tree) (t : Tree) (i j : ℕ) (ps : Trees) → i < n → j ≤ n → AreBelow n ps → MaybeBelow n r → Below (named_specification k e m t i j ps r)
+  named_is e m r t i j ps l v h o = record { file = refl; type_below = type_below r o; values_below = values_below r o; names_below = names_below ps h; begins = l; ends = v }
 
   by_entity : (e : Entity) (m : ℕ) (r : Option Tree) (t : Tree) (i j : ℕ) (ps : Trees) → i < n → j ≤ n → AreBelow n ps → MaybeBelow n r → Below (specification_by k e m r t i j ps)
-  by_entity entity.Type m r t i j ps l v h o = record { file = refl; type_below = part_below ps h; values_below = tt; names_below = (l, tt); ends = v }
-  by_entity entity.Constant m r t i j ps l v h o = named_is entity.Constant m (part_source ps r) t i j ps v h (source_below ps r h o)
-  by_entity entity.Variable m r t i j ps l v h o = named_is entity.Variable m (part_source ps r) t i j ps v h (source_below ps r h o)
-  by_entity entity.Function m r t i j ps l v h o = named_is entity.Function m (part_source ps r) t i j ps v h (source_below ps r h o)
-  by_entity entity.Parameter m r t i j ps l v h o = named_is entity.Parameter m (part_source ps r) t i j ps v h (source_below ps r h o)
+  by_entity entity.Type m r t i j ps l v h o = record { file = refl; type_below = part_below ps h; values_below = tt; names_below = (l, tt); begins = l; ends = v }
+  by_entity entity.Constant m r t i j ps l v h o = named_is entity.Constant m (part_source ps r) t i j ps l v h (source_below ps r h o)
+  by_entity entity.Variable m r t i j ps l v h o = named_is entity.Variable m (part_source ps r) t i j ps l v h (source_below ps r h o)
+  by_entity entity.Function m r t i j ps l v h o = named_is entity.Function m (part_source ps r) t i j ps l v h (source_below ps r h o)
+  by_entity entity.Parameter m r t i j ps l v h o = named_is entity.Parameter m (part_source ps r) t i j ps l v h (source_below ps r h o)
 
   one_below : (s : Sort) (m : ℕ) (r : Option Tree) (t : Tree) → IsBelow n t → MaybeBelow n r → Below (specification_of k s m r t)
   one_below s m r (node l i j ps) h o = by_entity (entity_of s) m r (node l i j ps) i j ps h.0 h.1 h.3 o
@@ -215,7 +216,7 @@ module _ (k n : ℕ) where
   declaration_below : (t : Tree) → IsBelow n t → AllByRecursion Below (declaration k t)
   declaration_below (node (kind.Declaration s) i j ps) h = declared_below s ps h.3
   declaration_below (node kind.FunctionDeclaration i j ps) h = (
-    record { file = refl; type_below = part_below ps h.3; values_below = tt; names_below = ((let o = h.2 in omega (arith, o)), tt); ends = h.1 },
+    record { file = refl; type_below = part_below ps h.3; values_below = tt; names_below = ((let o = h.2 in omega (arith, o)), tt); begins = h.0; ends = h.1 },
     tt,
   )
   declaration_below (node l i j ps) h = tt
@@ -270,7 +271,7 @@ module _ (m : ℕ) where
   declarations_file (more p ps) = both_of (OfFile m) (declaration m p) (declarations m ps) (declaration_file p) (declarations_file ps)
   declarations_file (skip ps) = declarations_file ps
 
-  in_file_file : (t : Tree) → AllByRecursion (OfFile m) (in_file m t)
+  pub in_file_file : (t : Tree) → AllByRecursion (OfFile m) (in_file m t)
   in_file_file (node l i j ps) = declarations_file ps
 
 -- It stands in another file than that of the number k, or in front of the token n of that file.

@@ -1,14 +1,19 @@
 //! Laws of packages with one function more.
 
 ghost use Rattle.std.specs.List.{AllByRecursion};
-ghost use Rattle.std.specs.Prelude.{◌≡◌, ℕ, suc, Bool, true, Ok, List, map, Option, None};
+ghost use Rattle.std.specs.Prelude.{◌≡◌, ℕ, suc, Bool, true, false, Ok, List, map, Option, None, codes};
 ghost use Rattle.std.specs.Option.{option_map};
+ghost use Rattle.go_tokens.specs.Spellings.{same_text};
 ghost use Rattle.go_tree.specs.Faults.{reported};
 ghost use Rattle.go_tree.specs.declared.object.Object.{Object};
 ghost use Rattle.go_tree.specs.Uses.{object_of, uses};
 ghost use Rattle.go_types.specs.Relations.{Rights};
+ghost use Rattle.go_tree.specs.declared.context.Entity.TheVariants as entity;
+ghost use Rattle.go_package_defs.specs.Bodies.{those_of};
 ghost use Rattle.go_package_defs.specs.Checked.{surroundings_of};
 ghost use Rattle.go_heads_added.specs.Kept.{KeepsPackage};
+ghost use Rattle.go_heads_added.specs.Reported.{KeepsBytes};
+ghost use Rattle.go_package_added.specs.Reported.{KeepsBodies, KeepsFaults, answered_with};
 ghost use Rattle.go_package_added.specs.Closed.{DeclaresShared, NeedsStayShared};
 ghost use Rattle.go_package_added.specs.Unchanged.{StaysTyped};
 ghost use Rattle.go_exprs_rules.specs.Sorts.{Stands};
@@ -18,7 +23,7 @@ ghost use Rattle.go_package_defs.specs.Declarations.{Specification};
 ghost use Rattle.go_package_defs.specs.Knowledge.{outlines};
 ghost use Rattle.go_package_defs.specs.Sources.{Package, Source, rounds, text_at, unit_of};
 ghost use Rattle.go_package_defs.specs.Verdicts.{known};
-ghost use Rattle.go_package_added.specs.Appended.{AnswersWith, AreClosed, FitsNames, IsAppended, IsClosed, function_name, package_in};
+ghost use Rattle.go_package_added.specs.Appended.{AnswersWith, AreClosed, FitsNames, IsAppended, IsClosed, found_in, function_name, function_specification, outlines_in, package_in};
 ghost use Rattle.go_package_added.specs.Examples.{ClosedExamples, Examples};
 ghost use Rattle.go_package_settled.specs.Read.{IsFaultless};
 ghost use Rattle.go_package_added.specs.OneMore.{IsOneMore, IsSignature, IsSignatureBefore, MaybeReadAt, Settles, with_function};
@@ -104,6 +109,33 @@ pub fn appended_functions_have_their_answer()
     signatures_follow_from_their_names();
 }
 
+/// Where a package declares what another one does and one function between, and nothing names that, it has the same answer, with the function's
+/// type at its number; or the same fault is reported of its declarations, at the bytes where it stood.
+pub fn one_more_function_has_its_fault()
+    ensures { (p q : Package) (ds es : List Specification) (g : Gap) (h : IsOneMore p q ds es g) (s : Stands) → KeepsFaults p q ds es g h → Settles p (outlines p ds)
+        → IsSignature q (outlines q es) g.shared h.function.specification h.function.column (known p (outlines p ds) (rounds p)) s
+        → answer_by q es ≡ answered_with g.shared s (answer_by p ds) }
+{
+    expressions_are_typed_elsewhere();
+    trees_spelled_the_same_keep_it();
+    expressions_follow_from_their_tokens();
+}
+
+/// Behind a function with an empty body that is appended to a file, and whose name no token says, the declarations of a package without faults
+/// of names have the answer that they had, with the function's type at its number, or the same fault is reported of them: that of `main`, too.
+pub fn appended_functions_keep_the_fault_of_declarations()
+    ensures { (k : ℕ) (ss us : List Source) (h : IsAppended k ss us) (keeps : KeepsPackage k h.count (suc h.first) (map unit_of ss) (map unit_of us)) → IsFaultless ss
+        → KeepsBytes h.count h.old_tokens h.new_tokens → same_text (function_name k ss us h) (codes "main") ≡ false → (s : Stands)
+        → IsSignature (package_in us) (outlines_in us) keeps.gap.shared (function_specification k ss us h) 0 (found_in ss) s
+        → package_answer us (uses (map unit_of us)) ≡ answered_with keeps.gap.shared s (package_answer ss (uses (map unit_of ss))) }
+{
+    files_are_orderly();
+    shared_declarations_need_no_locals();
+    shared_needs_are_closed();
+    faultless_packages_settle();
+    one_more_function_has_its_fault();
+}
+
 /// Behind a function with an empty body that is appended to a file, and whose name no token says, the names of the package are free of faults as
 /// they were, where no rule fails at the function itself.
 pub fn names_stay_free_of_faults()
@@ -124,4 +156,21 @@ pub fn unchanged_functions_keep_their_types()
 {
     functions_are_typed_elsewhere();
     trees_spelled_the_same_keep_it();
+}
+
+/// In such a package the functions in front of the appended one, and those behind it under the next numbers, have their types, or the same fault
+/// is reported of the first of them that has one, at the bytes where it stood. Of the appended function itself nothing is said: with results and
+/// an empty body it lacks a return (Go specification: Terminating statements).
+pub fn unchanged_functions_keep_their_fault()
+    ensures { (k : ℕ) (ss us : List Source) (h : IsAppended k ss us) (keeps : KeepsPackage k h.count (suc h.first) (map unit_of ss) (map unit_of us)) → IsFaultless ss
+        → KeepsBytes h.count h.old_tokens h.new_tokens → (x : Environment) → package_answer ss (uses (map unit_of ss)) ≡ Ok x → (s : Stands) → let a = surroundings_of (uses (map unit_of ss)) x in
+        let b = surroundings_of (uses (map unit_of us)) (with_function keeps.gap.shared s x) in
+        KeepsBodies (package_in ss) (package_in us) keeps.gap a b (function_specification k ss us h) (those_of entity.Function (specifications 0 ss)) (those_of entity.Function (specifications 0 us)) }
+{
+    functions_are_typed_elsewhere();
+    trees_spelled_the_same_keep_it();
+    unchanged_functions_keep_their_types();
+    files_are_orderly();
+    shared_declarations_need_no_locals();
+    shared_needs_are_closed();
 }

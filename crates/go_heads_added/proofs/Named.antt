@@ -102,8 +102,12 @@ files_named : (n : ℕ) (us : List names.Unit) → outside_declarations (found_f
 files_named n [] e = tt
 files_named n (u ∷ us) e = let r = named_in n u.tokens (found_from (suc n) us) u.events e in (r.0, files_named (suc n) us r.1)
 
-pub have_names : (us : List names.Unit) → reported us ≡ None → AllByRecursion HasNames us
-have_names us e =
+-- what is asked of names of functions, where the rule on these doesn't fail
+pub clauses_named : (us : List names.Unit) → clause_faults us ≡ [] → AllByRecursion HasNames us
+clauses_named us e =
     files_named 0 us
     (failing_none code.Outside (outside_declarations (found us))
-    (third_none (failing code.PackageName (package_names us)) (failing code.Outside (imports us)) (failing code.Outside (outside_declarations (found us))) (failing code.Outside (missing_bodies (found us) us)) (clauses_none us e)))
+    (third_none (failing code.PackageName (package_names us)) (failing code.Outside (imports us)) (failing code.Outside (outside_declarations (found us))) (failing code.Outside (missing_bodies (found us) us)) e))
+
+pub have_names : (us : List names.Unit) → reported us ≡ None → AllByRecursion HasNames us
+have_names us e = clauses_named us (clauses_none us e)
