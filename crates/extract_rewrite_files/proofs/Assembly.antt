@@ -1,5 +1,5 @@
 -- Each file of an extraction is new.
-use Rattle.std.proofs.Common.{◌≡◌, ◌∙◌, ℕ, zero, suc, ◌+◌, ◌-◌, ◌<◌, ◌≤◌, ◌⊎◌, inl, inr, Bool, true, false, cond, List, [], ◌∷◌, ◌++◌, drop, length, map, reverse, Option, Some, None, refl, sym, ap, subst, arith, eq-eqb, eqb-true}
+use Rattle.std.proofs.Common.{◌≡◌, ◌∙◌, ℕ, ◌+◌, ◌<◌, ◌≤◌, inl, inr, Bool, true, false, cond, List, [], ◌∷◌, ◌++◌, drop, length, map, reverse, Option, Some, None, refl, sym, ap, subst, arith, eq-eqb, eqb-true}
 use Rattle.std.specs.Prelude.{◌==◌, nat_eq, slice_get}
 use Rattle.std.specs.List.{AllByRecursion}
 use Rattle.std.specs.Option.{option_map}
@@ -15,7 +15,6 @@ use Rattle.go_grammar.specs.Trees.{Tree}
 use Rattle.go_rewriting.specs.Rewriting.{AddedFits, IsFileWellFormed, IsTail}
 use Rattle.go_tokens.proofs.Public.{lexes_by_test}
 use Rattle.go_tree.specs.File.{FileTree}
-use Rattle.go_tree.specs.Views.{view}
 use Rattle.go_types.specs.Trees.{TypeTree}
 use Rattle.go_typed.specs.declared.window.Window.{Window}
 use Rattle.go_typed.specs.Contents.{Content, content}
@@ -30,7 +29,7 @@ use Rattle.escape_check.specs.Places.{file_of, sources_of}
 use Rattle.escape_check.specs.Types.{declared_text}
 use Rattle.extract_texts.specs.Texts.{call_of, call_text, function_for, window_bytes}
 use Rattle.extract_rewrite.specs.Edits.{edit_at, edits, file_end, function_edit, window_edit}
-use Rattle.extract_rewrite.specs.Order.{begin_together, by_place, from_the_end, put_in}
+use Rattle.extract_rewrite.specs.Order.{begin_together, by_place, from_the_end}
 use Rattle.extract_rewrite.specs.Ready.{CanBeDone}
 use Rattle.extract_rewrite.specs.Renewed.{OtherBytesStay, edits_in, renewed}
 use Rattle.extract_files.specs.Extracted.{ExtractedFilesAreRewritten, with_texts}
@@ -43,13 +42,13 @@ use Rattle.extract_files.specs.Functions.{extracted_function}
 use Rattle.extract_files.specs.Holes.{named_trees, named_words}
 use Rattle.extract_texts.specs.Texts as template_text
 use Rattle.extract_rewrite_files.specs.Behind.{StandsBehind, names_for}
-use Rattle.extract_rewrite_files.specs.NewFiles.{BecomesNew, IsNewFile, IsOneOf, behind_file, called_file}
+use Rattle.extract_rewrite_files.specs.NewFiles.{BecomesNew, IsOneOf, behind_file, called_file}
 use Rattle.extract_rewrite_files.proofs.CheckedFiles.{HasText}
 use Rattle.go_function_places.specs.Places.{HavePlaces}
 use Rattle.extract_rewrite_files.proofs.Complete.{InFunction, all_in}
 use Rattle.extract_rewrite_files.proofs.Facts.{Fact, file_read, has_bytes, lexes_of}
 use Rattle.extract_rewrite_files.proofs.FileEdits.{AreEdits, Comes, HasBytes, bytes_file, file_edits, function_there, member_there, not_behind, nothing_there}
-use Rattle.extract_rewrite_files.proofs.Placed.{Follow, IsIn, Rises, all_kept, all_placed, all_turned, apart, follow, placed_again, places_rise}
+use Rattle.extract_rewrite_files.proofs.Placed.{Follow, IsIn, all_kept, all_placed, all_turned, apart, follow, placed_again, places_rise}
 use Rattle.extract_rewrite_files.proofs.Renewing.{none_behind, one_behind, renewed_is}
 use Rattle.extract_rewrite_files.specs.Sites.{IsSite}
 use Rattle.extract_rewrite_files.proofs.Sites.{Known}

@@ -1,5 +1,5 @@
 -- An expression is one wherever it stands.
-use Rattle.std.proofs.Common.{◌≡◌, ◌∙◌, Bool, true, false, List, Option, refl, sym}
+use Rattle.std.proofs.Common.{◌≡◌, ◌∙◌, true, false, List, Option, refl, sym}
 use Rattle.std.specs.Prelude.{if◌then◌else◌, slice_get}
 use Rattle.go_tokens.specs.declared.token.TokenKind.{TokenKind}
 use Rattle.go_tokens.specs.declared.token.TokenKind.TheVariants as token

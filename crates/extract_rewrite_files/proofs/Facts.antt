@@ -1,36 +1,30 @@
 -- What is known of the members of windows of a package that type-checks.
-use Rattle.std.proofs.Common.{◌≡◌, ◌∙◌, ℕ, zero, suc, ◌+◌, ◌-◌, ◌<◌, ◌≤◌, List, [], ◌∷◌, length, map, Option, Some, None, refl, sym, ap, subst, arith}
+use Rattle.std.proofs.Common.{◌≡◌, ◌∙◌, ℕ, zero, suc, ◌+◌, ◌-◌, ◌<◌, List, [], ◌∷◌, length, map, Some, refl, sym, ap, subst, arith}
 use Rattle.std.specs.Prelude.{slice_get}
-use Rattle.std.specs.List.{AllByRecursion}
 use Rattle.go_base.specs.declared.bytes.FileText.{FileText}
-use Rattle.go_tokens.specs.declared.token.Token.{Token}
 use Rattle.go_tokens.specs.Lexing.{Lexes, width}
-use Rattle.go_tokens.specs.Tokens.{kinds, span_of, AreOrdered}
+use Rattle.go_tokens.specs.Tokens.{span_of, AreOrdered}
 use Rattle.go_tokens.proofs.Public.{placed}
 use Rattle.go_grammar.specs.declared.kind.Category.TheVariants as categories
-use Rattle.go_grammar.specs.Grammar.{Derives, IsFile}
 use Rattle.go_rewriting.specs.Rewriting.{IsRange}
 use Rattle.go_tree.specs.declared.object.Declared.{Declared}
 use Rattle.go_tree.specs.File.{FileTree}
 use Rattle.go_tree.specs.Units.{end_in, start_in}
-use Rattle.go_tree.specs.Uses.{functions_among}
 use Rattle.go_tree.specs.Views.{view}
 use Rattle.go_types.specs.Trees.{TypeTree}
-use Rattle.go_typed.specs.declared.window.Window.{Window}
-use Rattle.go_typed.specs.Contents.{Content, FuncContent}
+use Rattle.go_typed.specs.Contents.{Content}
 use Rattle.go_scopes.specs.Numbering.{spot_of}
-use Rattle.go_package_defs.specs.Checked.{AreRead, IsRead}
+use Rattle.go_package_defs.specs.Checked.{AreRead}
 use Rattle.param_choose.specs.Members.{Member, member_of}
 use Rattle.escape_check.specs.Places.{file_of, sources_of}
 use Rattle.extract_texts.specs.Texts.{window_bytes}
-use Rattle.go_function_places.specs.Places.{FunctionPlace, HavePlaces, name_spot}
-use Rattle.go_function_places.specs.Places as places
+use Rattle.go_function_places.specs.Places.{FunctionPlace, name_spot}
 use Rattle.extract_rewrite_files.proofs.CheckedFiles.{HasText, text_there}
 use Rattle.extract_rewrite_files.proofs.FileEdits.{HasBytes}
 use Rattle.extract_rewrite_files.proofs.Ordered.{ends_before, ends_within, inside_some}
 use Rattle.extract_rewrite_files.specs.Sites.{HasSite}
 use Rattle.extract_rewrite_files.proofs.Sites.{Known, range_some, site_range}
-use Rattle.extract_rewrite_files.proofs.Splits.{all_at, same_some}
+use Rattle.extract_rewrite_files.proofs.Splits.{same_some}
 use Rattle.extract_rewrite_files.proofs.Written.{first_written}
 
 -- A member of its window, at a path of the tree of its file, behind the first token of that.

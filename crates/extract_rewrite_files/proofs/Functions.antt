@@ -1,15 +1,13 @@
 -- The tokens of members are among those of their functions, which stand apart.
-use Rattle.std.proofs.Common.{◌≡◌, ◌∙◌, ℕ, zero, suc, ◌+◌, ◌-◌, ◌<◌, ◌≤◌, ◌⊎◌, inl, inr, List, [], ◌∷◌, drop, take, length, map, Option, Some, None, refl, sym, ap, subst, arith}
+use Rattle.std.proofs.Common.{◌≡◌, ℕ, zero, suc, ◌-◌, ◌<◌, ◌≤◌, inl, inr, List, [], ◌∷◌, drop, take, Option, Some, None, refl, subst, arith}
 use Rattle.std.specs.Prelude.{slice_get}
 use Rattle.std.specs.List.{AllByRecursion}
-use Rattle.go_types.specs.Trees.{TypeTree}
 use Rattle.go_typed.specs.declared.window.Window.{Window}
-use Rattle.go_typed.specs.Contents.{Content, FuncContent}
+use Rattle.go_typed.specs.Contents.{FuncContent}
 use Rattle.go_typed.specs.Lists.{statement_lists, statements_of}
 use Rattle.go_typed.specs.Trees.{Typed, last_of}
 use Rattle.clone_window.specs.Spans.{last_from}
 use Rattle.clone_window.specs.Windows.{row_of, statements_in, window_statements}
-use Rattle.param_choose.specs.Members.{Member}
 use Rattle.go_function_places.specs.Places.{AreInOrder, FunctionPlace, HaveStatements, ListsStandIn, StandInRow, StandsBefore}
 use Rattle.extract_rewrite_files.proofs.Splits.{all_at, same_some}
 

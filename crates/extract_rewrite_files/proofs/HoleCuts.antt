@@ -1,30 +1,26 @@
 -- The holes of a template, cut out of its characters.
-use Rattle.std.proofs.Common.{◌≡◌, ◌∙◌, ℕ, ◌+◌, ◌-◌, ◌<◌, ◌≤◌, Bool, true, ◌&&◌, List, [], ◌∷◌, ◌++◌, append_assoc, length, map, Some, refl, sym, ap, subst, arith}
+use Rattle.std.proofs.Common.{◌≡◌, ◌∙◌, ℕ, ◌+◌, ◌-◌, ◌≤◌, true, List, [], ◌∷◌, ◌++◌, length, map, Some, refl, sym, subst, arith}
 use Rattle.std.specs.Prelude.{slice_get}
 use Rattle.std.specs.List.{AllByRecursion}
 use Rattle.go_tokens.specs.declared.token.Token.{Token}
 use Rattle.go_tokens.specs.Lexing.{Lexes, width}
 use Rattle.go_tokens.specs.Tokens.{kinds}
-use Rattle.go_tokens.proofs.Public.{width-append, width-nil}
+use Rattle.go_tokens.proofs.Public.{width-append}
 use Rattle.go_grammar.specs.declared.kind.Category.{Category}
 use Rattle.go_grammar.specs.declared.kind.Category.TheVariants as categories
-use Rattle.go_grammar.specs.declared.kind.Level.TheVariants as level
 use Rattle.go_grammar.specs.declared.kind.Place.{Place}
 use Rattle.go_grammar.specs.declared.kind.Place.TheVariants as place
-use Rattle.go_grammar.specs.Categories.{is_expression, place_of}
+use Rattle.go_grammar.specs.Categories.{place_of}
 use Rattle.go_grammar.specs.Grammar.{Derives, any}
-use Rattle.go_grammar.specs.Trees.{Tree, first, kind_of, last}
-use Rattle.go_rewriting.specs.Lists.{Subtree}
+use Rattle.go_grammar.specs.Trees.{Tree, last}
 use Rattle.go_rewriting.specs.Places.{Change, carry, moved_by}
-use Rattle.go_rewriting.specs.Replacing.{asked_at, subtree_at, takes_level}
 use Rattle.go_rewriting.specs.Rewriting.{IsRange}
 use Rattle.go_rewriting.specs.Sites.{all_clear, is_clear, whole}
 use Rattle.go_tree.specs.File.{FileTree}
 use Rattle.go_tree.specs.Units.{end_in, start_in}
-use Rattle.go_tree.specs.Units as units
 use Rattle.go_tree.specs.Views.{view}
 use Rattle.go_types.specs.Trees.{TypeTree}
-use Rattle.go_print_laws.specs.Lexemes.{AreNames, IsName}
+use Rattle.go_print_laws.specs.Lexemes.{AreNames}
 use Rattle.go_print_laws.specs.Trees.{name_at}
 use Rattle.param_choose.specs.Choosing.{HoleParameter}
 use Rattle.param_choose.specs.Holes.{Hole}

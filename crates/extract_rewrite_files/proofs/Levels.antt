@@ -1,5 +1,5 @@
 -- New files within the limits have trees.
-use Rattle.std.proofs.Common.{◌≡◌, ◌∙◌, ℕ, zero, suc, ◌+◌, List, [], ◌∷◌, Some, refl, sym, ap, subst, arith}
+use Rattle.std.proofs.Common.{◌≡◌, ℕ, zero, suc, ◌+◌, List, [], ◌∷◌, Some, subst, arith}
 use Rattle.std.specs.Prelude.{slice_get}
 use Rattle.go_base.specs.declared.Span.{Span}
 use Rattle.go_base.specs.declared.bytes.FileText.{FileText}

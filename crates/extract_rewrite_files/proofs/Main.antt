@@ -1,5 +1,5 @@
 -- Each file of an extraction of a package that type-checks is a rewriting of the file.
-use Rattle.std.proofs.Common.{◌≡◌, ℕ, ◌<◌, ◌≤◌, List, [], ◌∷◌, Some, refl}
+use Rattle.std.proofs.Common.{◌≡◌, ◌<◌, ◌≤◌, List, [], ◌∷◌, Some}
 use Rattle.std.specs.Prelude.{slice_get}
 use Rattle.std.specs.List.{AllByRecursion}
 use Rattle.go_base.specs.Package.{most_bytes, total_bytes}
@@ -19,7 +19,7 @@ use Rattle.extract_texts.specs.Texts.{call_of}
 use Rattle.extract_files.specs.Functions.{ExtractedFunctionsStand}
 use Rattle.extract_rewrite.specs.Ready.{EditsCanBeDone}
 use Rattle.go_function_places.specs.Places.{HavePlaces}
-use Rattle.extract_rewrite_files.specs.Behind.{FunctionsStandBehind, MayBeTaken, TemplatesAreParts}
+use Rattle.extract_rewrite_files.specs.Behind.{FunctionsStandBehind, TemplatesAreParts}
 use Rattle.extract_rewrite_files.specs.NewFiles.{FilesBecomeNew, IsOneOf}
 use Rattle.extract_rewrite_files.specs.Sites.{HasSite}
 use Rattle.extract_rewrite_files.proofs.Assembly.{Known_member, Laws, each_one, file_new}

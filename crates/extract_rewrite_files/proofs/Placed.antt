@@ -1,13 +1,12 @@
 -- Edits by their places: in order, and each but those that begin where a later one does.
-use Rattle.std.proofs.Common.{◌≡◌, ◌∙◌, ℕ, ◌≤◌, ◌⊎◌, inl, inr, Bool, true, false, ◌&&◌, ◌||◌, cond, List, [], ◌∷◌, ◌++◌, append-nil, append_assoc, map, reverse, refl, sym, ap, subst, arith}
-use Rattle.std.specs.Prelude.{nat_eq, nat_lt}
+use Rattle.std.proofs.Common.{◌≡◌, ◌∙◌, ◌≤◌, ◌⊎◌, inl, inr, Bool, true, false, cond, List, [], ◌∷◌, ◌++◌, append-nil, append_assoc, reverse, refl, sym, ap, subst, arith}
 use Rattle.std.specs.List.{AllByRecursion}
 use Rattle.std.proofs.lemmas.Bool.Decides.{nat_tests}
 use Rattle.std.proofs.lemmas.List.{reverse-append}
 use Rattle.edit_apply.specs.declared.edits.Edit.{Edit}
 use Rattle.edit_apply.specs.Applied.{Descends}
 use Rattle.extract_rewrite.specs.Apart.{AreApart, AllApart}
-use Rattle.extract_rewrite.specs.Order.{begins_before, begin_together, put_in, put_all, by_place, from_the_end}
+use Rattle.extract_rewrite.specs.Order.{begins_before, begin_together, put_in, put_all, by_place}
 use Rattle.extract_rewrite_files.specs.NewFiles.{IsOneOf}
 use Rattle.extract_rewrite_files.proofs.Splits.{all_to}
 

@@ -1,5 +1,5 @@
 -- The bytes of a file behind its edits are the old ones with calls at its windows, and the function behind all.
-use Rattle.std.proofs.Common.{◌≡◌, ◌∙◌, ℕ, ◌+◌, ◌-◌, ◌≤◌, List, [], ◌∷◌, ◌++◌, append-nil, append_assoc, drop, take, length, map, Some, refl, sym, ap, subst, arith}
+use Rattle.std.proofs.Common.{◌≡◌, ◌∙◌, ℕ, ◌-◌, ◌≤◌, List, [], ◌∷◌, ◌++◌, append-nil, append_assoc, drop, take, length, map, Some, sym, ap, arith}
 use Rattle.std.specs.Prelude.{slice_range}
 use Rattle.std.specs.List.{AllByRecursion}
 use Rattle.std.proofs.lemmas.List.{drop_all, length-drop, take_all}
@@ -16,7 +16,6 @@ use Rattle.extract_files.specs.Extracted.{with_texts}
 use Rattle.extract_rewrite.specs.Edits.{window_edit}
 use Rattle.extract_rewrite.specs.Renewed.{renewed}
 use Rattle.extract_rewrite_files.proofs.Members.{own_call}
-use Rattle.extract_rewrite_files.proofs.Windows.{InRow}
 
 module _ (c : Content) (name : List ℕ) (ws : List Window) (t : Member TypeTree) (there : template_of c ws ≡ Some t) where
   abbrev edit : Member TypeTree → Edit

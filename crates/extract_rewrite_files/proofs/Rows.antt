@@ -1,5 +1,5 @@
 -- The holes of a choice, in order of place.
-use Rattle.std.proofs.Common.{◌≡◌, ◌∙◌, ℕ, zero, suc, ◌+◌, ◌-◌, ◌<◌, ◌≤◌, Bool, true, false, cond, List, [], ◌∷◌, ◌++◌, length, map, Option, Some, None, refl, sym, ap, subst, arith}
+use Rattle.std.proofs.Common.{◌≡◌, ◌∙◌, ℕ, suc, ◌+◌, ◌-◌, ◌<◌, ◌≤◌, Bool, true, false, cond, List, [], ◌∷◌, ◌++◌, length, map, Option, Some, None, refl, ap, arith}
 use Rattle.std.specs.Prelude.{slice_get}
 use Rattle.std.specs.List.{AllByRecursion}
 use Rattle.go_tokens.specs.declared.token.Token.{Token}
@@ -7,7 +7,7 @@ use Rattle.go_tokens.specs.Tokens.{AreOrdered, span_of}
 use Rattle.go_rewriting.specs.Rewriting.{IsRange}
 use Rattle.go_tree.specs.Units.{end_in, start_in}
 use Rattle.go_types.specs.Trees.{TypeTree}
-use Rattle.param_choose.specs.Choosing.{HoleParameter, is_parameter, parameter_of, parameter_with, parameters_from, type_in}
+use Rattle.param_choose.specs.Choosing.{HoleParameter, is_parameter, parameter_with, parameters_from, type_in}
 use Rattle.param_choose.specs.Holes.{Hole}
 use Rattle.param_choose.specs.Members.{Member}
 use Rattle.escape_check.specs.Places.{Sources}

@@ -1,7 +1,6 @@
 -- Windows at paths of the tree of a file, and their tokens.
-use Rattle.std.proofs.Common.{◌≡◌, ◌∙◌, ℕ, ◌+◌, ◌-◌, ◌<◌, ◌≤◌, true, List, length, map, Some, refl, sym, ap, subst, arith}
+use Rattle.std.proofs.Common.{◌≡◌, ◌∙◌, ℕ, ◌+◌, ◌-◌, ◌<◌, ◌≤◌, true, List, map, Some, refl, sym, ap, subst, arith}
 use Rattle.std.specs.Prelude.{max, slice_get}
-use Rattle.go_base.specs.declared.Span.{Span}
 use Rattle.go_tokens.specs.declared.token.Token.{Token}
 use Rattle.go_tokens.specs.declared.token.TokenKind.{TokenKind}
 use Rattle.go_tokens.specs.Lexing.{Lexes, width}
@@ -9,16 +8,14 @@ use Rattle.go_tokens.specs.Tokens.{AreOrdered, kinds, span_of}
 use Rattle.go_tokens.proofs.Public.{placed}
 use Rattle.go_grammar.specs.declared.kind.Category.{Category}
 use Rattle.go_grammar.specs.declared.kind.Category.TheVariants as categories
-use Rattle.go_grammar.specs.Categories.{place_of}
-use Rattle.go_grammar.specs.Grammar.{rule, Derives}
+use Rattle.go_grammar.specs.Grammar.{Derives}
 use Rattle.go_grammar.specs.Rules.{Items, item}
-use Rattle.go_grammar.specs.Trees.{Tree, Trees, kind_of, parts}
+use Rattle.go_grammar.specs.Trees.{Tree, Trees, parts}
 use Rattle.go_rewriting.specs.Endings.{ends_well}
-use Rattle.go_rewriting.specs.Lists.{IsRun, RunStands, Subtree, has_run, items_at, run_at}
-use Rattle.go_rewriting.specs.Places.{Range, range}
+use Rattle.go_rewriting.specs.Lists.{IsRun, RunStands, Subtree, run_at}
+use Rattle.go_rewriting.specs.Places.{Range}
 use Rattle.go_rewriting.specs.Replacing.{Run, asked_at, subtree_at}
 use Rattle.go_rewriting.specs.Rewriting.{IsRange}
-use Rattle.go_rewriting.specs.Sites.{is_clear, items, run_range}
 use Rattle.go_tree.specs.File.{FileTree}
 use Rattle.go_tree.specs.Units.{end_in, start_in}
 use Rattle.go_tree.specs.Units as units

@@ -1,9 +1,7 @@
 -- The template with its holes, cut out of its file.
-use Rattle.std.proofs.Common.{◌≡◌, ◌∙◌, ℕ, ◌+◌, ◌-◌, ◌<◌, ◌≤◌, true, List, [], ◌∷◌, ◌++◌, append_assoc, length, map, Some, refl, sym, ap, subst, arith}
+use Rattle.std.proofs.Common.{◌≡◌, ◌∙◌, ℕ, ◌+◌, ◌-◌, ◌<◌, List, ◌++◌, append_assoc, length, Some, refl, sym, ap, subst, arith}
 use Rattle.std.specs.Prelude.{slice_get}
 use Rattle.std.specs.List.{AllByRecursion}
-use Rattle.std.specs.Str.{encode_utf8_all}
-use Rattle.go_tokens.specs.declared.token.Token.{Token}
 use Rattle.go_tokens.specs.Encoding.{IsText}
 use Rattle.go_tokens.specs.Lexing.{Lexes, width}
 use Rattle.go_tokens.specs.Tokens.{kinds}
@@ -19,11 +17,11 @@ use Rattle.go_print_laws.specs.Lexemes.{AreNames}
 use Rattle.param_choose.specs.Choosing.{Choice}
 use Rattle.param_choose.specs.Members.{Member}
 use Rattle.escape_check.specs.Places.{Sources, file_of}
-use Rattle.extract_texts.specs.Texts.{file_text, text_of, window_bytes}
-use Rattle.extract_files.specs.Functions.{AreAt, IsTemplateOf}
-use Rattle.extract_files.specs.Holes.{AreHoles, Template, named}
+use Rattle.extract_texts.specs.Texts.{text_of, window_bytes}
+use Rattle.extract_files.specs.Functions.{IsTemplateOf}
+use Rattle.extract_files.specs.Holes.{Template, named}
 use Rattle.extract_rewrite_files.specs.Sites.{IsHoleSite, IsSite}
-use Rattle.extract_rewrite_files.proofs.HoleCuts.{HoleCut, HolesInRow, hole_cut}
+use Rattle.extract_rewrite_files.proofs.HoleCuts.{HolesInRow, hole_cut}
 use Rattle.extract_rewrite_files.proofs.Sites.{Known, range_some, site_range, site_run}
 use Rattle.extract_rewrite_files.proofs.Splits.{Divided, divided_on, one_cut, token_of}
 use Rattle.extract_rewrite_files.proofs.Texts.{inner_of}

@@ -1,7 +1,6 @@
 -- Statements and expressions of a lexed text begin with a written token and end with one.
-use Rattle.std.proofs.Common.{◌≡◌, ℕ, zero, suc, ◌+◌, ◌-◌, ◌<◌, ◌≤◌, ◌⊎◌, inl, inr, Bool, true, false, List, [], ◌∷◌, Option, Some, None, refl, sym, ap, ◌∙◌, subst, arith}
+use Rattle.std.proofs.Common.{◌≡◌, ℕ, zero, suc, ◌-◌, ◌<◌, inl, inr, Bool, true, false, List, [], ◌∷◌, Option, Some, None, refl, sym, ap, ◌∙◌, subst, arith}
 use Rattle.std.specs.Prelude.{slice_get}
-use Rattle.std.specs.Option.{option_map}
 use Rattle.go_base.specs.declared.Span.{Span}
 use Rattle.go_tokens.specs.declared.token.Token.{Token}
 use Rattle.go_tokens.specs.declared.token.TokenKind.{TokenKind}
@@ -11,7 +10,7 @@ use Rattle.go_tokens.specs.Lexing.{Lexes}
 use Rattle.go_tokens.specs.Spellings.{ends_statement_kind}
 use Rattle.go_tokens.specs.Tokens.{kinds}
 use Rattle.go_grammar.specs.declared.kind.Category.{Category}
-use Rattle.go_grammar.specs.Grammar.{IsAt, Derives}
+use Rattle.go_grammar.specs.Grammar.{Derives}
 use Rattle.go_grammar.specs.Reader.{begins}
 use Rattle.go_grammar.specs.Rules.{Items, item}
 use Rattle.go_grammar.specs.Trees.{Tree, Trees, none, more, skip, first, last}
@@ -20,7 +19,7 @@ use Rattle.go_rewriting.specs.Endings.{Ending, ends_well}
 use Rattle.go_rewriting.specs.Replacing.{Run}
 use Rattle.go_rewriting.specs.Rewriting.{IsRange}
 use Rattle.go_tree.specs.Units.{end_in, start_in}
-use Rattle.extract_rewrite_files.proofs.Splits.{IsToken, token_of}
+use Rattle.extract_rewrite_files.proofs.Splits.{token_of}
 
 abbrev neither : Bool → Bool → Bool
 neither true b = false

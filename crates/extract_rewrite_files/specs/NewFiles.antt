@@ -1,5 +1,5 @@
 -- What an extraction makes of each file of a package.
-use Rattle.std.specs.Prelude.{◌≡◌, ℕ, ◌≤◌, ◌⊎◌, ◌==◌, if◌then◌else◌, List, [], ◌∷◌, ◌++◌, map, Option, Some, None, slice_get}
+use Rattle.std.specs.Prelude.{◌≡◌, ℕ, ◌≤◌, ◌⊎◌, ◌==◌, if◌then◌else◌, List, [], ◌∷◌, ◌++◌, map, Option, Some, slice_get}
 use Rattle.std.specs.List.{AllByRecursion}
 use Rattle.std.specs.Str.{encode_utf8_all}
 use Rattle.go_base.specs.declared.bytes.FileText.{FileText}
@@ -13,7 +13,6 @@ use Rattle.go_types.specs.Trees.{TypeTree}
 use Rattle.go_typed.specs.declared.window.Window.{Window}
 use Rattle.go_typed.specs.Contents.{Content, content}
 use Rattle.go_typed.specs.Packages.{PackageView}
-use Rattle.edit_apply.specs.declared.edits.Edit.{Edit}
 use Rattle.param_choose.specs.Choosing.{chosen_of}
 use Rattle.param_choose.specs.Members.{Member, members_of}
 use Rattle.escape_check.specs.Places.{Sources, file_of, sources_of}

@@ -1,5 +1,5 @@
 -- Which parts of nodes are no statements and hold none.
-use Rattle.std.proofs.Common.{◌≡◌, ◌∙◌, ℕ, zero, suc, Bool, true, false, List, [], refl, sym}
+use Rattle.std.proofs.Common.{◌≡◌, ◌∙◌, ℕ, Bool, true, false, refl, sym}
 use Rattle.std.specs.Prelude.{nat_le}
 use Rattle.go_grammar.specs.declared.kind.Category.{Category}
 use Rattle.go_grammar.specs.declared.kind.Category.TheVariants as category
@@ -12,7 +12,7 @@ use Rattle.go_grammar.specs.declared.kind.Sort.TheVariants as declaring
 use Rattle.go_grammar.specs.Categories.{within, tightness, is_type}
 use Rattle.go_grammar.specs.Grammar.{rule}
 use Rattle.go_grammar.specs.Operators.{rank}
-use Rattle.go_grammar.specs.Rules.{Items, Rule, End, Then, Maybe, Unless, Many, item}
+use Rattle.go_grammar.specs.Rules.{Rule, End, Then, Maybe, Unless, Many, item}
 use Rattle.go_grammar.specs.Trees.{Tree, node, Trees, none, more, skip, kind_of}
 use Rattle.go_stmts_defs.specs.Reading.{is_statement}
 use Rattle.go_stmts_final_types.specs.Shapes.{IsShaped, AreShaped}

@@ -1,21 +1,20 @@
 -- The functions that files declare are parts of the trees of the files, under the numbers and names that the package has for them.
-use Rattle.std.proofs.Common.{◌≡◌, ◌∙◌, ℕ, zero, suc, ◌+◌, ◌≤◌, true, false, Bool, if◌then◌else◌, List, [], ◌∷◌, ◌++◌, length, map, Option, Some, None, slice_get, refl, sym, ap, subst, arith}
+use Rattle.std.proofs.Common.{◌≡◌, ◌∙◌, ℕ, suc, ◌+◌, ◌≤◌, true, false, Bool, if◌then◌else◌, List, [], ◌∷◌, ◌++◌, length, map, Option, Some, None, slice_get, refl, sym, ap, subst, arith}
 use Rattle.std.specs.List.{AllByRecursion}
-use Rattle.std.proofs.lemmas.List.{length-map, map-append}
+use Rattle.std.proofs.lemmas.List.{map-append}
 use Rattle.std.proofs.lemmas.List.Sums.{sum_by-cons}
 use Rattle.go_base.specs.declared.bytes.FileText.{FileText}
 use Rattle.go_base.specs.Package.{most_bytes, total_bytes}
 use Rattle.go_tokens.specs.Encoding.{IsText}
 use Rattle.go_tokens.specs.Lexing.{width}
-use Rattle.go_tokens.specs.Tokens.{AreOrdered, kind_of, kinds, span_of}
+use Rattle.go_tokens.specs.Tokens.{kinds}
 use Rattle.go_tokens.proofs.Public.{placed}
 use Rattle.go_tokens.specs.declared.token.TokenKind.TheVariants as token
 use Rattle.go_grammar.specs.declared.kind.Category.TheVariants as category
 use Rattle.go_grammar.specs.declared.kind.Kind.TheVariants as kind
-use Rattle.go_grammar.specs.declared.kind.Place.TheVariants as place
 use Rattle.go_grammar.specs.declared.kind.Sort.{Sort}
 use Rattle.go_grammar.specs.declared.kind.Sort.TheVariants as declaring
-use Rattle.go_grammar.specs.Grammar.{rule, Derives, IsFile}
+use Rattle.go_grammar.specs.Grammar.{Derives, IsFile}
 use Rattle.go_grammar.specs.Rules.{Rule, Each, Many}
 use Rattle.go_grammar.specs.Trees.{Tree, node, Trees, none, more, skip, first, last}
 use Rattle.go_grammar.specs.Trees as syntax

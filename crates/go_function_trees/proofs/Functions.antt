@@ -1,20 +1,18 @@
 -- The typed functions of a package that type-checks are what is read of their declarations, and no rule fails in them.
-use Rattle.std.proofs.Common.{◌≡◌, ◌∙◌, ℕ, zero, suc, ◌+◌, ◌-◌, ◌≤◌, Bool, true, false, List, [], ◌∷◌, ◌++◌, length, map, replicate, Option, Some, None, Result, Ok, Err, refl, sym, ap, subst, arith}
+use Rattle.std.proofs.Common.{◌≡◌, ◌∙◌, ℕ, zero, suc, ◌-◌, List, [], ◌∷◌, ◌++◌, length, map, replicate, Option, Some, None, Result, Ok, Err, refl, sym, ap, subst}
 use Rattle.std.specs.Prelude.{slice_get}
 use Rattle.std.specs.List.{AllByRecursion}
 use Rattle.std.proofs.lemmas.List.{length-map}
 use Rattle.go_base.specs.Gives.{◌>>=◌}
 use Rattle.go_base.specs.declared.bytes.FileText.{FileText}
-use Rattle.go_grammar.specs.Trees.{Tree, node, first, last}
+use Rattle.go_grammar.specs.Trees.{Tree, last}
 use Rattle.go_tree.specs.declared.context.Entity.TheVariants as entity
 use Rattle.go_tree.specs.Failures.{Failure}
 use Rattle.go_tree.specs.File.{FileTree}
 use Rattle.go_tree.specs.Faults.{reported}
 use Rattle.go_tree.specs.Uses.{UsesView, uses}
 use Rattle.go_types.specs.Relations.{Rights}
-use Rattle.go_types.specs.Trees.{TypeTree}
 use Rattle.go_typed.specs.Contents.{Content, FuncContent}
-use Rattle.go_typed.specs.Trees.{Typed}
 use Rattle.go_exprs_rules.specs.declared.fault.TypeFault.{TypeFault}
 use Rattle.go_exprs_rules.specs.Faults as faults
 use Rattle.go_exprs_rules.specs.Scopes.{Scope, Hint, free}
@@ -22,7 +20,7 @@ use Rattle.go_stmts_defs.specs.Bodies.{based, start, signature_of, function_read
 use Rattle.go_stmts_defs.specs.Frames.{Frame}
 use Rattle.go_stmts_defs.specs.Reading.{Found, Reading, read, reading}
 use Rattle.go_package_defs.specs.Answer.{package_answer, specifications, unless}
-use Rattle.go_package_defs.specs.Bodies.{Behind, Functions, Surroundings, count_types, local_type, based_tree, behind_read, function_in, function_over, function_with, functions_from, placed, portion_of, scope_of, those_of, typed_function, types_in, with_function}
+use Rattle.go_package_defs.specs.Bodies.{Behind, Functions, Surroundings, count_types, local_type, based_tree, behind_read, function_over, function_with, functions_from, placed, portion_of, scope_of, those_of, typed_function, types_in, with_function}
 use Rattle.go_package_defs.specs.Checked.{IsChecked, Typing, bodies_answer, content_of, names_answer, names_of, sources_answer, surroundings_of}
 use Rattle.go_package_defs.specs.Declarations.{Specification}
 use Rattle.go_package_defs.specs.Sources.{Package, Source, package_of, source_of, unit_of}

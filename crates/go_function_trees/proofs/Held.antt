@@ -1,5 +1,5 @@
 -- Parts of statements that hold no statements, and how parts are laid out.
-use Rattle.std.proofs.Common.{◌≡◌, ◌∙◌, ℕ, zero, suc, Bool, true, false, if◌then◌else◌, List, [], ◌∷◌, ◌++◌, drop, length, map, Option, Some, None, refl, sym, ap, subst}
+use Rattle.std.proofs.Common.{◌≡◌, ℕ, suc, Bool, true, false, if◌then◌else◌, [], ◌∷◌, ◌++◌, map, Option, Some, None, refl}
 use Rattle.go_grammar.specs.declared.kind.Kind.{Kind}
 use Rattle.go_grammar.specs.declared.kind.Kind.TheVariants as kind
 use Rattle.go_grammar.specs.declared.kind.Sort.TheVariants as declaring
@@ -17,7 +17,7 @@ use Rattle.go_exprs_rules.specs.Sorts.{takes_type}
 use Rattle.go_exprs_rules.specs.Tables.{Parts, is_held, held, all_held, behind_first, first_cut}
 use Rattle.go_exprs_rules.specs.Typing.{typing}
 use Rattle.go_stmts_defs.specs.Frames.{Frame, Locals, scope_of, declared_type}
-use Rattle.go_stmts_defs.specs.Laying.{told, layout, first_loop_form, loop_form, new_or_known, new_form, with_form, new_name, is_values, typed_or_not, specification_parts, names_count, type_name, specified_names, all_names, is_group, specifications}
+use Rattle.go_stmts_defs.specs.Laying.{told, layout, first_loop_form, loop_form, new_or_known, new_form, with_form, new_name, is_values, typed_or_not, specification_parts, names_count, specified_names, all_names, is_group, specifications}
 use Rattle.go_stmts_defs.specs.Laying.{header_parts, if_parts, switch_parts, loop_header, for_parts, without_absent}
 use Rattle.go_stmts_defs.specs.Reading.{is_list, is_declared_name, is_statement, list_node, name_node, holding, holdings}
 use Rattle.go_function_trees.proofs.Listed.{OfList, Lists, PartLists, EachLists, ListHas, either, both, plain, row-lists, list-lists, behind-lists, one-more, inner-lists, held-lists, all-held-lists, first-cut-lists, behind-first-lists, take-lists}

@@ -1,10 +1,10 @@
 -- What holds of the statement lists of a typed tree.
-use Rattle.std.proofs.Common.{◌≡◌, ◌∙◌, ℕ, Bool, true, false, if◌then◌else◌, List, [], ◌∷◌, ◌++◌, drop, take, zero, suc, Option, Some, None, refl, sym, subst}
+use Rattle.std.proofs.Common.{◌≡◌, ◌∙◌, ℕ, Bool, true, false, if◌then◌else◌, [], ◌∷◌, ◌++◌, take, zero, suc, Option, Some, None, refl, sym}
 use Rattle.go_types.specs.Trees.{TypeTree}
 use Rattle.go_typed.specs.declared.form.Form.{Form}
 use Rattle.go_typed.specs.declared.form.Form.TheVariants as form
 use Rattle.go_typed.specs.Forms.{is_statement_list}
-use Rattle.go_typed.specs.Trees.{Typed, typed, Typeds, none, more, skip, row, list_of, first_of, last_of, form_of, sort_of, parts_of}
+use Rattle.go_typed.specs.Trees.{typed, Typeds, none, more, skip, row, list_of, form_of, sort_of, parts_of}
 use Rattle.go_exprs_rules.specs.declared.family.OpenKind.{OpenKind}
 use Rattle.go_exprs_rules.specs.Settling.{Part, Take, stay, default, as_type, settled, all_settled, defaulted, given}
 use Rattle.go_exprs_rules.specs.Sorts.{takes_type, open_kind, retyped, default_type}

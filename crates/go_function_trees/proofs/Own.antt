@@ -1,5 +1,5 @@
 -- The statements of a node that lists them are its parts, behind the values of a case.
-use Rattle.std.proofs.Common.{◌≡◌, ◌∙◌, ℕ, zero, suc, Bool, true, false, if◌then◌else◌, List, [], ◌∷◌, ◌++◌, drop, length, replicate, Option, Some, None, refl, sym, ap, subst}
+use Rattle.std.proofs.Common.{◌≡◌, ◌∙◌, ℕ, true, false, if◌then◌else◌, List, [], ◌∷◌, ◌++◌, drop, length, replicate, Some, None, refl, sym, ap, subst}
 use Rattle.go_grammar.specs.declared.kind.Category.{Category}
 use Rattle.go_grammar.specs.declared.kind.Category.TheVariants as category
 use Rattle.go_grammar.specs.declared.kind.Kind.{Kind}
@@ -9,19 +9,15 @@ use Rattle.go_grammar.specs.declared.kind.Place.{Place}
 use Rattle.go_grammar.specs.Categories as categories
 use Rattle.go_grammar.specs.Categories.{within, place_of}
 use Rattle.go_grammar.specs.Grammar.{rule}
-use Rattle.go_grammar.specs.Rules.{Items, Rule, Then, Many, item}
+use Rattle.go_grammar.specs.Rules.{Items, Many, item}
 use Rattle.go_grammar.specs.Trees.{Tree, node, Trees, kind_of, first, last}
 use Rattle.go_grammar.specs.Trees as syntax
 use Rattle.go_tokens.specs.declared.token.TokenKind.{TokenKind}
 use Rattle.go_rewriting.specs.Lists.{in_block, in_clause}
-use Rattle.go_rewriting.specs.Replacing.{next_category, next_rule}
 use Rattle.go_print_laws.specs.Calls.{of_block, of_clause}
-use Rattle.go_types.specs.Trees.{TypeTree}
-use Rattle.go_typed.specs.declared.form.Form.{Form}
-use Rattle.go_typed.specs.declared.form.Form.TheVariants as form
-use Rattle.go_typed.specs.Forms.{is_statement_list, values_count}
+use Rattle.go_typed.specs.Forms.{is_statement_list}
 use Rattle.go_typed.specs.Lists.{present}
-use Rattle.go_typed.specs.Trees.{typed, Typeds, row, list_of, form_of, parts_of}
+use Rattle.go_typed.specs.Trees.{row, list_of, parts_of}
 use Rattle.go_exprs_rules.specs.Scopes.{Hint}
 use Rattle.go_exprs_rules.specs.Settling.{Part}
 use Rattle.go_exprs_rules.specs.Tables.{Parts, is_held, held, all_held}
@@ -29,12 +25,12 @@ use Rattle.go_stmts_defs.specs.Assigning.{Taking}
 use Rattle.go_stmts_defs.specs.Frames.{Frame}
 use Rattle.go_stmts_defs.specs.Laying.{told, layout, form_by}
 use Rattle.go_stmts_defs.specs.Reading.{reading, holding, holdings}
-use Rattle.go_stmts_defs.specs.Rules.{taking, given_part, given_optional, all_given}
+use Rattle.go_stmts_defs.specs.Rules.{taking, all_given}
 use Rattle.go_stmts_final_types.specs.Shapes.{IsShaped, AreShaped}
 use Rattle.go_function_trees.specs.Lists.{tree_in}
 use Rattle.go_function_trees.proofs.Listed.{differ}
 use Rattle.go_function_trees.proofs.Held.{first-loop-plain, first-loop-unheld}
-use Rattle.go_function_trees.proofs.Stood.{ReadAs, IsPart, AreParts, Stood, PartOf, AreOf}
+use Rattle.go_function_trees.proofs.Stood.{ReadAs, AreParts, Stood, AreOf}
 
 -- ---- forms
 

@@ -1,5 +1,5 @@
 -- What is read of a derived body: each statement list stands in the tree.
-use Rattle.std.proofs.Common.{◌≡◌, ◌∙◌, ℕ, zero, suc, Bool, true, false, if◌then◌else◌, List, [], ◌∷◌, ◌++◌, length, replicate, Option, Some, None, refl, sym, ap, subst, append_assoc, append-nil}
+use Rattle.std.proofs.Common.{◌≡◌, ◌∙◌, ℕ, zero, suc, Bool, true, false, List, [], ◌∷◌, ◌++◌, replicate, Option, Some, None, refl, sym, ap, subst, append_assoc, append-nil}
 use Rattle.go_grammar.specs.declared.kind.Category.{Category}
 use Rattle.go_grammar.specs.declared.kind.Kind.{Kind}
 use Rattle.go_grammar.specs.declared.kind.Kind.TheVariants as kind
@@ -21,19 +21,19 @@ use Rattle.go_exprs_rules.specs.declared.fault.TypeFault.{TypeFault}
 use Rattle.go_exprs_rules.specs.Scopes.{Hint, value}
 use Rattle.go_exprs_rules.specs.Settling.{Part}
 use Rattle.go_exprs_rules.specs.Tables.{Parts, is_held}
-use Rattle.go_stmts_defs.specs.Assigning.{Taking, takes, stands, rests, type_or_default}
+use Rattle.go_stmts_defs.specs.Assigning.{Taking, takes, stands, type_or_default}
 use Rattle.go_stmts_defs.specs.Frames.{Frame}
 use Rattle.go_stmts_defs.specs.Laying.{told, layout, form_by}
 use Rattle.go_stmts_defs.specs.Reading.{Found, Reading, read, Readings, all_read, is_statement, holding, held_faults, beginning, entering, repeated, left_out, left_out_faults, after, closed, reading, readings}
 use Rattle.go_exprs_rules.specs.Sorts.{own_type}
-use Rattle.go_stmts_defs.specs.Rules.{names_in, taking, loop_takes, operand_takes, rest, own_faults, given_part, given_optional, all_given, built_by}
+use Rattle.go_stmts_defs.specs.Rules.{names_in, taking, loop_takes, operand_takes, rest, own_faults, given_part, all_given, built_by}
 use Rattle.go_stmts_final_types.specs.Shapes.{IsShaped, AreShaped}
 use Rattle.go_function_trees.specs.Lists.{Faultless, tree_in, found_in}
-use Rattle.go_function_trees.proofs.Listed.{OfList, Never, Lists, PartLists, EachLists, ListHas, either, differ, plain, given-lists, row-lists, listless, lists-weaker, all-weaker}
-use Rattle.go_function_trees.proofs.Held.{holding-first, holding-last, holding-lists, layout-lists, first-loop-plain}
+use Rattle.go_function_trees.proofs.Listed.{OfList, Never, Lists, PartLists, EachLists, either, differ, plain, given-lists, row-lists, listless, all-weaker}
+use Rattle.go_function_trees.proofs.Held.{holding-first, holding-last, holding-lists, layout-lists}
 use Rattle.go_function_trees.proofs.Bare.{AreBare, holds_none, parts-bare}
 use Rattle.go_function_trees.proofs.Own.{form-unheld, own}
-use Rattle.go_function_trees.proofs.Stood.{ReadAs, IsPart, Stood, StoodIn, PartOf, AreOf, stood-node, each-of, shaped-more, shaped-skip}
+use Rattle.go_function_trees.proofs.Stood.{Stood, StoodIn, PartOf, AreOf, stood-node, each-of, shaped-more, shaped-skip}
 
 -- ---- what is found
 

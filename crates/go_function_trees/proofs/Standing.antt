@@ -1,7 +1,6 @@
 -- The statement lists of a typed function stand in the tree of its file.
-use Rattle.std.proofs.Common.{◌≡◌, ◌∙◌, ℕ, zero, suc, ◌+◌, ◌-◌, ◌<◌, ◌≤◌, Bool, true, false, if◌then◌else◌, List, [], ◌∷◌, ◌++◌, drop, map, Option, Some, None, refl, sym, ap, subst, arith}
+use Rattle.std.proofs.Common.{◌≡◌, ◌∙◌, ℕ, zero, suc, ◌-◌, ◌<◌, ◌≤◌, Bool, true, false, if◌then◌else◌, List, [], ◌∷◌, ◌++◌, drop, map, Some, refl, sym, ap, subst, arith}
 use Rattle.std.specs.List.{AllByRecursion}
-use Rattle.std.specs.Prelude.{◌&&◌}
 use Rattle.go_grammar.specs.declared.kind.Category.{Category}
 use Rattle.go_grammar.specs.declared.kind.Category.TheVariants as categories
 use Rattle.go_grammar.specs.declared.kind.Kind.TheVariants as kind
@@ -11,7 +10,7 @@ use Rattle.go_grammar.specs.Trees.{Tree, node, Trees, none, more, skip, kind_of,
 use Rattle.go_tokens.specs.declared.token.TokenKind.{TokenKind}
 use Rattle.go_rewriting.specs.Lists.{Subtree, items_at}
 use Rattle.go_rewriting.specs.Replacing.{subtree_at, asked_at}
-use Rattle.go_rewriting.specs.Sites.{items, is_clear, may_change}
+use Rattle.go_rewriting.specs.Sites.{items, is_clear}
 use Rattle.go_types.specs.Trees.{TypeTree}
 use Rattle.go_types_relations.specs.Renaming.{renamed}
 use Rattle.go_typed.specs.declared.form.Form.{Form}
@@ -21,10 +20,10 @@ use Rattle.go_typed.specs.Trees.{Typed, typed, Typeds, Label, first_of, last_of,
 use Rattle.go_typed.specs.Trees as sort
 use Rattle.go_exprs_rules.specs.Settling.{Part}
 use Rattle.go_stmts_defs.specs.Bodies.{based, all_based}
-use Rattle.go_function_trees.specs.Lists.{parts_behind, statements_from, StandOver, IsRead, AreRead, ListStands}
+use Rattle.go_function_trees.specs.Lists.{parts_behind, statements_from, StandOver, AreRead, ListStands}
 use Rattle.go_function_trees.proofs.Listed.{OfList, Lists, AllLists, differ}
-use Rattle.go_function_trees.proofs.Based.{BasedAt, From, some-same, clear-in-part, subtree-based, asked-based, clear-based, behind-based, based-kind, based-first, based-last, based-parts, subtree-part, asked-part, ordered-from, behind-from}
-use Rattle.go_function_trees.proofs.Stood.{ReadAs, IsPart, AreParts, Stood}
+use Rattle.go_function_trees.proofs.Based.{From, some-same, clear-in-part, subtree-based, asked-based, clear-based, behind-based, based-kind, based-first, based-last, based-parts, subtree-part, asked-part, ordered-from, behind-from}
+use Rattle.go_function_trees.proofs.Stood.{AreParts, Stood}
 
 -- ---- over other words for types
 

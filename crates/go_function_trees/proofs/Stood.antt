@@ -1,5 +1,5 @@
 -- Where a statement list stands in a tree: paths from a node and from a row of parts.
-use Rattle.std.proofs.Common.{◌≡◌, ◌∙◌, ℕ, zero, suc, Bool, true, false, List, [], ◌∷◌, drop, Option, Some, None, refl, sym, ap}
+use Rattle.std.proofs.Common.{◌≡◌, ◌∙◌, ℕ, zero, suc, Bool, true, false, List, [], ◌∷◌, drop, Some, None, refl, ap}
 use Rattle.std.specs.Prelude.{◌&&◌}
 use Rattle.go_grammar.specs.declared.kind.Category.{Category}
 use Rattle.go_grammar.specs.declared.kind.Kind.{Kind}
@@ -25,7 +25,7 @@ use Rattle.go_stmts_defs.specs.Frames.{Frame}
 use Rattle.go_stmts_defs.specs.Reading.{reading}
 use Rattle.go_stmts_final_types.specs.Shapes.{IsShaped, AreShaped}
 use Rattle.go_function_trees.specs.Lists.{parts_behind, statements_from, Faultless, tree_in, found_in}
-use Rattle.go_function_trees.proofs.Listed.{OfList, Never, Lists, PartLists, EachLists, differ, lists-weaker, part-weaker, each-weaker, listless-part}
+use Rattle.go_function_trees.proofs.Listed.{Never, Lists, PartLists, EachLists, differ, lists-weaker, each-weaker, listless-part}
 
 -- ---- parts that are read
 

@@ -1,5 +1,5 @@
 -- The functions of a package that type-checks have trees.
-use Rattle.std.proofs.Common.{◌≡◌, ◌∙◌, ℕ, suc, ◌+◌, ◌-◌, ◌≤◌, List, [], ◌∷◌, length, map, Option, Some, None, slice_get, refl, sym, ap, subst, arith}
+use Rattle.std.proofs.Common.{◌≡◌, ◌∙◌, ℕ, suc, ◌+◌, ◌-◌, ◌≤◌, List, [], ◌∷◌, length, map, Some, None, slice_get, refl, sym, ap, subst, arith}
 use Rattle.std.specs.List.{AllByRecursion}
 use Rattle.go_base.specs.declared.bytes.FileText.{FileText}
 use Rattle.go_base.specs.Package.{most_bytes, total_bytes}
@@ -17,11 +17,10 @@ use Rattle.go_tree.specs.Units as names
 use Rattle.go_tree.specs.Uses.{UsesView, functions_among, uses}
 use Rattle.go_tree.specs.Views.{view}
 use Rattle.go_types_relations.specs.Renaming.{renamed}
-use Rattle.go_types.specs.Trees.{TypeTree}
 use Rattle.go_typed.specs.Contents.{FuncContent, content, func_renamed}
 use Rattle.go_typed.specs.Lists.{statement_lists}
 use Rattle.go_typed.specs.Packages.{PackageView}
-use Rattle.go_typed.specs.Trees.{Typed, mapped}
+use Rattle.go_typed.specs.Trees.{mapped}
 use Rattle.go_scopes.specs.Numbering.{spot_of, function_spots, AreFiles}
 use Rattle.go_scopes.specs.Resolve as resolve
 use Rattle.go_stmts_defs.specs.Bodies.{based}

@@ -1,9 +1,9 @@
 -- The statements of a window are adjoining parts of the node of its list.
-use Rattle.std.proofs.Common.{◌≡◌, ◌∙◌, ℕ, zero, suc, ◌+◌, Bool, true, false, List, [], ◌∷◌, drop, take, length, Option, Some, None, slice_get, refl, sym, ap, subst, arith}
+use Rattle.std.proofs.Common.{◌≡◌, ◌∙◌, ℕ, zero, suc, ◌+◌, true, false, List, [], ◌∷◌, drop, take, length, Option, Some, None, slice_get, refl, sym, ap, arith}
 use Rattle.go_grammar.specs.Categories.{place_of}
 use Rattle.go_grammar.specs.Grammar.{rule}
 use Rattle.go_grammar.specs.Rules.{Items, Rule, End, Then, Maybe, Unless, Many}
-use Rattle.go_grammar.specs.Trees.{Tree, node, Trees, none, more, skip, kind_of, first, last, parts}
+use Rattle.go_grammar.specs.Trees.{Tree, Trees, none, more, skip, kind_of, first, last, parts}
 use Rattle.go_rewriting.specs.Lists.{items_at, has_run}
 use Rattle.go_rewriting.specs.Places.{range, has_items, items_end}
 use Rattle.go_rewriting.specs.Sites.{run_range}
@@ -12,12 +12,12 @@ use Rattle.go_types.specs.Trees.{TypeTree}
 use Rattle.go_typed.specs.declared.window.Window.{Window}
 use Rattle.go_typed.specs.Contents.{Content, FuncContent}
 use Rattle.go_typed.specs.Lists.{statement_lists, statements_of}
-use Rattle.go_typed.specs.Trees.{Typed, Typeds, first_of, last_of}
+use Rattle.go_typed.specs.Trees.{Typed, first_of, last_of}
 use Rattle.go_typed.specs.Windows.{Range}
 use Rattle.clone_window.specs.Spans.{last_from, range_over}
 use Rattle.clone_window.specs.Windows.{row_of, statements_in, window_statements}
 use Rattle.go_function_trees.specs.Functions.{HasTree, WindowStands}
-use Rattle.go_function_trees.specs.Lists.{parts_behind, StandOver, ListStands, RunStands}
+use Rattle.go_function_trees.specs.Lists.{parts_behind, StandOver, ListStands}
 use Rattle.go_function_trees.proofs.Based.{none-some}
 
 -- ---- rules

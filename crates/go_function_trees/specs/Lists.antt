@@ -17,7 +17,6 @@ use Rattle.go_typed.specs.Lists.{statements_of}
 use Rattle.go_typed.specs.Trees.{Typed, first_of, last_of, mapped}
 use Rattle.go_types.specs.Trees.{TypeTree}
 use Rattle.go_types_relations.specs.Renaming.{renamed}
-use Rattle.go_exprs_rules.specs.declared.fault.TypeFault.{TypeFault}
 use Rattle.go_exprs_rules.specs.Scopes.{Hint}
 use Rattle.go_stmts_defs.specs.Bodies.{based}
 use Rattle.go_stmts_defs.specs.Frames.{Frame}
