@@ -24,11 +24,11 @@ use Rattle.go_scopes_events.proofs.Public.{derives_laid}
 use Rattle.go_scopes_events.specs.Scopes.{AreOrderly, IsOrderly}
 use Rattle.go_heads_added.specs.Added.{AreEarlier, IsAdded, NoneSays}
 use Rattle.go_heads_added.specs.Appended.{AreAdded, HasNames, IsFront, IsParsed, TellsMore, context_behind, empty_function, unit_of}
-use Rattle.go_heads_added.specs.Faults.{FileIsWithin, FunctionIsFine, MayBeAdded, MeansOuter}
-use Rattle.go_heads_added.specs.Reported.{EventPlaced, IsDerived, KeepsBytes, NamesShared, StaysPlaced}
+use Rattle.go_heads_added.specs.Faults.{FileIsWithin, FunctionIsFine, MeansOuter}
+use Rattle.go_heads_added.specs.Reported.{EventPlaced, IsDerived, KeepsBytes, MayJoin, NamesShared, StaysPlaced}
 use Rattle.go_heads_added.specs.Within.{EventWithin, IsOfFunction}
 use Rattle.go_heads_added.proofs.ClausesSame.{clauses_same}
-use Rattle.go_heads_added.proofs.Derived.{clause_behind, file_here, told_here}
+use Rattle.go_heads_added.proofs.Derived.{clause_behind, file_here, outer_here, told_here}
 use Rattle.go_heads_added.proofs.Lying.{LocalsFollowAll, added_here}
 use Rattle.go_heads_added.proofs.Longer.{file_earlier, tells_more, told_is}
 use Rattle.go_heads_added.proofs.Named.{clauses_named}
@@ -88,7 +88,7 @@ module _ (follow : LocalsFollowAll) (orderly : FilesAreOrderly) (k j end x y u v
 
   module _ (place : length before ≡ k) (first : AllByRecursion IsDerived before) (later : AllByRecursion IsDerived behind) (file : IsFile ts t) (front : IsFront j a b) (bytes : KeepsBytes j a b) (h : Derives us category.Declaration d)
       (l : j ≤ x) (blank : is_blank name ≡ false) (imports : imports_fmt b (events (file_context end) (with_declaration t d end)) ≡ imports_fmt a (events (file_context j) t)) (q : NoneSays name old)
-      (may : MayBeAdded k j name b told new) (shared : NamesShared k b told new) where
+      (may : MayJoin k name s b told new) where
     own_placed : AllByRecursion (EventPlaced j) (events (file_context j) t)
     own_placed = tree_placed j (file_context j) t (derives_laid ts t category.File file.derives) (omega arith)
 
@@ -114,7 +114,9 @@ module _ (follow : LocalsFollowAll) (orderly : FilesAreOrderly) (k j end x y u v
     names z =
         let named = clauses_named old z in
         let rest = all_behind HasNames before (unit_of a t ∷ behind) named in
-        let r = added_here follow k j end x y u v a b ts us ps s before behind place (parsed before first (all_front HasNames before (unit_of a t ∷ behind) named)) (parsed behind later rest.1) file rest.0 front h l blank imports in
+        let first_parsed = parsed before first (all_front HasNames before (unit_of a t ∷ behind) named) in
+        let later_parsed = parsed behind later rest.1 in
+        let r = added_here follow k j end x y u v a b ts us ps s before behind place first_parsed later_parsed file rest.0 front h l blank imports in
         let m : AreAdded k j name old new = r.0 in
         let w : FileIsWithin k j name old new m.added = file_here follow k j end x y u v a b ts us ps s before behind m file r.1 in
         let P : (TokenList → List Event → Type 0) → Type 0 = λ R. R b told → R m.added.b.tokens m.added.longer.added in
@@ -125,13 +127,13 @@ module _ (follow : LocalsFollowAll) (orderly : FilesAreOrderly) (k j end x y u v
           tells = to (λ o es. AllByRecursion (IsOfFunction j) es) (function_of us j end x y u v s ps h l);
           members = to (λ o es. second_members [] k o es ≡ []) may.members;
           asks = to (λ o es. lookup_faults (asked_in (meanings new) k o es) ≡ []) may.asks;
-          outer = to (λ o es. AllByRecursion (λ z. MeansOuter k j z.meaning) (asked_in (meanings new) k o es)) may.outer;
+          outer = to (λ o es. AllByRecursion (λ z. MeansOuter k j z.meaning) (asked_in (meanings new) k o es)) (outer_here follow k j end x y u v a b ts us ps s before behind place first_parsed later_parsed file rest.0 front h l blank imports q may.own);
         } in
         let stays : StaysPlaced k j name old new m.added = record {
           bytes = subst (λ (o : Unit). KeepsBytes j m.added.a.tokens o.tokens) (sym r.2) (subst (λ (o : Unit). KeepsBytes j o.tokens b) (sym r.1) bytes);
           events = subst (λ (o : Unit). AllByRecursion (EventPlaced j) o.events) (sym r.1) own_placed;
           orderly = all_orderly orderly old all_derived;
-          shared = to (λ o es. NamesShared k o es new) shared;
+          shared = to (λ o es. NamesShared k o es new) may.shared;
         } in
         same_reported k j name old new m.added m.lies q w f stays
 

@@ -1,18 +1,21 @@
 -- What is asked besides, so that the fault that is reported of names is the same where a function is appended.
-use Rattle.std.specs.Prelude.{◌≡◌, ◌<◌, ◌≤◌, ℕ, suc, true, List, Option, Some, None}
+use Rattle.std.specs.Prelude.{◌≡◌, ◌<◌, ◌≤◌, ℕ, suc, true, false, List, [], Option, Some, None, codes}
 use Rattle.std.specs.List.{AllByRecursion}
 use Rattle.go_tokens.specs.Tokens.{TokenList}
 use Rattle.go_tokens.specs.declared.token.TokenKind.{TokenKind}
 use Rattle.go_grammar.specs.Grammar.{IsFile}
-use Rattle.go_grammar.specs.Trees.{Tree, last}
+use Rattle.go_grammar.specs.Trees.{Tree, first, last}
+use Rattle.go_tokens.specs.Spellings.{same_text}
 use Rattle.go_tree.specs.Contexts.{file_context, is_package}
 use Rattle.go_tree.specs.Events.{events}
 use Rattle.go_tree.specs.declared.event.Event.{Event}
 use Rattle.go_tree.specs.declared.event.Event.TheVariants as event
 use Rattle.go_tree.specs.Declarations.{Found}
+use Rattle.go_tree.specs.Duplicates.{second_members}
+use Rattle.go_tree.specs.Faults.{lookup_faults}
 use Rattle.go_tree.specs.Lookups.{asked_in}
 use Rattle.go_tree.specs.Meanings.{Meaning, meanings}
-use Rattle.go_tree.specs.Units.{Unit, bytes_of}
+use Rattle.go_tree.specs.Units.{Unit, bytes_of, is_fmt, word}
 use Rattle.go_scopes_events.specs.Scopes.{AreOrderly}
 use Rattle.go_heads_added.specs.Added.{IsAdded}
 
@@ -55,3 +58,14 @@ pub record IsDerived (u : Unit) : Type 0 where
   pub tree : Tree
   pub is : IsFile kinds tree
   pub told : u.events ≡ events (file_context (last tree)) tree
+
+-- What is asked of a function with an empty body and this signature besides its derivation, so that the same fault of names is reported: its
+-- name may be that of a function, and no token of the signature says it; no two of its parameters have one name; no rule fails at the names
+-- that it looks up, and these mean objects of the package or predeclared ones.
+pub record MayJoin (k : ℕ) (name : List ℕ) (signature : Tree) (b : TokenList) (told : List Event) (new : List Unit) : Type 0 where
+  pub initial : same_text name (codes "init") ≡ false
+  pub imported : is_fmt name ≡ false
+  pub own : (i : ℕ) → first signature ≤ i → i < last signature → same_text name (word b i) ≡ false
+  pub members : second_members [] k b told ≡ []
+  pub asks : lookup_faults (asked_in (meanings new) k b told) ≡ []
+  pub shared : NamesShared k b told new

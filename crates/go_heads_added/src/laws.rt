@@ -25,7 +25,7 @@ ghost use Rattle.go_heads_added.specs.Examples.{Examples};
 ghost use Rattle.go_heads_added.specs.Faults.{FunctionIsFine, FileIsWithin, MayBeAdded, MeansOuter};
 ghost use Rattle.go_heads_added.specs.Kept.{KeepsPackage};
 ghost use Rattle.go_heads_added.specs.Within.{EventWithin, IsOfFunction};
-ghost use Rattle.go_heads_added.specs.Reported.{IsDerived, KeepsBytes, NamesShared, StaysPlaced};
+ghost use Rattle.go_heads_added.specs.Reported.{IsDerived, KeepsBytes, MayJoin, StaysPlaced};
 
 use go_scopes_cycles::laws::declarations_bound_rounds;
 use go_scopes_events::laws::{files_are_orderly, locals_stand_in_functions};
@@ -138,7 +138,7 @@ pub fn appended_functions_keep_the_reported_fault()
         let t = node kind.File 0 j ps in let old = before ++ unit_of a t ∷ behind in let new = before ++ unit_of b (with_declaration t d end) ∷ behind in
         let name = word b (suc x) in let told = events (context_behind end ps d) d in length before ≡ k → AllByRecursion IsDerived before → AllByRecursion IsDerived behind → IsFile ts t
         → IsFront j a b → KeepsBytes j a b → Derives us category.Declaration d → j ≤ x → is_blank name ≡ false
-        → NoneSays name old → MayBeAdded k j name b told new → NamesShared k b told new → reported new ≡ reported old }
+        → NoneSays name old → MayJoin k name s b told new → reported new ≡ reported old }
 {
     locals_stand_in_functions();
     longer_files_import_the_same();

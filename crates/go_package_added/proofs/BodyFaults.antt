@@ -1,5 +1,5 @@
 -- The same fault of bodies is reported of the functions that stay as they are.
-use Rattle.std.proofs.Common.{◌≡◌, ◌∙◌, ℕ, zero, suc, ◌+◌, ◌-◌, ◌<◌, ◌≤◌, inl, inr, ◌⊎◌, Bool, true, false, List, [], ◌∷◌, ◌++◌, length, map, Option, Some, None, refl, sym, ap, subst, arith}
+use Rattle.std.proofs.Common.{◌≡◌, ◌∙◌, ℕ, suc, ◌+◌, ◌-◌, ◌<◌, ◌≤◌, inl, inr, ◌⊎◌, Bool, true, false, List, [], ◌∷◌, ◌++◌, length, map, Option, Some, None, refl, sym, ap, subst, arith}
 use Rattle.std.specs.Prelude.{if◌then◌else◌, nat_eq, Result, Ok, Err}
 use Rattle.std.specs.List.{AllByRecursion}
 use Rattle.std.proofs.lemmas.Bool.Decides.{nat_tests}
@@ -12,36 +12,28 @@ use Rattle.go_grammar.specs.declared.kind.Kind.TheVariants as kind
 use Rattle.go_grammar.specs.declared.kind.Category.TheVariants as category
 use Rattle.go_grammar.specs.declared.kind.Sort.{Sort}
 use Rattle.go_grammar.specs.declared.kind.Sort.TheVariants as declaring
-use Rattle.go_grammar.specs.Grammar.{IsFile, Derives, Spells, Goes}
+use Rattle.go_grammar.specs.Grammar.{Derives, Spells, Goes}
 use Rattle.go_grammar.specs.Rules.{Each, Many}
 use Rattle.go_grammar.specs.Trees.{Tree, node, Trees, none, more, skip, first, last}
-use Rattle.go_tree.specs.Contexts.{entity_of}
 use Rattle.go_tree.specs.declared.context.Entity.{Entity}
 use Rattle.go_tree.specs.declared.context.Entity.TheVariants as entity
 use Rattle.go_tree.specs.Failures.{Failure}
 use Rattle.go_tree.specs.Units.{bytes_of}
-use Rattle.go_tree.specs.Uses.{uses}
 use Rattle.go_types.specs.Relations.{Rights}
 use Rattle.go_exprs_rules.specs.declared.fault.TypeFault.{TypeFault}
-use Rattle.go_exprs_rules.specs.Sorts.{Stands as Sorts}
-use Rattle.go_exprs_elsewhere.specs.Elsewhere.{fault_placed}
 use Rattle.go_stmts_defs.specs.Bodies.{based, all_based}
-use Rattle.go_stmts_defs.specs.Reading.{part_source}
 use Rattle.go_stmts_elsewhere.specs.Functions.{AlongFunctions, FunctionAlong, KeepsOrder}
 use Rattle.go_scopes_events.proofs.Public.{IsLaidOut, LieIn, behind_name, derives_laid, laid_grows, lie_order}
-use Rattle.go_package_defs.specs.Answer.{Environment, failure_at, package_answer, specifications}
+use Rattle.go_package_defs.specs.Answer.{failure_at, specifications}
 use Rattle.go_package_defs.specs.Bodies.{Behind, Functions, Surroundings, based_tree, functions_from, is_this, moved_fault, placed, portion_of, those_of, typed_function, with_function}
-use Rattle.go_package_defs.specs.Checked.{surroundings_of}
-use Rattle.go_package_defs.specs.Declarations.{Specification, declaration, declarations, declared, function, grouped, in_file, source_behind, specification_by, specification_of}
+use Rattle.go_package_defs.specs.Declarations.{Specification, declaration, declarations, declared, function, grouped, in_file, source_behind, specification_of}
 use Rattle.go_package_defs.specs.Sources.{Source, Package, tokens_in, unit_of}
 use Rattle.go_heads_added.specs.Added.{Gap, beyond}
 use Rattle.go_heads_added.specs.Kept.{KeepsPackage}
-use Rattle.go_heads_added.specs.Reported.{KeepsBytes}
 use Rattle.go_package_settled.specs.Read.{IsFaultless}
 use Rattle.go_package_added.specs.Appended.{IsAppended, function_specification, package_in}
 use Rattle.go_package_added.specs.OneMore.{function_moves}
-use Rattle.go_package_added.specs.OneMore as onemore
-use Rattle.go_package_added.specs.Reported.{FunctionsAlong, FunctionsStay, KeepsBodies}
+use Rattle.go_package_added.specs.Reported.{FunctionsStay, KeepsBodies}
 use Rattle.go_package_added.specs.Unchanged.{StaysTyped, last_in}
 use Rattle.go_package_added.proofs.Appending.{are, derived, front, rest, were}
 use Rattle.go_package_added.proofs.Inserted.{front_of, rest_of}
@@ -178,7 +170,8 @@ same_test : (x y : ℕ) → x ≡ y → nat_eq x y ≡ true
 same_test x y e = grind (arith, e)
 
 module _ (law : FunctionsElsewhere) (words : KeepsWords) (k n : ℕ) (p q : Package) (g : Gap) (a b : Surroundings) (files : FileStays k n p q) where
-  failure_same : (d : Specification) → StandsAside k n d → (rights : Rights) (number : ℕ) (f : TypeFault) → typed_function p a rights number d ≡ Err f → failure_at q d.file (moved_fault d.first f) ≡ failure_at p d.file (moved_fault d.first f)
+  failure_same : (d : Specification) → StandsAside k n d → (rights : Rights) (number : ℕ) (f : TypeFault) → typed_function p a rights number d ≡ Err f
+      → failure_at q d.file (moved_fault d.first f) ≡ failure_at p d.file (moved_fault d.first f)
   failure_same d w rights number f e = ap (λ s. let z : Failure = record { code = f.code; place = s } in z) (files d.file (d.first + f.first) (d.first + f.last) (by w))
     where
       by : StandsAside k n d → d.file ≡ k → (d.first + f.first < n) × (d.first + f.last ≤ n)

@@ -1,6 +1,6 @@
 -- The same fault of declarations is reported where a package has one function more.
 use Rattle.std.proofs.Common.{◌≡◌, ◌∙◌, ℕ, zero, suc, ◌+◌, ◌≤◌, Bool, true, false, ◌&&◌, ◌||◌, not, List, [], ◌∷◌, ◌++◌, length, map, Option, Some, None, refl, sym, ap, arith}
-use Rattle.std.specs.Prelude.{if◌then◌else◌, nat_eq, nat_lt, Ok, Err, slice_get}
+use Rattle.std.specs.Prelude.{if◌then◌else◌, nat_eq, nat_lt, slice_get}
 use Rattle.std.specs.List.{AllByRecursion, list_any}
 use Rattle.std.specs.Option.{option_map}
 use Rattle.std.proofs.lemmas.Bool.Decides.{nat_tests}
@@ -9,7 +9,7 @@ use Rattle.go_tree.specs.declared.context.Entity.{Entity}
 use Rattle.go_tree.specs.declared.context.Entity.TheVariants as entity
 use Rattle.go_tree.specs.declared.object.Declared.{Declared}
 use Rattle.go_tree.specs.Failures.{Failure, least}
-use Rattle.go_tree.specs.Units.{Place, bytes_of}
+use Rattle.go_tree.specs.Units.{Place}
 use Rattle.go_exprs_rules.specs.declared.fault.TypeFault.{TypeFault}
 use Rattle.go_exprs_rules.specs.Scopes.{Scope, at_once}
 use Rattle.go_exprs_rules.specs.Sorts.{Stands}
@@ -18,8 +18,9 @@ use Rattle.go_package_laws.specs.Places.{EachFault}
 use Rattle.go_package_defs.specs.Answer.{Environment, failure_at, failures_at, is_procedure, is_main, fault_if, main_faults, mains_from, all_failures, hidden_failures, or_else, package_failures, unless, answer_by, environment_of}
 use Rattle.go_package_defs.specs.Declarations.{Specification}
 use Rattle.go_package_defs.specs.Knowledge.{Outline, outlines, State, state_of, passes, is_sound, free_scope}
-use Rattle.go_package_defs.specs.Sources.{Package, rounds, tokens_in}
-use Rattle.go_package_defs.specs.Verdicts.{known, own_faults, value_state, expression_faults, specification_rule, numbers_of, is_in, needs_one, needed_by_all, blocks, is_blocked, rule_unless, specification_faults_on, specification_faults, unblocked_faults_on, unblocked_faults}
+use Rattle.go_package_defs.specs.Sources.{Package, rounds}
+use Rattle.go_package_defs.specs.Verdicts.{known, own_faults, value_state, expression_faults, specification_rule}
+use Rattle.go_package_defs.specs.Verdicts.{numbers_of, is_in, needs_one, needed_by_all, blocks, is_blocked, rule_unless, specification_faults_on, specification_faults, unblocked_faults_on, unblocked_faults}
 use Rattle.go_heads_added.specs.Added.{Gap, beyond}
 use Rattle.go_package_added.specs.OneMore.{inserted, all_beyond, outline_beyond, IsKept, IsOneMore, IsSignature, Settles, function_state, with_function}
 use Rattle.go_package_added.specs.Reported.{KeepsFaults, NeedsKept, PlacesKept, answered_with, name_place}
@@ -172,7 +173,8 @@ module _ (moves : MovesTyped) (keeps : KeepsWords) (follows : FollowsTokens) (p 
       -- ---- the function `main`
 
       main_test : (n : ℕ) (u v : Declared) → is_main q v ≡ is_main p u → v.entity ≡ u.entity
-          → (is_main q v && passes is_sound os ts at_once (beyond g.shared n) && not (is_procedure v.entity (state_of ts (beyond g.shared n)).stands)) ≡ (is_main p u && passes is_sound xs ss at_once n && not (is_procedure u.entity (state_of ss n).stands))
+          → (is_main q v && passes is_sound os ts at_once (beyond g.shared n) && not (is_procedure v.entity (state_of ts (beyond g.shared n)).stands))
+          ≡ (is_main p u && passes is_sound xs ss at_once n && not (is_procedure u.entity (state_of ss n).stands))
       main_test n u v a e =
           ap (λ b. b && passes is_sound os ts at_once (beyond g.shared n) && not (is_procedure v.entity (state_of ts (beyond g.shared n)).stands)) a
           ∙ ap (λ b. is_main p u && b && not (is_procedure v.entity (state_of ts (beyond g.shared n)).stands)) (passes_beyond g.shared h.function xs inside y ss as_many is_sound at_once n)
@@ -193,7 +195,8 @@ module _ (moves : MovesTyped) (keeps : KeepsWords) (follows : FollowsTokens) (p 
       both : (us vs ws zs : List Failure) → us ≡ ws → vs ≡ zs → us ++ vs ≡ ws ++ zs
       both us vs ws zs e k = ap (λ l. l ++ vs) e ∙ ap (λ l. ws ++ l) k
 
-      mains_behind : (n : ℕ) (us vs : List Declared) → g.shared ≤ n → entities vs ≡ entities us → map (is_main q) vs ≡ map (is_main p) us → map (name_place q) vs ≡ map (name_place p) us → mains_from q os ts (suc n) vs ≡ mains_from p xs ss n us
+      mains_behind : (n : ℕ) (us vs : List Declared) → g.shared ≤ n → entities vs ≡ entities us → map (is_main q) vs ≡ map (is_main p) us → map (name_place q) vs ≡ map (name_place p) us
+          → mains_from q os ts (suc n) vs ≡ mains_from p xs ss n us
       mains_behind n [] [] l e a w = refl
       mains_behind n [] (v ∷ vs) l e a w = absurd (none_there v.entity (entities vs) e)
       mains_behind n (u ∷ us) [] l e a w = absurd (none_there u.entity (entities us) (sym e))

@@ -11,6 +11,7 @@ mod Needing
 mod Numbered
 mod Appending
 mod Keeping
+mod KeepingFault
 mod Signed
 mod Unchanged
 mod Surrounding
@@ -23,4 +24,7 @@ mod Exact
 mod Reporting
 mod Lows
 mod BodyFaults
+mod Ordered
+mod Counted
+mod Whole
 pub mod Public

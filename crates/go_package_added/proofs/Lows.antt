@@ -1,6 +1,6 @@
 -- The fault that is reported of a function stands at its tokens.
 use Rattle.std.proofs.Common.{◌≡◌, ◌∙◌, ℕ, zero, suc, ◌-◌, ◌<◌, ◌≤◌, Bool, true, false, List, [], ◌∷◌, length, Option, Some, None, refl, sym, ap, subst, arith}
-use Rattle.std.specs.Prelude.{if◌then◌else◌, nat_eq, nat_lt, replicate, slice_get, Result, Ok, Err}
+use Rattle.std.specs.Prelude.{if◌then◌else◌, nat_eq, nat_lt, slice_get, Result, Err}
 use Rattle.std.specs.Str.{chars}
 use Rattle.std.proofs.lemmas.Bool.Decides.{nat_tests}
 use Rattle.go_grammar.specs.declared.kind.Kind.{Kind}
@@ -17,12 +17,12 @@ use Rattle.go_typed.specs.declared.form.Referent.TheVariants as referent
 use Rattle.go_exprs_rules.specs.Scopes.{Scope}
 use Rattle.go_exprs_rules.specs.declared.fault.TypeFault.{TypeFault}
 use Rattle.go_exprs_elsewhere.specs.Elsewhere.{Moves, fault_placed, referent_moved, LastKept, KeepsLast, AllKeepLast}
-use Rattle.go_stmts_defs.specs.Bodies.{based, all_based, start}
+use Rattle.go_stmts_defs.specs.Bodies.{start}
 use Rattle.go_stmts_elsewhere.specs.Frames.{AlongFrames, ObjectAlong, PlaceKept, KeepsPlaces, AllKeepPlaces}
 use Rattle.go_stmts_elsewhere.specs.Functions.{AlongFunctions, KeepsOrder}
-use Rattle.go_package_defs.specs.Bodies.{Behind, Surroundings, Portion, texts_from, objects_from, based_tree, portion_of, scope_of, text_there, count_types, local_type, function_in, function_with, function_of, types_in, typed_function}
+use Rattle.go_package_defs.specs.Bodies.{Behind, Surroundings, Portion, texts_from, objects_from, based_tree, portion_of, scope_of, text_there, local_type, function_in, function_with, types_in, typed_function}
 use Rattle.go_package_defs.specs.Declarations.{Specification}
-use Rattle.go_package_defs.specs.Sources.{Package, text_at}
+use Rattle.go_package_defs.specs.Sources.{Package}
 use Rattle.go_package_added.proofs.Scopes.{KeepsWords}
 use Rattle.go_package_added.proofs.Unchanged.{FunctionsElsewhere}
 

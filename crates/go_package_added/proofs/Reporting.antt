@@ -1,8 +1,7 @@
 -- What the specifications of a package need, and where they stand, where a function is appended to a file.
 use Rattle.std.proofs.Common.{◌≡◌, ◌∙◌, ℕ, zero, suc, ◌+◌, ◌-◌, ◌<◌, ◌≤◌, inl, inr, Bool, true, false, ◌&&◌, List, [], ◌∷◌, ◌++◌, length, map, Option, Some, None, refl, sym, ap, subst, arith}
-use Rattle.std.specs.Prelude.{if◌then◌else◌, nat_eq, nat_le, nat_lt, slice_get, codes, max}
+use Rattle.std.specs.Prelude.{nat_eq, nat_le, nat_lt, slice_get, codes, max}
 use Rattle.std.specs.List.{AllByRecursion}
-use Rattle.std.specs.Option.{option_map}
 use Rattle.std.proofs.lemmas.Bool.Decides.{nat_tests}
 use Rattle.go_tokens.specs.Spellings.{same_text}
 use Rattle.go_tokens.specs.Tokens.{TokenList, kinds}
@@ -10,39 +9,37 @@ use Rattle.go_grammar.specs.Grammar.{IsFile}
 use Rattle.go_grammar.specs.declared.kind.Kind.TheVariants as kind
 use Rattle.go_grammar.specs.Trees.{Tree, node, Trees, none, more, skip, last}
 use Rattle.go_rewriting.specs.Places.{with_declaration}
-use Rattle.go_tree.specs.Contexts.{file_context, is_package}
+use Rattle.go_tree.specs.Contexts.{is_package}
 use Rattle.go_tree.specs.declared.event.Event.{Event}
 use Rattle.go_tree.specs.declared.event.Event.TheVariants as event
 use Rattle.go_tree.specs.declared.object.Declared.{Declared}
 use Rattle.go_tree.specs.Declarations.{Found, found, found_in, found_from}
 use Rattle.go_tree.specs.Events.{events}
 use Rattle.go_tree.specs.Units as names
-use Rattle.go_tree.specs.Units.{Place, bytes_at, bytes_of, word}
-use Rattle.go_tree.specs.Uses.{uses, object_of}
-use Rattle.go_exprs_rules.specs.Sorts.{Stands as Sort}
+use Rattle.go_tree.specs.Units.{bytes_at, bytes_of, word}
+use Rattle.go_tree.specs.Uses.{uses}
 use Rattle.go_scopes_events.specs.Scopes.{AreOrderly}
 use Rattle.go_package_laws.specs.Places.{EachNode, EachPart}
 use Rattle.go_package_defs.specs.Answer.{specifications}
 use Rattle.go_package_defs.specs.Declarations.{Specification, declarations, in_file}
-use Rattle.go_package_defs.specs.Knowledge.{Outline, outlines, found_or, column_of, declaring, no_specification, outline_by}
-use Rattle.go_package_defs.specs.Sources.{Source, Package, unit_of, tokens_there, tokens_in, needed_at, number_at, number_before}
-use Rattle.go_package_defs.specs.Verdicts.{first_name, needed_columns, needed_by_all, numbers_of}
-use Rattle.go_heads_added.specs.Added.{Gap, beyond, Stands, longer_declared, shifted}
-use Rattle.go_heads_added.specs.Appended.{IsFront}
+use Rattle.go_package_defs.specs.Knowledge.{found_or, column_of, declaring, no_specification, outline_by}
+use Rattle.go_package_defs.specs.Sources.{Source, Package, unit_of, tokens_there, tokens_in, needed_at, number_before}
+use Rattle.go_package_defs.specs.Verdicts.{first_name, needed_columns, numbers_of}
+use Rattle.go_heads_added.specs.Added.{Gap, Stands, longer_declared}
 use Rattle.go_heads_added.specs.Kept.{KeepsPackage}
 use Rattle.go_heads_added.specs.Reported.{KeepsBytes}
 use Rattle.go_package_settled.specs.Read.{IsFaultless}
 use Rattle.go_package_settled.specs.Resolved.{IsIn}
 use Rattle.go_package_added.specs.Appended.{IsAppended, AreClosed, IsClosed, function_name, function_tree, package_in}
-use Rattle.go_package_added.specs.Closed.{DeclaresShared, NeedsStayShared}
-use Rattle.go_package_added.specs.OneMore.{IsOneMore, all_beyond, inserted, outline_beyond}
+use Rattle.go_package_added.specs.Closed.{DeclaresShared}
+use Rattle.go_package_added.specs.OneMore.{all_beyond, inserted}
 use Rattle.go_package_added.specs.Reported.{KeepsFaults, MaybeStands, NeedsKept, PlacesKept, name_place}
 use Rattle.go_package_added.proofs.Appending.{both_level, clause, front, one_more, parts_are, placed_front, placed_rest, rest, tokens_kept, were}
 use Rattle.go_package_added.proofs.Inserted.{front_of, rest_of}
 use Rattle.go_package_added.proofs.Outlined.{KeepsTokens, before_beyond, beyond_append, number_moved, put_in, stands_elsewhere}
 use Rattle.go_package_added.proofs.Shared.{are_orderly, FilesAreOrderly, shared_at}
-use Rattle.go_package_added.proofs.Specified.{IsBelow, AreBelow, IsPlaced, MaybeBelow, StandsBelow, both_of, in_file_file}
-use Rattle.go_package_added.proofs.Told.{AnyDeclared, AreTold, IsHere, IsTold, file_told}
+use Rattle.go_package_added.proofs.Specified.{IsBelow, AreBelow, IsPlaced, MaybeBelow, both_of, in_file_file}
+use Rattle.go_package_added.proofs.Told.{AnyDeclared, AreTold, IsHere, file_told}
 
 -- ---- names of specifications
 

@@ -23,6 +23,7 @@ use Rattle.go_heads_added.specs.Added.{shifted}
 use Rattle.go_package_alike.specs.Scopes.{AllTokens}
 use Rattle.go_heads_added.specs.Appended.{IsFront, context_behind, empty_function}
 use Rattle.go_heads_added.specs.Kept.{KeepsPackage, needed_after}
+use Rattle.go_heads_added.specs.Reported.{NamesShared}
 use Rattle.go_package_defs.specs.Answer.{Environment, package_answer, specifications}
 use Rattle.go_package_defs.specs.Declarations.{Specification, function}
 use Rattle.go_package_defs.specs.Knowledge.{Outline, outlines, State}
@@ -120,3 +121,7 @@ pub record AnswersWith (k : ℕ) (ss us : List Source) (h : IsAppended k ss us) 
       → ((i : ℕ) → test i ≡ true → object_of (uses (map unit_of us)) k i ≡ option_map (shifted keeps.gap) (meant i)) → AllTokens test h.signature → (s : Stands)
       → IsSignatureBefore (package_in ss) (outlines_in ss) (function_specification k ss us h) 0 (text_at (package_in us) k) meant (found_in ss) s
       → IsSignature (package_in us) (outlines_in us) keeps.gap.shared (function_specification k ss us h) 0 (found_in ss) s
+
+-- The names of the function's signature mean objects of the package, or predeclared ones.
+abbrev pub SharesNames : (k : ℕ) (ss us : List Source) → IsAppended k ss us → Type 0
+SharesNames k ss us h = NamesShared k h.new_tokens (events (context_behind h.end h.declarations (function_tree k ss us h)) (function_tree k ss us h)) (map unit_of us)

@@ -78,3 +78,13 @@ pub record KeepsBodies (p q : Package) (g : Gap) (a b : Surroundings) (function 
   pub is : are ≡ front ++ function ∷ rest
   pub front_stay : (rights : Rights) (n : ℕ) → n + length front ≤ g.functions → FunctionsStay p g n front (functions_from p a rights n front) (functions_from q b rights n front)
   pub rest_stay : (rights : Rights) (n : ℕ) → g.functions ≤ n → FunctionsStay p g n rest (functions_from p a rights n rest) (functions_from q b rights (suc n) rest)
+
+-- ---- in which order
+
+-- the file of an object of the package, and the token of its name
+abbrev pub declared_spot : Declared → ℕ × ℕ
+declared_spot d = (d.file, d.name)
+
+-- the file of a function, and its second token
+abbrev pub specified_spot : Specification → ℕ × ℕ
+specified_spot d = (d.file, suc d.first)

@@ -1,19 +1,22 @@
 //! Laws of packages with one function more.
 
 ghost use Rattle.std.specs.List.{AllByRecursion};
-ghost use Rattle.std.specs.Prelude.{◌≡◌, ℕ, suc, Bool, true, false, Ok, List, map, Option, None, codes};
+ghost use Rattle.std.specs.Prelude.{◌≡◌, ℕ, suc, Bool, true, false, Ok, Err, List, ◌∷◌, ◌++◌, length, map, Option, None, codes};
 ghost use Rattle.std.specs.Option.{option_map};
+ghost use Rattle.go_grammar.specs.Grammar.{IsFile};
 ghost use Rattle.go_tokens.specs.Spellings.{same_text};
+ghost use Rattle.go_tokens.specs.Tokens.{kinds};
+ghost use Rattle.go_tree.specs.Failures.{Failure};
 ghost use Rattle.go_tree.specs.Faults.{reported};
 ghost use Rattle.go_tree.specs.declared.object.Object.{Object};
-ghost use Rattle.go_tree.specs.Uses.{object_of, uses};
+ghost use Rattle.go_tree.specs.Uses.{functions_among, object_of, uses};
 ghost use Rattle.go_types.specs.Relations.{Rights};
 ghost use Rattle.go_tree.specs.declared.context.Entity.TheVariants as entity;
-ghost use Rattle.go_package_defs.specs.Bodies.{those_of};
-ghost use Rattle.go_package_defs.specs.Checked.{surroundings_of};
+ghost use Rattle.go_package_defs.specs.Bodies.{Behind, Functions, functions_from, placed, those_of, typed_function};
+ghost use Rattle.go_package_defs.specs.Checked.{names_answer, sources_answer, surroundings_of};
 ghost use Rattle.go_heads_added.specs.Kept.{KeepsPackage};
 ghost use Rattle.go_heads_added.specs.Reported.{KeepsBytes};
-ghost use Rattle.go_package_added.specs.Reported.{KeepsBodies, KeepsFaults, answered_with};
+ghost use Rattle.go_package_added.specs.Reported.{KeepsBodies, KeepsFaults, answered_with, declared_spot, specified_spot};
 ghost use Rattle.go_package_added.specs.Closed.{DeclaresShared, NeedsStayShared};
 ghost use Rattle.go_package_added.specs.Unchanged.{StaysTyped};
 ghost use Rattle.go_exprs_rules.specs.Sorts.{Stands};
@@ -23,7 +26,7 @@ ghost use Rattle.go_package_defs.specs.Declarations.{Specification};
 ghost use Rattle.go_package_defs.specs.Knowledge.{outlines};
 ghost use Rattle.go_package_defs.specs.Sources.{Package, Source, rounds, text_at, unit_of};
 ghost use Rattle.go_package_defs.specs.Verdicts.{known};
-ghost use Rattle.go_package_added.specs.Appended.{AnswersWith, AreClosed, FitsNames, IsAppended, IsClosed, found_in, function_name, function_specification, outlines_in, package_in};
+ghost use Rattle.go_package_added.specs.Appended.{AnswersWith, AreClosed, FitsNames, IsAppended, IsClosed, SharesNames, found_in, function_name, function_specification, outlines_in, package_in};
 ghost use Rattle.go_package_added.specs.Examples.{ClosedExamples, Examples};
 ghost use Rattle.go_package_settled.specs.Read.{IsFaultless};
 ghost use Rattle.go_package_added.specs.OneMore.{IsOneMore, IsSignature, IsSignatureBefore, MaybeReadAt, Settles, with_function};
@@ -31,7 +34,7 @@ ghost use Rattle.go_package_added.specs.OneMore.{IsOneMore, IsSignature, IsSigna
 use go_exprs_elsewhere::laws::{expressions_are_typed_elsewhere, trees_spelled_the_same_keep_it};
 use go_heads_added::laws::{
     appended_functions_fail_no_rule, appended_functions_keep_the_package,
-    signatures_mean_what_is_declared_elsewhere,
+    appended_functions_keep_the_reported_fault, signatures_mean_what_is_declared_elsewhere,
 };
 use go_package_alike::laws::expressions_follow_from_their_tokens;
 use go_package_settled::laws::faultless_packages_settle;
@@ -146,6 +149,16 @@ pub fn names_stay_free_of_faults()
     signatures_mean_what_is_declared_elsewhere();
 }
 
+/// Behind a function with an empty body that is appended to a file, and whose name no token says, the same fault of names is reported as before,
+/// or none, where no rule fails at the function itself, and the names of its signature mean objects of the package or predeclared ones; and the
+/// tokens in front of it stand at the bytes where they stood.
+pub fn appended_functions_keep_the_fault_of_names()
+    ensures { (k : ℕ) (ss us : List Source) (h : IsAppended k ss us) → AllByRecursion (λ s. IsFile (kinds s.tokens.tokens) s.tree) ss → KeepsBytes h.count h.old_tokens h.new_tokens
+        → NoneSays (function_name k ss us h) (map unit_of ss) → FitsNames k ss us h → SharesNames k ss us h → reported (map unit_of us) ≡ reported (map unit_of ss) }
+{
+    appended_functions_keep_the_reported_fault();
+}
+
 /// In such a package the functions that stay as they are have the same types under their new numbers, behind the same right sides and where
 /// the objects of the package stand for the same; or the same fault is reported of them.
 pub fn unchanged_functions_keep_their_types()
@@ -173,4 +186,46 @@ pub fn unchanged_functions_keep_their_fault()
     files_are_orderly();
     shared_declarations_need_no_locals();
     shared_needs_are_closed();
+}
+
+/// In a package without faults of names the functions are numbered as its files specify them, in order (Go specification: Function declarations).
+pub fn functions_are_specified_in_order()
+    ensures { (ss : List Source) → IsFaultless ss → map declared_spot (functions_among (uses (map unit_of ss)).package_level) ≡ map specified_spot (those_of entity.Function (specifications 0 ss)) }
+{}
+
+/// So the appended function has the number of the functions in front of it, where the names of both packages are free of faults.
+pub fn functions_in_front_are_counted()
+    ensures { (k : ℕ) (ss us : List Source) (h : IsAppended k ss us) (keeps : KeepsPackage k h.count (suc h.first) (map unit_of ss) (map unit_of us)) → IsFaultless ss → IsFaultless us
+        → (front rest : List Specification) → those_of entity.Function (specifications 0 ss) ≡ front ++ rest → those_of entity.Function (specifications 0 us) ≡ front ++ function_specification k ss us h ∷ rest
+        → length front ≡ keeps.gap.functions }
+{
+    functions_are_specified_in_order();
+}
+
+/// So the reported fault of the longer package is the one of the package without the function: that of its names, that of its declarations where
+/// its names are free of faults, and that of a function in front of the appended one, or of one behind it where that has a type itself.
+pub fn the_same_fault_is_reported()
+    ensures names { (k : ℕ) (ss us : List Source) (h : IsAppended k ss us) → AllByRecursion (λ s. IsFile (kinds s.tokens.tokens) s.tree) ss → KeepsBytes h.count h.old_tokens h.new_tokens
+        → NoneSays (function_name k ss us h) (map unit_of ss) → FitsNames k ss us h → SharesNames k ss us h → (f : Failure) → names_answer (map unit_of ss) ≡ Err f → sources_answer us ≡ Err f }
+    ensures declarations { (k : ℕ) (ss us : List Source) (h : IsAppended k ss us) (keeps : KeepsPackage k h.count (suc h.first) (map unit_of ss) (map unit_of us)) → IsFaultless ss
+        → KeepsBytes h.count h.old_tokens h.new_tokens → NoneSays (function_name k ss us h) (map unit_of ss) → FitsNames k ss us h → same_text (function_name k ss us h) (codes "main") ≡ false → (s : Stands)
+        → IsSignature (package_in us) (outlines_in us) keeps.gap.shared (function_specification k ss us h) 0 (found_in ss) s
+        → (f : Failure) → package_answer ss (uses (map unit_of ss)) ≡ Err f → sources_answer us ≡ Err f }
+    ensures in_front { (k : ℕ) (ss us : List Source) (h : IsAppended k ss us) (keeps : KeepsPackage k h.count (suc h.first) (map unit_of ss) (map unit_of us)) → IsFaultless ss → IsFaultless us
+        → (x : Environment) (s : Stands) → package_answer us (uses (map unit_of us)) ≡ Ok (with_function keeps.gap.shared s x) → let a = surroundings_of (uses (map unit_of ss)) x in
+        let b = surroundings_of (uses (map unit_of us)) (with_function keeps.gap.shared s x) in
+        (kept : KeepsBodies (package_in ss) (package_in us) keeps.gap a b (function_specification k ss us h) (those_of entity.Function (specifications 0 ss)) (those_of entity.Function (specifications 0 us)))
+        → (f : Failure) → functions_from (package_in ss) a x.rights 0 kept.front ≡ Err f → sources_answer us ≡ Err f }
+    ensures behind { (k : ℕ) (ss us : List Source) (h : IsAppended k ss us) (keeps : KeepsPackage k h.count (suc h.first) (map unit_of ss) (map unit_of us)) → IsFaultless ss → IsFaultless us
+        → (x : Environment) (s : Stands) → package_answer us (uses (map unit_of us)) ≡ Ok (with_function keeps.gap.shared s x) → let a = surroundings_of (uses (map unit_of ss)) x in
+        let b = surroundings_of (uses (map unit_of us)) (with_function keeps.gap.shared s x) in
+        (kept : KeepsBodies (package_in ss) (package_in us) keeps.gap a b (function_specification k ss us h) (those_of entity.Function (specifications 0 ss)) (those_of entity.Function (specifications 0 us)))
+        → (y : Functions) → functions_from (package_in ss) a x.rights 0 kept.front ≡ Ok y
+        → (c : Behind) → placed (package_in us) (function_specification k ss us h) (typed_function (package_in us) b y.rights keeps.gap.functions (function_specification k ss us h)) ≡ Ok c → c.rights ≡ y.rights
+        → (f : Failure) → functions_from (package_in ss) a y.rights keeps.gap.functions kept.rest ≡ Err f → sources_answer us ≡ Err f }
+{
+    appended_functions_keep_the_fault_of_names();
+    names_stay_free_of_faults();
+    appended_functions_keep_the_fault_of_declarations();
+    functions_are_specified_in_order();
 }

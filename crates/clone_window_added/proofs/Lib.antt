@@ -1,0 +1,6 @@
+mod Reworded
+mod FieldNames
+mod Compared
+mod Classes
+mod Placed
+mod Kept

@@ -1,0 +1,2 @@
+pub mod Reworded
+pub mod Unchanged
