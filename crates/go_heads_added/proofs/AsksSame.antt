@@ -1,10 +1,8 @@
 -- The rules on names that are looked up fail at the same places where a function is put in at which none fails.
-use Rattle.std.proofs.Common.{◌≡◌, ◌∙◌, ℕ, suc, ◌+◌, ◌-◌, ◌<◌, ◌≤◌, Bool, true, false, ◌&&◌, ◌||◌, not, List, [], ◌∷◌, ◌++◌, length, map, Option, Some, None, refl, sym, ap, subst, append_assoc, arith}
+use Rattle.std.proofs.Common.{◌≡◌, ◌∙◌, ℕ, suc, ◌+◌, ◌-◌, ◌<◌, ◌≤◌, Bool, true, false, ◌&&◌, ◌||◌, List, [], ◌∷◌, ◌++◌, length, map, refl, sym, ap, subst, append_assoc, arith}
 use Rattle.std.specs.Prelude.{if◌then◌else◌, nat_eq}
-use Rattle.std.specs.Option.{option_map}
 use Rattle.std.specs.List.{AllByRecursion}
 use Rattle.std.proofs.lemmas.Bool.Decides.{nat_tests}
-use Rattle.go_base.specs.declared.fault.FaultCode.{FaultCode}
 use Rattle.go_base.specs.declared.fault.FaultCode.TheVariants as code
 use Rattle.go_tokens.specs.Spellings.{same_text}
 use Rattle.go_tokens.specs.Tokens.{TokenList}
@@ -16,14 +14,15 @@ use Rattle.go_tree.specs.declared.event.Use.{Use}
 use Rattle.go_tree.specs.Declarations.{Found}
 use Rattle.go_tree.specs.Failures.{Failure, failing, place_if}
 use Rattle.go_tree.specs.Faults.{lookup_faults}
-use Rattle.go_tree.specs.Lookups.{Asked, asked, asked_in, asked_from, whole_of, object_asked, lacks_meaning, undeclared, is_unknown, outside_names, is_other_member, is_import, outside_members, is_no_call, not_called, is_initial, initialisers, is_used, uses_import}
+use Rattle.go_tree.specs.Lookups.{Asked, asked, asked_in, asked_from, whole_of, object_asked, lacks_meaning, undeclared, is_unknown, outside_names, is_other_member}
+use Rattle.go_tree.specs.Lookups.{is_import, outside_members, is_no_call, not_called, is_initial, initialisers, is_used, uses_import}
 use Rattle.go_tree.specs.Meanings.{Meaning, meaning_at}
-use Rattle.go_tree.specs.Units.{Unit, Place, word, is_blank, bytes_at}
+use Rattle.go_tree.specs.Units.{Unit, Place, word, is_blank}
 use Rattle.go_heads_added.specs.Added.{Gap, reaching, longer, Stands}
 use Rattle.go_heads_added.specs.Reported.{KeepsBytes}
 use Rattle.go_heads_added.specs.Within.{RoleWithin, EventWithin}
-use Rattle.go_heads_added.proofs.Asks.{Moved, AsksFollow, AreMoved, from_append, imports_moved, in_append, initial_same, lacks_same, meaning_moved, object_same, selected_same, unknown_same, used_append, used_moved, uses_append, uses_moved}
-use Rattle.go_heads_added.proofs.Files.{failing_none, none_front, none_behind, rest_none, test_false}
+use Rattle.go_heads_added.proofs.Asks.{Moved, AsksFollow, from_append, imports_moved, in_append, initial_same, lacks_same, meaning_moved, object_same, selected_same, unknown_same, used_append, used_moved, uses_append, uses_moved}
+use Rattle.go_heads_added.proofs.Files.{failing_none, rest_none, test_false}
 use Rattle.go_heads_added.proofs.Numbers.{moved}
 use Rattle.go_heads_added.proofs.Objects.{were, are, AreAside}
 use Rattle.go_heads_added.proofs.SameInFiles.{placed_same}
@@ -149,7 +148,8 @@ module _ (k end : ℕ) (g : Gap) where
 
     pub lookups_same : lookup_faults mid ≡ [] → lookup_faults bs ≡ lookup_faults os
     lookups_same z =
-        let m = five_none (failing code.Undeclared (undeclared mid)) (failing code.Outside (outside_names mid)) (failing code.Outside (outside_members mid)) (failing code.NotAValue (not_called mid)) (failing code.Initialiser (initialisers mid)) z in
+        let m =
+        five_none (failing code.Undeclared (undeclared mid)) (failing code.Outside (outside_names mid)) (failing code.Outside (outside_members mid)) (failing code.NotAValue (not_called mid)) (failing code.Initialiser (initialisers mid)) z in
         five_same (ap (failing code.Undeclared) (undeclared_same (failing_none code.Undeclared (undeclared mid) m.0))) (ap (failing code.Outside) (names_same (failing_none code.Outside (outside_names mid) m.1)))
         (ap (failing code.Outside) (members_same (failing_none code.Outside (outside_members mid) m.2))) (ap (failing code.NotAValue) (calls_same (failing_none code.NotAValue (not_called mid) m.3)))
         (ap (failing code.Initialiser) (initials_same (failing_none code.Initialiser (initialisers mid) m.4)))
@@ -217,7 +217,8 @@ module _ (k n : ℕ) (name : List ℕ) (end : ℕ) (g : Gap) (xs ds ys : List Me
       → AllStay k end g (asked_in old k ts es) (asked_in new k us (map (reaching end) es))
   own_stay ts us [] w b q h = tt
   own_stay ts us (event.Use u ∷ es) w b q h =
-      subst (λ v. AllStay k end g (if is_blank (word ts u.name) then asked_in old k ts es else asked old k ts u ∷ asked_in old k ts es) (if is_blank v then asked_in new k us (map (reaching end) es) else asked new k us u ∷ asked_in new k us (map (reaching end) es)))
+      subst (λ v. AllStay k end g (if is_blank (word ts u.name) then asked_in old k ts es else asked old k ts u ∷ asked_in old k ts es)
+      (if is_blank v then asked_in new k us (map (reaching end) es) else asked new k us u ∷ asked_in new k us (map (reaching end) es)))
       (sym (w u.name h.0.0)) (by (is_blank (word ts u.name)) (own_stay ts us es w b q h.1))
     where
       below : u.name < n

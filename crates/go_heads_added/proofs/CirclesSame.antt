@@ -1,5 +1,5 @@
 -- A declaration needs itself by way of no more others than there are ways of needing declarations, however many rounds are looked at.
-use Rattle.std.proofs.Common.{◌≡◌, ◌∙◌, ℕ, ◌+◌, ◌-◌, ◌≤◌, inl, inr, Bool, true, false, ◌&&◌, ◌||◌, List, [], ◌∷◌, length, Option, Some, None, refl, ap, arith}
+use Rattle.std.proofs.Common.{◌≡◌, ◌∙◌, ℕ, ◌+◌, ◌-◌, ◌≤◌, inl, inr, Bool, true, false, ◌&&◌, ◌||◌, List, [], ◌∷◌, length, Option, Some, None, ap, arith}
 use Rattle.std.specs.Prelude.{nat_eq}
 use Rattle.std.specs.List.{AllByRecursion}
 use Rattle.go_tree.specs.Declarations.{Found}
@@ -50,4 +50,5 @@ module _ (asks : List Asked) (ds : List Found) where
       let count = both_count ds in
       ap (λ i. is_among d (all_needed asks i c)) (let z : k ≡ r + (k - r) = omega (arith, low) in z)
       ∙ ap (is_among d)
-      (many_more P asks (λ y h. needs_declared asks told y) (both_ways ds) (λ y h. known_declared y ds h) r (k - r) c (with_more P (needs asks x) [] (needs_declared asks told x) tt) (let z : length (both_ways ds) ≤ r = omega (arith, count) in z))
+      (many_more P asks (λ y h. needs_declared asks told y) (both_ways ds) (λ y h. known_declared y ds h) r (k - r) c (with_more P (needs asks x) [] (needs_declared asks told x) tt)
+      (let z : length (both_ways ds) ≤ r = omega (arith, count) in z))

@@ -1,56 +1,30 @@
 -- The rules on clauses fail at the same places where a function is appended.
-use Rattle.std.proofs.Common.{◌≡◌, ◌∙◌, ℕ, suc, ◌+◌, ◌<◌, ◌≤◌, inl, inr, Bool, true, false, ◌&&◌, ◌||◌, not, List, [], ◌∷◌, ◌++◌, length, map, drop, Option, Some, None, refl, sym, ap, subst, length-append, arith}
-use Rattle.std.specs.Prelude.{if◌then◌else◌, nat_eq, codes}
+use Rattle.std.proofs.Common.{◌≡◌, ◌∙◌, ℕ, suc, ◌+◌, ◌<◌, Bool, true, false, ◌&&◌, ◌||◌, not, List, [], ◌∷◌, ◌++◌, map, refl, sym, ap, subst, arith}
+use Rattle.std.specs.Prelude.{nat_eq, codes}
 use Rattle.std.specs.List.{AllByRecursion}
 use Rattle.std.proofs.lemmas.Bool.{eqb-true}
-use Rattle.std.proofs.lemmas.Bool.Decides.{nat_tests}
 use Rattle.go_base.specs.declared.fault.FaultCode.TheVariants as code
 use Rattle.go_tokens.specs.Spellings.{same_text}
 use Rattle.go_tokens.specs.Tokens.{TokenList}
 use Rattle.go_tokens.proofs.Public.{same_text-true}
-use Rattle.go_tree.specs.declared.context.Block.{Block}
-use Rattle.go_tree.specs.declared.context.Block.TheVariants as block
-use Rattle.go_tree.specs.declared.context.Entity.{Entity}
-use Rattle.go_tree.specs.declared.context.Entity.TheVariants as entity
 use Rattle.go_tree.specs.declared.event.Event.{Event}
 use Rattle.go_tree.specs.declared.event.Event.TheVariants as event
-use Rattle.go_tree.specs.declared.object.Object.{Object}
-use Rattle.go_tree.specs.declared.object.Predeclared.{Predeclared}
-use Rattle.go_tree.specs.Branches.{branches, misplaced, statements, first_place, limit}
 use Rattle.go_tree.specs.Clauses.{first_name, other_names, package_names, imports, other_imports, outside_declarations, declares, is_spelled, read_byte, is_read_byte, bodiless, missing_bodies}
-use Rattle.go_tree.specs.Constants.{hidden_in, hidden_lists}
-use Rattle.go_tree.specs.Contexts.{is_package}
-use Rattle.go_tree.specs.Declarations.{Found, found, found_from, found_in, new_among, declarations}
-use Rattle.go_tree.specs.Duplicates.{second_members, second_defaults, duplicates}
-use Rattle.go_tree.specs.Failures.{Failure, failing, of_files, least, or_else}
-use Rattle.go_tree.specs.Faults.{clause_faults, lookup_faults, unused_faults, placed_faults, cycle_faults, name_faults, reported}
-use Rattle.go_tree.specs.Lookups.{Asked, asked_in, asked_from, object_asked, is_import, is_local, is_counted, is_assigned, means, is_used, unused_variables, uses_import, imports_unless, unused_imports}
-use Rattle.go_tree.specs.Meanings.{Meaning, Numbers, first_numbers, own_number, numbers_behind, numbered, imported_meaning, imported_from, meanings}
-use Rattle.go_tree.specs.Needs.{needs_itself, cycles}
-use Rattle.go_tree.specs.Objects.{known_object, object_by, is_declared_at}
-use Rattle.go_tree.specs.Predeclared.{known_in, known_names}
-use Rattle.go_tree.specs.Imports.{imports_fmt}
-use Rattle.go_tree.specs.Redeclared.{second_declarations, has_import, hidden_imports, second_imports, none_new, redeclared}
-use Rattle.go_tree.specs.Units.{Unit, Place, word, is_blank, bytes_at}
-use Rattle.go_scopes_cycles.specs.Closure.{IsDeclared}
-use Rattle.go_heads_added.specs.Added.{reaching, longer, AreEarlier, IsAdded, IsParameter, LiesIn, NoneSays}
-use Rattle.go_heads_added.specs.Faults.{FunctionIsFine, FileIsWithin}
-use Rattle.go_heads_added.specs.Reported.{EventPlaced, KeepsBytes, MeansShared, SourceIsShared, StaysPlaced}
+use Rattle.go_tree.specs.Declarations.{Found, found, found_from, found_in}
+use Rattle.go_tree.specs.Failures.{failing, of_files}
+use Rattle.go_tree.specs.Faults.{clause_faults}
+use Rattle.go_tree.specs.Units.{Unit, word, is_blank, bytes_at}
+use Rattle.go_heads_added.specs.Added.{reaching, longer, AreEarlier, IsAdded, NoneSays}
+use Rattle.go_heads_added.specs.Faults.{FileIsWithin}
+use Rattle.go_heads_added.specs.Reported.{EventPlaced, KeepsBytes}
 use Rattle.go_heads_added.specs.Within.{IsOfFunction}
-use Rattle.go_heads_added.proofs.AsksSame.{AsksStay, asks_stay, imported_same, lookups_same, used_same}
-use Rattle.go_heads_added.proofs.Circles.{IsOld, Maybe, SourceHas, asked_has, imports_have, itself_same, numbered_has}
-use Rattle.go_heads_added.proofs.CirclesSame.{itself_settled}
-use Rattle.go_heads_added.proofs.DeclaredSame.{IsTested, between_same, declares_same, hidden_same, new_same, outside_same, second_same}
-use Rattle.go_heads_added.proofs.Distinct.{Among, all_among, apart_at}
-use Rattle.go_heads_added.proofs.Faultless as faultless
-use Rattle.go_heads_added.proofs.Faultless.{import_same, last_word, spelled_same}
+use Rattle.go_heads_added.proofs.DeclaredSame.{declares_same, outside_same}
+use Rattle.go_heads_added.proofs.Faultless.{last_word, spelled_same}
 use Rattle.go_heads_added.proofs.Files.{Rule}
-use Rattle.go_heads_added.proofs.Following as following
-use Rattle.go_heads_added.proofs.Found.{found_before, found_after, found_earlier, found_later}
-use Rattle.go_heads_added.proofs.Names.{g, front, rest, all, kept, others, added, first_meanings, new_meanings, other_meanings, declarations_were, declarations_are, meanings_were, meanings_are, new_aside}
-use Rattle.go_heads_added.proofs.Objects.{were, are}
-use Rattle.go_heads_added.proofs.SameInFiles.{bodiless_same, defaults_same, imports_same, lists_same, members_same, misplaced_same, placed_same, seconds_same, statements_same, unused_same}
-use Rattle.go_heads_added.proofs.Texts.{Says, all_both, all_front, all_behind, all_more, all_say}
+use Rattle.go_heads_added.proofs.Found.{found_earlier, found_later}
+use Rattle.go_heads_added.proofs.Names.{added}
+use Rattle.go_heads_added.proofs.SameInFiles.{bodiless_same, imports_same, placed_same}
+use Rattle.go_heads_added.proofs.Texts.{Says, all_front, all_behind, all_say}
 
 -- ---- lists
 
@@ -189,7 +163,8 @@ module _ (k n : ℕ) (name : List ℕ) (old new : List Unit) (h : IsAdded k n na
   clause_bodies : missing_bodies (found new) new ≡ missing_bodies (found old) old
   clause_bodies =
       by_rules (bodiless b) (bodiless c) (other_bodies h.before (all_front (Says name) h.before (h.a ∷ h.behind) says)) (other_bodies h.behind (all_behind (Says name) h.before (h.a ∷ h.behind) says).1)
-      (λ m. bodiless_same n e ts us h.longer.words bytes b c (λ x y l. read_same ts us (all_behind (Says name) h.before (h.a ∷ h.behind) says).0 x y (λ p t v. h.longer.words t (let z : y ≡ x + 5 = eqb-true y (x + 5) p in omega (arith, l, v, z)))) m h.a.events extra w.events stand tells)
+      (λ m. bodiless_same n e ts us h.longer.words bytes b c
+      (λ x y l. read_same ts us (all_behind (Says name) h.before (h.a ∷ h.behind) says).0 x y (λ p t v. h.longer.words t (let z : y ≡ x + 5 = eqb-true y (x + 5) p in omega (arith, l, v, z)))) m h.a.events extra w.events stand tells)
 
   pub clauses_same : clause_faults new ≡ clause_faults old
   clauses_same = four_same (ap (failing code.PackageName) clause_names) (ap (failing code.Outside) clause_imports) (ap (failing code.Outside) clause_outside) (ap (failing code.Outside) clause_bodies)

@@ -13,7 +13,7 @@ use Rattle.go_heads_added.specs.Added.{longer, IsEarlier, IsParameter, IsNewFunc
 use Rattle.go_heads_added.proofs.SameInFiles.{placed_same}
 use Rattle.go_heads_added.proofs.Redeclared as twice
 use Rattle.go_heads_added.proofs.Redeclared.{and_none}
-use Rattle.go_heads_added.proofs.Texts.{IsApart, all_both, all_front, all_behind, all_more}
+use Rattle.go_heads_added.proofs.Texts.{IsApart, all_both, all_more}
 
 -- ---- rules by a test of each declaration
 
@@ -78,7 +78,8 @@ module _ (k n end : ℕ) (name : List ℕ) (f : Found) (ps : List Found) (own : 
       ∙ ap (λ b. declares v (to ds) || b)
       (twice.declares_append k n end name f ps own params v (f ∷ ps) (to es)
       ∙ or_false (declares v (f ∷ ps)) (declares v (to es))
-      (both_false (is_package f.it.block && same_text f.name v) (declares v ps) (and_none (is_package f.it.block) (same_text f.name v) (ap (λ x. same_text x v) own.name ∙ o)) (twice.parameters_declare k n end name f ps own params v ps params)))
+      (both_false (is_package f.it.block && same_text f.name v) (declares v ps) (and_none (is_package f.it.block) (same_text f.name v) (ap (λ x. same_text x v) own.name ∙ o))
+      (twice.parameters_declare k n end name f ps own params v ps params)))
       ∙ ap (λ b. b || declares v (to es)) (twice.declares_longer k n end name f ps own params v ds)
       ∙ ap (λ b. declares v ds || b) (twice.declares_longer k n end name f ps own params v es)
       ∙ sym (twice.declares_append k n end name f ps own params v ds es)

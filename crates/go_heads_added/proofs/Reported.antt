@@ -1,57 +1,50 @@
 -- The same fault of names is reported where a function is appended at which no rule fails.
-use Rattle.std.proofs.Common.{◌≡◌, ◌∙◌, ℕ, suc, ◌+◌, ◌<◌, ◌≤◌, inl, inr, Bool, true, false, ◌&&◌, ◌||◌, not, List, [], ◌∷◌, ◌++◌, length, map, drop, Option, Some, None, refl, sym, ap, subst, length-append, arith}
-use Rattle.std.specs.Prelude.{if◌then◌else◌, nat_eq, codes}
+use Rattle.std.proofs.Common.{◌≡◌, ◌∙◌, ℕ, suc, ◌+◌, ◌≤◌, Bool, true, false, ◌&&◌, ◌||◌, not, List, [], ◌∷◌, ◌++◌, length, map, drop, Option, Some, None, refl, sym, ap, subst, length-append, arith}
+use Rattle.std.specs.Prelude.{if◌then◌else◌, nat_eq}
 use Rattle.std.specs.List.{AllByRecursion}
-use Rattle.std.proofs.lemmas.Bool.{eqb-true}
 use Rattle.std.proofs.lemmas.Bool.Decides.{nat_tests}
 use Rattle.go_base.specs.declared.fault.FaultCode.TheVariants as code
-use Rattle.go_tokens.specs.Spellings.{same_text}
 use Rattle.go_tokens.specs.Tokens.{TokenList}
-use Rattle.go_tokens.proofs.Public.{same_text-true}
 use Rattle.go_tree.specs.declared.context.Block.{Block}
 use Rattle.go_tree.specs.declared.context.Block.TheVariants as block
 use Rattle.go_tree.specs.declared.context.Entity.{Entity}
 use Rattle.go_tree.specs.declared.context.Entity.TheVariants as entity
 use Rattle.go_tree.specs.declared.event.Event.{Event}
-use Rattle.go_tree.specs.declared.event.Event.TheVariants as event
-use Rattle.go_tree.specs.declared.object.Object.{Object}
 use Rattle.go_tree.specs.declared.object.Predeclared.{Predeclared}
-use Rattle.go_tree.specs.Branches.{branches, misplaced, statements, first_place, limit}
-use Rattle.go_tree.specs.Clauses.{first_name, other_names, package_names, imports, other_imports, outside_declarations, declares, is_spelled, read_byte, is_read_byte, bodiless, missing_bodies}
-use Rattle.go_tree.specs.Constants.{hidden_in, hidden_lists}
+use Rattle.go_tree.specs.Branches.{misplaced, statements, first_place, limit}
+use Rattle.go_tree.specs.Clauses.{imports}
+use Rattle.go_tree.specs.Constants.{hidden_in}
 use Rattle.go_tree.specs.Contexts.{is_package}
-use Rattle.go_tree.specs.Declarations.{Found, found, found_from, found_in, new_among, declarations}
+use Rattle.go_tree.specs.Declarations.{Found, found, new_among, declarations}
 use Rattle.go_tree.specs.Duplicates.{second_members, second_defaults, duplicates}
-use Rattle.go_tree.specs.Failures.{Failure, failing, of_files, least, or_else}
+use Rattle.go_tree.specs.Failures.{failing, of_files, least, or_else}
 use Rattle.go_tree.specs.Faults.{clause_faults, lookup_faults, unused_faults, placed_faults, cycle_faults, name_faults, reported}
-use Rattle.go_tree.specs.Lookups.{Asked, asked_in, asked_from, object_asked, is_import, is_local, is_counted, is_assigned, means, is_used, unused_variables, uses_import, imports_unless, unused_imports}
+use Rattle.go_tree.specs.Lookups.{Asked, asked_in, asked_from, object_asked, is_import, is_counted, is_assigned, means, is_used, unused_variables, uses_import, imports_unless, unused_imports}
 use Rattle.go_tree.specs.Meanings.{Meaning, Numbers, first_numbers, own_number, numbers_behind, numbered, imported_meaning, imported_from, meanings}
 use Rattle.go_tree.specs.Needs.{needs_itself, cycles}
 use Rattle.go_tree.specs.Objects.{known_object, object_by, is_declared_at}
 use Rattle.go_tree.specs.Predeclared.{known_in, known_names}
 use Rattle.go_tree.specs.Imports.{imports_fmt}
 use Rattle.go_tree.specs.Redeclared.{second_declarations, has_import, hidden_imports, second_imports, none_new, redeclared}
-use Rattle.go_tree.specs.Units.{Unit, Place, word, is_blank, bytes_at}
+use Rattle.go_tree.specs.Units.{Unit}
 use Rattle.go_scopes_cycles.specs.Closure.{IsDeclared}
-use Rattle.go_heads_added.specs.Added.{reaching, longer, AreEarlier, IsAdded, IsParameter, LiesIn, NoneSays}
+use Rattle.go_heads_added.specs.Added.{reaching, longer, IsAdded, IsParameter, LiesIn, NoneSays}
 use Rattle.go_heads_added.specs.Faults.{FunctionIsFine, FileIsWithin}
-use Rattle.go_heads_added.specs.Reported.{EventPlaced, KeepsBytes, MeansShared, SourceIsShared, StaysPlaced}
-use Rattle.go_heads_added.specs.Within.{IsOfFunction}
+use Rattle.go_heads_added.specs.Reported.{MeansShared, SourceIsShared, StaysPlaced}
 use Rattle.go_heads_added.proofs.AsksSame.{AsksStay, asks_stay, imported_same, lookups_same, used_same}
 use Rattle.go_heads_added.proofs.Circles.{IsOld, Maybe, SourceHas, asked_has, imports_have, itself_same, numbered_has}
 use Rattle.go_heads_added.proofs.ClausesSame.{Same, clauses_same, five_same, four_same, nothing_changes, one_same, two_same}
 use Rattle.go_heads_added.proofs.CirclesSame.{itself_settled}
-use Rattle.go_heads_added.proofs.DeclaredSame.{IsTested, between_same, declares_same, hidden_same, new_same, outside_same, second_same}
+use Rattle.go_heads_added.proofs.DeclaredSame.{between_same, hidden_same, new_same, second_same}
 use Rattle.go_heads_added.proofs.Distinct.{Among, all_among, apart_at}
 use Rattle.go_heads_added.proofs.Faultless as faultless
-use Rattle.go_heads_added.proofs.Faultless.{import_same, last_word, spelled_same}
+use Rattle.go_heads_added.proofs.Faultless.{import_same}
 use Rattle.go_heads_added.proofs.Files.{Rule}
-use Rattle.go_heads_added.proofs.Following as following
-use Rattle.go_heads_added.proofs.Found.{found_before, found_after, found_earlier, found_later}
+use Rattle.go_heads_added.proofs.Found.{found_before, found_after}
 use Rattle.go_heads_added.proofs.Names.{g, front, rest, all, kept, others, added, first_meanings, new_meanings, other_meanings, declarations_were, declarations_are, meanings_were, meanings_are, new_aside}
 use Rattle.go_heads_added.proofs.Objects.{were, are}
-use Rattle.go_heads_added.proofs.SameInFiles.{bodiless_same, defaults_same, imports_same, lists_same, members_same, misplaced_same, placed_same, seconds_same, statements_same, unused_same}
-use Rattle.go_heads_added.proofs.Texts.{Says, all_both, all_front, all_behind, all_more, all_say}
+use Rattle.go_heads_added.proofs.SameInFiles.{defaults_same, lists_same, members_same, misplaced_same, seconds_same, statements_same, unused_same}
+use Rattle.go_heads_added.proofs.Texts.{Says, all_both, all_front, all_behind, all_more}
 
 -- ---- meanings
 
@@ -309,7 +302,8 @@ module _ (k n : ℕ) (name : List ℕ) (old new : List Unit) (h : IsAdded k n na
   no_unused =
       let both = subst (AllByRecursion (λ x. Among x (declarations old))) were_declared (all_among (declarations old) (declarations old) (λ x a. a)) in
       ap (unused_variables more_asks) are_declared
-      ∙ between_same k e (unused_variables asks) (unused_variables more_asks) unused_then unused_now (record { none = refl; more = λ d ds. refl }) (record { none = refl; more = λ d ds. refl }) xs (added k n name old new h i) ys
+      ∙ between_same k e (unused_variables asks) (unused_variables more_asks) unused_then unused_now (record { none = refl; more = λ d ds. refl }) (record { none = refl; more = λ d ds. refl })
+      xs (added k n name old new h i) ys
       (both_parts xs (all_front (λ x. Among x (declarations old)) xs ys both) (faultless.kept_is_old k n name old new h i q w fine)) (
         ap (λ z. is_counted z h.longer.function.it.block && not (is_used h.longer.function more_asks)) h.longer.is_function.entity,
         all_more (IsParameter k n) (λ d. unused_now d ≡ false) (λ d p. ap (λ z. is_counted z d.it.block && not (is_used d more_asks)) p.entity) qs qs_parameters,
@@ -394,4 +388,6 @@ module _ (k n : ℕ) (name : List ℕ) (old new : List Unit) (h : IsAdded k n na
   names_are_same = five_same (ap (failing code.Redeclared) once) lookups used placed circles
 
   pub same_reported : reported new ≡ reported old
-  same_reported = ap (λ z. or_else (least z) (least (name_faults new))) (clauses_same k n name old new h i.earlier i.named q w fine.initial fine.tells s.bytes s.events) ∙ ap (λ z. or_else (least (clause_faults old)) (least z)) names_are_same
+  same_reported =
+      ap (λ z. or_else (least z) (least (name_faults new))) (clauses_same k n name old new h i.earlier i.named q w fine.initial fine.tells s.bytes s.events)
+      ∙ ap (λ z. or_else (least (clause_faults old)) (least z)) names_are_same

@@ -1,5 +1,5 @@
 -- The same fault of names is reported where a function with an empty body is appended to a derived file.
-use Rattle.std.proofs.Common.{◌≡◌, ◌∙◌, ℕ, suc, ◌≤◌, inl, inr, ◌⊎◌, Bool, true, false, List, [], ◌∷◌, ◌++◌, length, Option, Some, None, refl, sym, ap, subst, arith}
+use Rattle.std.proofs.Common.{◌≡◌, ◌∙◌, ℕ, suc, ◌≤◌, inl, inr, ◌⊎◌, Bool, true, false, List, [], ◌∷◌, ◌++◌, length, Some, refl, sym, ap, subst, arith}
 use Rattle.std.specs.Prelude.{if◌then◌else◌}
 use Rattle.std.specs.List.{AllByRecursion}
 use Rattle.go_tokens.specs.Tokens.{TokenList}
@@ -9,7 +9,6 @@ use Rattle.go_grammar.specs.declared.kind.Category.TheVariants as category
 use Rattle.go_grammar.specs.Trees.{Tree, node, Trees, last}
 use Rattle.go_grammar.specs.Grammar.{IsFile, Derives}
 use Rattle.go_rewriting.specs.Places.{with_declaration}
-use Rattle.go_tokens.specs.Spellings.{same_text}
 use Rattle.go_tree.specs.Contexts.{file_context}
 use Rattle.go_tree.specs.declared.event.Event.{Event}
 use Rattle.go_tree.specs.Duplicates.{second_members}
@@ -22,13 +21,13 @@ use Rattle.go_tree.specs.Meanings.{meanings}
 use Rattle.go_tree.specs.Units.{Unit, word, is_blank}
 use Rattle.go_scopes_events.proofs.Public.{derives_laid}
 use Rattle.go_scopes_events.specs.Scopes.{AreOrderly, IsOrderly}
-use Rattle.go_heads_added.specs.Added.{AreEarlier, IsAdded, NoneSays}
+use Rattle.go_heads_added.specs.Added.{IsAdded, NoneSays}
 use Rattle.go_heads_added.specs.Appended.{AreAdded, HasNames, IsFront, IsParsed, TellsMore, context_behind, empty_function, unit_of}
 use Rattle.go_heads_added.specs.Faults.{FileIsWithin, FunctionIsFine, MeansOuter}
 use Rattle.go_heads_added.specs.Reported.{EventPlaced, IsDerived, KeepsBytes, MayJoin, NamesShared, StaysPlaced}
-use Rattle.go_heads_added.specs.Within.{EventWithin, IsOfFunction}
+use Rattle.go_heads_added.specs.Within.{IsOfFunction}
 use Rattle.go_heads_added.proofs.ClausesSame.{clauses_same}
-use Rattle.go_heads_added.proofs.Derived.{clause_behind, file_here, outer_here, told_here}
+use Rattle.go_heads_added.proofs.Derived.{clause_behind, file_here, outer_here}
 use Rattle.go_heads_added.proofs.Lying.{LocalsFollowAll, added_here}
 use Rattle.go_heads_added.proofs.Longer.{file_earlier, tells_more, told_is}
 use Rattle.go_heads_added.proofs.Named.{clauses_named}
@@ -127,7 +126,8 @@ module _ (follow : LocalsFollowAll) (orderly : FilesAreOrderly) (k j end x y u v
           tells = to (λ o es. AllByRecursion (IsOfFunction j) es) (function_of us j end x y u v s ps h l);
           members = to (λ o es. second_members [] k o es ≡ []) may.members;
           asks = to (λ o es. lookup_faults (asked_in (meanings new) k o es) ≡ []) may.asks;
-          outer = to (λ o es. AllByRecursion (λ z. MeansOuter k j z.meaning) (asked_in (meanings new) k o es)) (outer_here follow k j end x y u v a b ts us ps s before behind place first_parsed later_parsed file rest.0 front h l blank imports q may.own);
+          outer = to (λ o es. AllByRecursion (λ z. MeansOuter k j z.meaning) (asked_in (meanings new) k o es))
+              (outer_here follow k j end x y u v a b ts us ps s before behind place first_parsed later_parsed file rest.0 front h l blank imports q may.own);
         } in
         let stays : StaysPlaced k j name old new m.added = record {
           bytes = subst (λ (o : Unit). KeepsBytes j m.added.a.tokens o.tokens) (sym r.2) (subst (λ (o : Unit). KeepsBytes j o.tokens b) (sym r.1) bytes);
