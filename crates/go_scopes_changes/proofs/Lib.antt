@@ -1,0 +1,8 @@
+mod Places
+mod Trees
+mod Outsides
+mod Pairs
+mod Members
+mod Entries
+mod Paths
+mod Imports
