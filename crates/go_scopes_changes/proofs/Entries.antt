@@ -1,6 +1,6 @@
 -- Rules on the names that are declared in the block of the package, by the objects of the heads.
-use Rattle.std.proofs.Common.{◌≡◌, ◌∙◌, ℕ, suc, ◌+◌, Bool, true, false, List, [], ◌∷◌, ◌++◌, map, refl, sym, ap, subst, arith}
-use Rattle.std.specs.Prelude.{if◌then◌else◌, ◌&&◌, ◌||◌, not, slice_get}
+use Rattle.std.proofs.Common.{◌≡◌, ◌∙◌, ℕ, suc, ◌+◌, Bool, true, false, List, [], ◌∷◌, ◌++◌, map, refl, sym, ap, arith}
+use Rattle.std.specs.Prelude.{if◌then◌else◌, ◌&&◌, ◌||◌, not}
 use Rattle.go_tokens.specs.Spellings.{same_text}
 use Rattle.go_tree.specs.declared.context.Block.{Block}
 use Rattle.go_tree.specs.declared.context.Block.TheVariants as block
@@ -11,7 +11,8 @@ use Rattle.go_tree.specs.Declarations.{Found, found_in, found_from, are_one_bloc
 use Rattle.go_tree.specs.Imports.{imports_fmt}
 use Rattle.go_tree.specs.Meanings.{Meaning, imported_meaning, imported_from}
 use Rattle.go_tree.specs.Redeclared.{are_parameters, clashes, has_clash, second_declarations, has_import, hidden_imports}
-use Rattle.go_tree.specs.Units.{Unit, word, is_fmt}
+use Rattle.go_tree.specs.Units.{word, is_fmt}
+use Rattle.go_tree.specs.Units as names
 use Rattle.go_tree.specs.Uses.{declared_by, declared_in_package}
 use Rattle.go_heads.specs.Functions.{AreRead}
 use Rattle.go_heads.specs.Heads.{File, heads}
@@ -38,6 +39,14 @@ any_second before (x ∷ xs) = any_clash x before || any_second (before ++ x ∷
 abbrev any_hidden : Bool → List Entry → Bool
 any_hidden b [] = false
 any_hidden b (x ∷ xs) = (b && is_fmt x.text) || any_hidden b xs
+
+and_true : (b : Bool) → (b && true) ≡ b
+and_true true = refl
+and_true false = refl
+
+and_false : (b : Bool) → (b && false) ≡ false
+and_false true = refl
+and_false false = refl
 
 or_both : (b c : Bool) → b ≡ false → c ≡ false → (b || c) ≡ false
 or_both true c e f = e
@@ -78,6 +87,7 @@ clash_same x y d e h g =
     ∙ ap (λ z. same_text x.text z && are_one_block d.file d.it.block e.file e.it.block && not (are_parameters d.it.entity e.it.entity)) g.text
     ∙ ap (λ z. same_text x.text y.text && are_one_block d.file z e.file e.it.block && not (are_parameters d.it.entity e.it.entity)) h.outer
     ∙ ap (λ z. same_text x.text y.text && are_one_block d.file block.Package e.file z && not (are_parameters d.it.entity e.it.entity)) g.outer
+    ∙ ap (λ z. z && not (are_parameters d.it.entity e.it.entity)) (and_true (same_text x.text y.text))
     ∙ ap (λ z. same_text x.text y.text && not (are_parameters z e.it.entity)) h.entity
     ∙ ap (λ z. same_text x.text y.text && not (are_parameters x.entity z)) g.entity
 
@@ -134,14 +144,10 @@ module _ (all : List File) where
   these_shared [] h = tt
   these_shared (d ∷ ds) h = one_shared d ds (is_package d.it.block) refl h.0 (these_shared ds h.1)
 
-  nothing : (b : Bool) → (b && false) ≡ false
-  nothing true = refl
-  nothing false = refl
-
   hidden_one : (b : Bool) (d : Found) (c : Bool) → is_package d.it.block ≡ c → IsNamed d → (rest : List Entry)
       → ((b && c && is_fmt d.name) || any_hidden b rest) ≡ any_hidden b (map (entry all) (if c then declared_by d ∷ [] else []) ++ rest)
-  hidden_one b d true e n rest = ap (λ w. (b && is_fmt w) || any_hidden b rest) n
-  hidden_one b d false e n rest = ap (λ x. x || any_hidden b rest) (nothing b)
+  hidden_one b d true e n rest = ap (λ x. (x && is_fmt d.name) || any_hidden b rest) (and_true b) ∙ ap (λ w. (b && is_fmt w) || any_hidden b rest) n
+  hidden_one b d false e n rest = ap (λ x. (x && is_fmt d.name) || any_hidden b rest) (and_false b)
 
   front : (d : Found) (ds : List Found) (c : Bool) → map (entry all) (if c then declared_by d ∷ declared_in_package ds else declared_in_package ds) ≡ map (entry all) (if c then declared_by d ∷ [] else []) ++ entries ds
   front d ds true = refl
@@ -175,7 +181,7 @@ abbrev is_any : List Meaning → Bool
 is_any [] = false
 is_any (m ∷ ms) = true
 
-any_import : (n : ℕ) (us : List Unit) → is_any (imported_from n us) ≡ has_import us
+any_import : (n : ℕ) (us : List names.Unit) → is_any (imported_from n us) ≡ has_import us
 any_import n [] = refl
 any_import n (u ∷ us) = by (imports_fmt u.tokens u.events) (any_import (suc n) us)
   where

@@ -6,3 +6,7 @@ mod Members
 mod Entries
 mod Paths
 mod Imports
+mod Standing
+mod Meant
+mod Lookups
+mod Clauses

@@ -1,5 +1,5 @@
 -- Members outside of functions stand once in their groups where they did.
-use Rattle.std.proofs.Common.{◌≡◌, ◌∙◌, ℕ, Bool, true, false, List, [], ◌∷◌, ◌++◌, map, refl, sym, ap, subst, arith}
+use Rattle.std.proofs.Common.{◌≡◌, ◌∙◌, ℕ, Bool, true, false, List, [], ◌∷◌, ◌++◌, map, refl, sym, ap, arith}
 use Rattle.std.specs.Prelude.{◌&&◌, ◌||◌, not, nat_eq}
 use Rattle.std.proofs.lemmas.Bool.Decides.{nat_tests}
 use Rattle.std.proofs.lemmas.List.{map-append}
@@ -12,7 +12,7 @@ use Rattle.go_tree.specs.Duplicates.{same_member, has_member, is_duplicate, seco
 use Rattle.go_tree.specs.Failures.{of_files}
 use Rattle.go_tree.specs.Units.{word, is_blank, bytes_at}
 use Rattle.go_heads.specs.Functions.{AreRead}
-use Rattle.go_heads.specs.Heads.{File, IsRead, head_of, heads}
+use Rattle.go_heads.specs.Heads.{File, heads}
 use Rattle.go_heads.proofs.Public.{Every, every_append}
 use Rattle.go_scopes_bodies.specs.Carried.{carried_event}
 use Rattle.go_scopes_bodies.specs.Outside.{outside_events, outside_units}

@@ -1,15 +1,11 @@
 -- What a file tells outside of its functions is what a file with an equal head tells there, with other places of tokens.
-use Rattle.std.proofs.Common.{◌≡◌, ◌∙◌, ℕ, zero, suc, ◌+◌, ◌-◌, ◌<◌, ◌≤◌, inl, inr, ◌⊎◌, Bool, true, false, List, [], ◌∷◌, map, length, Option, Some, None, refl, sym, ap, subst, arith}
-use Rattle.std.specs.Prelude.{if◌then◌else◌, ◌||◌, slice_get, option_map}
-use Rattle.std.proofs.lemmas.Option.{slice_get-map}
-use Rattle.go_tokens.specs.declared.token.Token.{Token}
+use Rattle.std.proofs.Common.{◌≡◌, ◌∙◌, ℕ, zero, suc, ◌-◌, ◌<◌, ◌≤◌, inl, inr, ◌⊎◌, Bool, true, false, List, [], ◌∷◌, map, length, refl, sym, ap, subst, arith}
+use Rattle.std.specs.Prelude.{if◌then◌else◌, ◌||◌}
 use Rattle.go_tokens.specs.declared.token.TokenKind.{TokenKind}
 use Rattle.go_tokens.specs.declared.token.TokenKind.TheVariants as token
-use Rattle.go_tokens.specs.Tokens.{TokenList, kinds, text_of}
 use Rattle.go_grammar.specs.declared.kind.Category.TheVariants as category
 use Rattle.go_grammar.specs.declared.kind.Kind.TheVariants as kind
 use Rattle.go_grammar.specs.declared.kind.Place.TheVariants as place
-use Rattle.go_grammar.specs.Categories.{place_of}
 use Rattle.go_grammar.specs.Grammar.{IsFile, rule, Derives, Spells, Goes}
 use Rattle.go_grammar.specs.Rules.{Items, Each, Many}
 use Rattle.go_grammar.specs.Trees.{Tree, node, Trees, none, more, skip, kind_of, first, last, parts}
@@ -17,19 +13,15 @@ use Rattle.go_rewriting.specs.Lists.{InOrder, Ordered}
 use Rattle.go_rewriting.specs.Places.{carry, carries}
 use Rattle.go_rewriting.proofs.Public.{derives_ordered, goes_ordered, spells_ordered, tree_order, row_order}
 use Rattle.go_tree.specs.declared.context.Context.{Context}
-use Rattle.go_tree.specs.declared.event.Event.{Event}
-use Rattle.go_tree.specs.Contexts.{file_context}
 use Rattle.go_tree.specs.Events.{events}
 use Rattle.go_tree.specs.Lists.{is_function}
-use Rattle.go_tree.specs.Units.{text_in, word}
 use Rattle.go_scopes_events.proofs.Public.{IsInner, derives_inner, spells_inner, rule_inner, true_false}
-use Rattle.go_heads.specs.Heads.{File, IsRead, Head, head_of, texts, in_bodies, is_within, body_of, place_outside, outline}
-use Rattle.go_heads.specs.Names.{text_there}
-use Rattle.go_heads.proofs.Public.{AllSit, OthersSit, Sits, file_sat, one_outline, place_next, plain_none, row_before}
+use Rattle.go_heads.specs.Heads.{in_bodies, is_within, place_outside}
+use Rattle.go_heads.proofs.Public.{AllSit, OthersSit, Sits, file_sat, place_next, plain_none, row_before}
 use Rattle.go_scopes_bodies.specs.Carried.{KeepsNames, AllKeepNames, carried_context, carried_event}
-use Rattle.go_scopes_bodies.specs.Outside.{no_functions, without_functions, outside_events}
-use Rattle.go_scopes_changes.proofs.Places.{token_from, element_there, token_at_place}
-use Rattle.go_scopes_changes.proofs.Trees.{tree_fixed, carried_twice, outline_outside, names_kept}
+use Rattle.go_scopes_bodies.specs.Outside.{no_functions, without_functions}
+use Rattle.go_scopes_changes.proofs.Places.{token_from, token_at_place}
+use Rattle.go_scopes_changes.proofs.Trees.{tree_fixed, names_kept}
 
 -- the law on trees whose tokens stand elsewhere
 abbrev pub CarriedTell : Type 0
@@ -40,7 +32,7 @@ abbrev pub behind_one : (ℕ → ℕ) → ℕ → ℕ
 behind_one u zero = zero
 behind_one u (suc k) = suc (u k)
 
-abbrev lines : Items
+abbrev pub lines : Items
 lines = Each category.Declaration (token.Semicolon ∷ []) []
 
 -- ---- tokens that stay

@@ -1,5 +1,5 @@
 -- Two files with equal heads: what they tell outside of their functions.
-use Rattle.std.proofs.Common.{◌≡◌, ◌∙◌, ℕ, zero, suc, ◌-◌, ◌+◌, Bool, true, false, List, [], ◌∷◌, ◌++◌, map, length, Option, Some, None, refl, sym, ap, subst, arith}
+use Rattle.std.proofs.Common.{◌≡◌, ◌∙◌, ℕ, zero, suc, ◌-◌, Bool, true, false, List, [], ◌∷◌, ◌++◌, map, length, Option, Some, None, refl, sym, ap, arith}
 use Rattle.std.specs.Prelude.{slice_get, option_map}
 use Rattle.std.proofs.lemmas.List.{length-map}
 use Rattle.std.proofs.lemmas.Option.{slice_get-map}
@@ -19,7 +19,7 @@ use Rattle.go_tree.specs.Failures.{place_if, of_files}
 use Rattle.go_tree.specs.Lookups.{selected_of}
 use Rattle.go_tree.specs.Units.{Place, text_in, word}
 use Rattle.go_heads.specs.Functions.{AreRead}
-use Rattle.go_heads.specs.Heads.{File, IsRead, Head, head_of, heads, texts, in_bodies, outside, place_outside, outline}
+use Rattle.go_heads.specs.Heads.{File, IsRead, Head, head_of, heads, texts, in_bodies, place_outside}
 use Rattle.go_heads.specs.Names.{text_there}
 use Rattle.go_heads.proofs.Public.{Every, count_kinds, first_same, one_outline, others_same, some_not_none}
 use Rattle.go_scopes_bodies.specs.Carried.{carried_event, carried_role, carried_use}

@@ -1,5 +1,5 @@
 -- Trees that moved places leave as they are, and the tree of a file outside of its functions, at the places of the head.
-use Rattle.std.proofs.Common.{◌≡◌, ◌∙◌, ℕ, suc, ◌≤◌, ◌<◌, Bool, true, false, refl, sym, ap, arith}
+use Rattle.std.proofs.Common.{◌≡◌, ◌∙◌, ℕ, ◌≤◌, ◌<◌, Bool, true, false, refl, ap, arith}
 use Rattle.std.specs.Prelude.{if◌then◌else◌}
 use Rattle.go_grammar.specs.declared.kind.Kind.{Kind}
 use Rattle.go_grammar.specs.declared.kind.Kind.TheVariants as kind
@@ -9,7 +9,7 @@ use Rattle.go_rewriting.specs.Places.{carry, carries}
 use Rattle.go_rewriting.proofs.Public.{tree_order, row_order}
 use Rattle.go_tree.specs.Lists.{is_function}
 use Rattle.go_scopes_events.proofs.Public.{IsInner, AreInner, is_top, true_false}
-use Rattle.go_heads.specs.Heads.{File, in_bodies, place_outside, without_body, without_bodies, outline}
+use Rattle.go_heads.specs.Heads.{in_bodies, place_outside, without_body, without_bodies, outline}
 use Rattle.go_heads.proofs.Public.{plain_same}
 use Rattle.go_scopes_bodies.specs.Carried.{KeepsName, KeepsNames, AllKeepNames}
 use Rattle.go_scopes_bodies.specs.Outside.{no_functions, without_functions}

@@ -1,18 +1,25 @@
 //! Laws, for the crates above. The functions do nothing: their contracts are the laws.
 
-ghost use Rattle.std.specs.Prelude.{◌≡◌, ℕ, [], List};
-ghost use Rattle.go_tree.specs.Clauses.{imports};
-ghost use Rattle.go_tree.specs.Declarations.{declarations};
+ghost use Rattle.std.specs.Prelude.{◌≡◌, ℕ, false, [], List, None};
+ghost use Rattle.go_tree.specs.Clauses.{imports, missing_bodies};
+ghost use Rattle.go_tree.specs.Declarations.{declarations, found};
 ghost use Rattle.go_tree.specs.Duplicates.{second_members};
 ghost use Rattle.go_tree.specs.Failures.{of_files};
+ghost use Rattle.go_tree.specs.Faults.{clause_faults, lookup_faults, reported};
 ghost use Rattle.go_tree.specs.Redeclared.{second_declarations, has_import, hidden_imports, second_imports};
 ghost use Rattle.go_heads.specs.Functions.{AreRead};
 ghost use Rattle.go_heads.specs.Heads.{File, heads};
+ghost use Rattle.go_heads.specs.Locals.{AreNamed};
 ghost use Rattle.go_heads.specs.Objects.{units_of};
-ghost use Rattle.go_scopes_bodies.specs.Faults.{shared};
+ghost use Rattle.go_scopes_bodies.specs.Faults.{outside_asked, shared};
 ghost use Rattle.go_scopes_bodies.specs.Outside.{outside_units};
+ghost use Rattle.go_scopes_changes.specs.Changes.{IsSoundOutside, FunctionsAreSound};
 
-use go_scopes_bodies::laws::carried_trees_tell_the_same;
+use go_heads::laws::heads_tell_names;
+use go_scopes_bodies::laws::{
+    carried_trees_tell_the_same, faults_are_those_of_functions, names_outside_of_functions_stay,
+    statements_are_counted_by_functions,
+};
 
 /// In packages with equal heads no field, key or parameter stands twice in its group outside of functions, where none did (Go
 /// specification: Struct types, Composite literals, Function types).
@@ -47,4 +54,38 @@ pub fn paths_stay_those_of_fmt()
     ensures { (old new : List File) → AreRead old → AreRead new → heads old ≡ heads new → imports (units_of old) ≡ [] → imports (units_of new) ≡ [] }
 {
     carried_trees_tell_the_same();
+}
+
+/// In packages with equal heads no name that is looked up outside of functions fails a rule, where none did: each means something of the
+/// profile, and no value of a variable of the package names a function or a variable (Go specification: Declarations and scope, Qualified
+/// identifiers, Calls, Package initialization).
+pub fn names_stay_looked_up()
+    ensures { (old new : List File) → AreRead old → AreRead new → heads old ≡ heads new → lookup_faults (outside_asked old) ≡ [] → lookup_faults (outside_asked new) ≡ [] }
+{
+    carried_trees_tell_the_same();
+    names_outside_of_functions_stay();
+}
+
+/// In packages with equal heads no rule on clauses fails, where none did, and where no function lacks its body: the name of the package is
+/// the same, files import fmt alone, and no name of the package is `init` (Go specification: Package clause, Import declarations, Package
+/// initialization). Heads don't tell which functions have bodies, so that this is asked of the second package.
+pub fn clauses_stay_faultless()
+    ensures { (old new : List File) → AreRead old → AreRead new → heads old ≡ heads new → clause_faults (units_of old) ≡ [] → missing_bodies (found (units_of new)) (units_of new) ≡ [] → clause_faults (units_of new) ≡ [] }
+{
+    heads_tell_names();
+    carried_trees_tell_the_same();
+}
+
+/// No fault of names is reported of a package that differs in the bodies of functions alone from one of which none is, where no function
+/// fails a rule by itself, each import is used, no function lacks its body and there are not too many statements. Outside of functions it is
+/// asked beside this alone that no declaration of the package needs itself.
+pub fn packages_stay_free_of_faults()
+    ensures { (old new : List File) → AreRead old → AreNamed old → AreRead new → AreNamed new → heads old ≡ heads new → reported (units_of old) ≡ None
+        → IsSoundOutside new → FunctionsAreSound old new → reported (units_of new) ≡ None }
+{
+    heads_tell_names();
+    carried_trees_tell_the_same();
+    faults_are_those_of_functions();
+    names_outside_of_functions_stay();
+    statements_are_counted_by_functions();
 }
