@@ -32,6 +32,7 @@ use Rattle.go_heads.specs.Heads.{File, IsRead, Head, head_of, heads, in_bodies}
 use Rattle.go_heads.specs.Objects.{units_of}
 use Rattle.go_heads.specs.Told.{Told, declares, asks, new_name, asked_name, told, placed, file_events, told_outside}
 use Rattle.go_heads.proofs.Public.{IsHeaded, file_headed, first_same, others_same, some_not_none, place_next, row_before}
+use Rattle.go_scopes_changes.proofs.Entries.{or_both, or_left, or_right}
 use Rattle.go_scopes_changes.proofs.Imports.{paths_stay}
 use Rattle.go_scopes_changes.proofs.Lookups.{failing_none}
 use Rattle.go_scopes_changes.proofs.Outsides.{CarriedTell, lines}
@@ -104,19 +105,6 @@ abbrev any_bad : Head → List Told → Bool
 any_bad h [] = false
 any_bad h (x ∷ xs) = is_bad h x || any_bad h xs
 
-or_both : (b c : Bool) → b ≡ false → c ≡ false → (b || c) ≡ false
-or_both true c e f = e
-or_both false c e f = f
-
-or_left : (b c : Bool) → (b || c) ≡ false → b ≡ false
-or_left true c e = e
-or_left false c e = refl
-
-or_right : (b c : Bool) → (b || c) ≡ false → c ≡ false
-or_right true true e = e
-or_right true false e = refl
-or_right false c e = e
-
 module _ (n : ℕ) (f : File) where
   abbrev p : ℕ → Bool
   p = in_bodies (parts f.tree)
@@ -144,7 +132,8 @@ module _ (n : ℕ) (f : File) where
   outer_same (block.Local i) x w e = absurd (true_false false e refl)
 
   -- of a declaration in front of others
-  one_bad : (d : Declaration) (es : List Event) (b : Bool) → is_package d.block ≡ b → IsKnown d → any_bad (head_of f) (listing (event.Declaration d ∷ es)) ≡ (is_outside d.entity d.block (word f.tokens d.name) || any_bad (head_of f) (listing es))
+  one_bad : (d : Declaration) (es : List Event) (b : Bool) → is_package d.block ≡ b → IsKnown d
+      → any_bad (head_of f) (listing (event.Declaration d ∷ es)) ≡ (is_outside d.entity d.block (word f.tokens d.name) || any_bad (head_of f) (listing es))
   one_bad d es true e g =
       ap (λ x. any_bad (head_of f) (map (placed m) (if x && not (p d.name) then declares (new_name d) ∷ told p es else told p es))) e
       ∙ ap (λ x. any_bad (head_of f) (map (placed m) (if true && not x then declares (new_name d) ∷ told p es else told p es))) (g.headed e)
@@ -242,7 +231,8 @@ declarations_stay tell n (a ∷ xs) (b ∷ bs) h k e f =
 
 -- ---- all rules on clauses
 
-pub clauses_stay : CarriedTell → TellTheSame → (old new : List File) → AreRead old → AreRead new → heads old ≡ heads new → clause_faults (units_of old) ≡ [] → missing_bodies (found (units_of new)) (units_of new) ≡ [] → clause_faults (units_of new) ≡ []
+pub clauses_stay : CarriedTell → TellTheSame → (old new : List File) → AreRead old → AreRead new → heads old ≡ heads new
+    → clause_faults (units_of old) ≡ [] → missing_bodies (found (units_of new)) (units_of new) ≡ [] → clause_faults (units_of new) ≡ []
 clauses_stay carried tell old new h k e f bodies =
     let us = units_of old in
     let vs = units_of new in

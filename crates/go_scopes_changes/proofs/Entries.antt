@@ -48,15 +48,15 @@ and_false : (b : Bool) → (b && false) ≡ false
 and_false true = refl
 and_false false = refl
 
-or_both : (b c : Bool) → b ≡ false → c ≡ false → (b || c) ≡ false
+pub or_both : (b c : Bool) → b ≡ false → c ≡ false → (b || c) ≡ false
 or_both true c e f = e
 or_both false c e f = f
 
-or_left : (b c : Bool) → (b || c) ≡ false → b ≡ false
+pub or_left : (b c : Bool) → (b || c) ≡ false → b ≡ false
 or_left true c e = e
 or_left false c e = refl
 
-or_right : (b c : Bool) → (b || c) ≡ false → c ≡ false
+pub or_right : (b c : Bool) → (b || c) ≡ false → c ≡ false
 or_right true true e = e
 or_right true false e = refl
 or_right false c e = e
@@ -201,7 +201,8 @@ once_stays old new h k e f =
     once_from [] (map (entry new) (package_objects new)) [] (shared es) tt (these_shared new es (declared_named new))
     (ap (any_second []) (entries_same old new h k e) ∙ once_to [] (map (entry old) (package_objects old)) [] (shared ds) tt (these_shared old ds (declared_named old)) f)
 
-pub seen_stays : (old new : List File) → AreRead old → AreRead new → heads old ≡ heads new → hidden_imports (has_import (units_of old)) (declarations (units_of old)) ≡ [] → hidden_imports (has_import (units_of new)) (declarations (units_of new)) ≡ []
+pub seen_stays : (old new : List File) → AreRead old → AreRead new → heads old ≡ heads new
+    → hidden_imports (has_import (units_of old)) (declarations (units_of old)) ≡ [] → hidden_imports (has_import (units_of new)) (declarations (units_of new)) ≡ []
 seen_stays old new h k e f =
     let ds : List Found = declarations (units_of old) in
     let es : List Found = declarations (units_of new) in

@@ -24,6 +24,7 @@ use Rattle.go_heads.specs.Told.{file_events}
 use Rattle.go_heads.proofs.Public.{AllSit, OthersSit, Every, file_sat, first_same, others_same, some_not_none}
 use Rattle.go_scopes_bodies.specs.Carried.{carried_event}
 use Rattle.go_scopes_bodies.specs.Outside.{no_functions, without_functions, outside_events}
+use Rattle.go_scopes_changes.proofs.Entries.{or_both, or_left, or_right}
 use Rattle.go_scopes_changes.proofs.Outsides.{CarriedTell}
 use Rattle.go_scopes_changes.proofs.Pairs.{moves, IsSame, all_same, same_events, none_if, if_none, left_none, right_none, none_both}
 use Rattle.go_scopes_changes.proofs.Paths.{paths, tree_paths, row_paths, events_paths, derives_none}
@@ -83,19 +84,6 @@ any_other (w ∷ ws) = not (is_fmt_value w) || any_other ws
 abbrev any_again : Bool → List (List ℕ) → Bool
 any_again b [] = false
 any_again b (w ∷ ws) = (b && is_fmt_value w) || any_again (b || is_fmt_value w) ws
-
-or_both : (b c : Bool) → b ≡ false → c ≡ false → (b || c) ≡ false
-or_both true c e f = e
-or_both false c e f = f
-
-or_left : (b c : Bool) → (b || c) ≡ false → b ≡ false
-or_left true c e = e
-or_left false c e = refl
-
-or_right : (b c : Bool) → (b || c) ≡ false → c ≡ false
-or_right true true e = e
-or_right true false e = refl
-or_right false c e = e
 
 module _ (n : ℕ) (l : TokenList) where
   other_to : (es : List Event) → other_imports n l es ≡ [] → any_other (texts_of l (paths es)) ≡ false

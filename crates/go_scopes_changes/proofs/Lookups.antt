@@ -11,7 +11,8 @@ use Rattle.go_tree.specs.declared.event.Event.TheVariants as event
 use Rattle.go_tree.specs.declared.event.Use.{Use}
 use Rattle.go_tree.specs.Failures.{Failure, fault, failing, place_if}
 use Rattle.go_tree.specs.Faults.{lookup_faults}
-use Rattle.go_tree.specs.Lookups.{Asked, asked, asked_in, asked_from, object_asked, lacks_meaning, undeclared, is_unknown, outside_names, is_import, is_other_member, outside_members, is_no_call, not_called, is_initial, initialisers, selected_of}
+use Rattle.go_tree.specs.Lookups.{Asked, asked, asked_in, asked_from, object_asked, lacks_meaning, undeclared, is_unknown, outside_names}
+use Rattle.go_tree.specs.Lookups.{is_import, is_other_member, outside_members, is_no_call, not_called, is_initial, initialisers, selected_of}
 use Rattle.go_tree.specs.Meanings.{Meaning, meanings}
 use Rattle.go_tree.specs.Objects.{object_by}
 use Rattle.go_tree.specs.Units.{Place, word, is_blank}

@@ -121,7 +121,8 @@ no_import n k s (block.Local i) = refl
 numbered_none : (n : ℕ) (w : List ℕ) (k : Numbers) (ds : List Found) → first_by (scopes.is_import n) w (numbered k ds) ≡ None
 numbered_none n w k [] = refl
 numbered_none n w k (d ∷ ds) =
-    uncovered (same_text d.name w) (scopes.is_import n (extent_of d)) (Some (record { name = d.name; extent = extent_of d; object = own_number k d.it.block; source = Some d })) (first_by (scopes.is_import n) w (numbered (numbers_behind k d.it.entity d.it.block) ds)) (no_import n d.file d.it.scope d.it.block)
+    uncovered (same_text d.name w) (scopes.is_import n (extent_of d)) (Some (record { name = d.name; extent = extent_of d; object = own_number k d.it.block; source = Some d }))
+    (first_by (scopes.is_import n) w (numbered (numbers_behind k d.it.entity d.it.block) ds)) (no_import n d.file d.it.scope d.it.block)
     ∙ numbered_none n w (numbers_behind k d.it.entity d.it.block) ds
 
 nothing_else : (o : Option Meaning) → otherwise o None ≡ o
@@ -148,7 +149,8 @@ module _ (all : List File) (w : List ℕ) where
   first_initial k (d ∷ ds) h = by d.it.block (λ k. first_initial k ds h.1)
     where
       in_package : (c : Bool) → ((k : Numbers) → is_initial (first_by scopes.is_package w (numbered k ds)) ≡ find_initial w (entries ds))
-          → is_initial (if c && true then Some (meaning_by d k block.Package) else first_by scopes.is_package w (numbered (behind_shared k (is_function d.it.entity)) ds)) ≡ (if c then is_entity_initial d.it.entity else find_initial w (entries ds))
+          → is_initial (if c && true then Some (meaning_by d k block.Package) else first_by scopes.is_package w (numbered (behind_shared k (is_function d.it.entity)) ds))
+          ≡ (if c then is_entity_initial d.it.entity else find_initial w (entries ds))
       in_package true g = refl
       in_package false g = g (behind_shared k (is_function d.it.entity))
 

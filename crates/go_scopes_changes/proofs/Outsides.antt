@@ -163,7 +163,8 @@ pub record IsOutsideTree (ts : List TokenKind) (t : Tree) : Type 0 where
   pub behind : carry (λ n. behind_one (token_from (in_bodies (parts t)) 0 (length ts)) (place_outside (in_bodies (parts t)) n)) (without_functions t) ≡ without_functions t
 
 module _ (ts : List TokenKind) where
-  by_parts : (j : ℕ) (ps : Trees) → j ≡ length ts → OthersSit ts (in_bodies ps) ps → ((v : ℕ → ℕ) → AllKeepNames v (no_functions ps)) → RowStays ts (in_bodies ps) (length ts) ps → Behind ts (in_bodies ps) (length ts) j → in_bodies ps 0 ≡ false
+  by_parts : (j : ℕ) (ps : Trees) → j ≡ length ts → OthersSit ts (in_bodies ps) ps → ((v : ℕ → ℕ) → AllKeepNames v (no_functions ps))
+      → RowStays ts (in_bodies ps) (length ts) ps → Behind ts (in_bodies ps) (length ts) j → in_bodies ps 0 ≡ false
       → IsOutsideTree ts (node kind.File 0 j ps)
   by_parts j ps e o k r b c =
       let z : ℕ = length ts in
