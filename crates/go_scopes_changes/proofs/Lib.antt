@@ -1,0 +1,12 @@
+mod Places
+mod Trees
+mod Outsides
+mod Pairs
+mod Members
+mod Entries
+mod Paths
+mod Imports
+mod Standing
+mod Meant
+mod Lookups
+mod Clauses
