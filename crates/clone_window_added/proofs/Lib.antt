@@ -4,3 +4,4 @@ mod Compared
 mod Classes
 mod Placed
 mod Kept
+mod Joined

@@ -136,7 +136,7 @@ module _ (g : Gap) where
   same_list (x ∷ xs) [] h = not_there x (sym (h zero))
   same_list (x ∷ xs) (y ∷ ys) h = ap (λ z. z ∷ ys) (some_there y x (h zero)) ∙ ap (λ zs. x ∷ zs) (same_list xs ys (λ k. h (suc k)))
 
-  body_same : (end n : ℕ) (f h : FuncContent) → FunctionAlong (function_moves g) (λ k. true) end n f h → body_in h ≡ renumbered g (body_in f)
+  pub body_same : (end n : ℕ) (f h : FuncContent) → FunctionAlong (function_moves g) (λ k. true) end n f h → body_in h ≡ renumbered g (body_in f)
   body_same end n f h a =
       ap (λ ls. let b : Body TypeTree = record { locals = ls; root = h.tree } in b) (same_list f.locals h.locals (λ k. a.locals k refl) ∙ sym (sorts_kept f.locals))
       ∙ ap (λ t. let b : Body TypeTree = record { locals = map (sort_mapped (λ t. t)) f.locals; root = t } in b) (a.tree ∙ tree_same f.tree)

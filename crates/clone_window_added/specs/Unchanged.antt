@@ -1,5 +1,5 @@
 -- Windows of functions that stay as they are in a package with one function more.
-use Rattle.std.specs.Prelude.{◌≡◌, ℕ, false, List, ◌∷◌, ◌++◌, map, Result, Ok, Err, slice_get}
+use Rattle.std.specs.Prelude.{◌≡◌, ℕ, false, List, ◌∷◌, ◌++◌, length, map, Option, Some, Result, Ok, Err, slice_get}
 use Rattle.go_types.specs.Relations.{Rights}
 use Rattle.go_types.specs.Trees.{TypeTree}
 use Rattle.go_types_relations.specs.Identity.{is_identical}
@@ -57,3 +57,21 @@ pub record KeepsWindows (g : Gap) (f : Body TypeTree) (front rest : List (Body T
       ≡ are_same is_identical (field_by rights) (field_by rights) (front ++ rest) (front ++ rest) w v
   pub classes : (rights : Rights) (ws : List Window) → classes (are_same is_identical (field_by rights) (field_by rights) (with_between g f front rest) (with_between g f front rest)) (map (window_beyond g) ws)
       ≡ map (map (window_beyond g)) (classes (are_same is_identical (field_by rights) (field_by rights) (front ++ rest) (front ++ rest)) ws)
+
+-- ---- all functions of a package
+
+-- The function declares no types, so that the right sides behind it are those in front of it.
+abbrev pub AddsNoRights : Package → Surroundings → ℕ → Specification → Type 0
+AddsNoRights p a number d = (rights : Rights) (b : Behind) → typed_function p a rights number d ≡ Ok b → b.rights ≡ rights
+
+-- The functions of a package, and those of the package with one more: this one stands at its number, and in front of it and behind it stand the
+-- functions that there were, under their new numbers. So their windows stay.
+pub record StaysBetween (g : Gap) (were are : List FuncContent) : Type 0 where
+  pub front : List (Body TypeTree)
+  pub rest : List (Body TypeTree)
+  pub function : FuncContent
+  pub was : map body_in were ≡ front ++ rest
+  pub is : map body_in are ≡ with_between g (body_in function) front rest
+  pub itself : slice_get are g.functions ≡ Some function
+  pub place : length front ≡ g.functions
+  pub windows : KeepsWindows g (body_in function) front rest

@@ -13,18 +13,24 @@ ghost use Rattle.clone_window.specs.Fields.{FieldNames};
 ghost use Rattle.clone_window.specs.Windows.{window_mass, windows};
 ghost use Rattle.clone_classes.specs.Classes.{classes};
 ghost use Rattle.go_exprs_rules.specs.Sorts.{Stands};
+ghost use Rattle.go_tree.specs.declared.context.Entity.TheVariants as entity;
+ghost use Rattle.go_heads_added.specs.Reported.{KeepsBytes};
+ghost use Rattle.go_package_defs.specs.Bodies.{Functions, functions_from, those_of};
 ghost use Rattle.go_heads_added.specs.Added.{Gap};
 ghost use Rattle.go_heads_added.specs.Kept.{KeepsPackage};
 ghost use Rattle.go_package_defs.specs.Answer.{Environment, package_answer, specifications};
 ghost use Rattle.go_package_defs.specs.Checked.{surroundings_of};
 ghost use Rattle.go_package_defs.specs.Sources.{Source, unit_of};
 ghost use Rattle.go_package_settled.specs.Read.{IsFaultless};
-ghost use Rattle.go_package_added.specs.Appended.{IsAppended, package_in};
+ghost use Rattle.go_package_added.specs.Appended.{IsAppended, function_specification, package_in};
 ghost use Rattle.go_package_added.specs.OneMore.{with_function};
 ghost use Rattle.clone_window_added.specs.Reworded.{IsRewording, StaysThere, reworded, window_in};
-ghost use Rattle.clone_window_added.specs.Unchanged.{KeepsBody, KeepsWindows};
+ghost use Rattle.clone_window_added.specs.Unchanged.{AddsNoRights, KeepsBody, KeepsWindows, StaysBetween};
 
-use go_package_added::laws::unchanged_functions_keep_their_types;
+use go_package_added::laws::{
+    functions_in_front_are_counted, unchanged_functions_keep_their_fault,
+    unchanged_functions_keep_their_types,
+};
 
 /// A function has the same windows with the same masses where its types have other words, the objects of the package other numbers, and it
 /// has another number itself.
@@ -58,4 +64,20 @@ pub fn unchanged_functions_keep_their_bodies()
         → AllByRecursion (KeepsBody (package_in ss) (package_in us) keeps.gap (surroundings_of (uses (map unit_of ss)) x) (surroundings_of (uses (map unit_of us)) (with_function keeps.gap.shared s x))) (specifications 0 ss) }
 {
     unchanged_functions_keep_their_types();
+}
+
+/// So the functions of the longer package are those that there were, under their new numbers, and the appended one between them, where all have
+/// their types in both packages and the appended one declares none: the windows of the others are the same ones, with the same masses, and make
+/// the same classes among themselves.
+pub fn windows_of_appended_packages_stay()
+    ensures { (k : ℕ) (ss us : List Source) (h : IsAppended k ss us) (keeps : KeepsPackage k h.count (suc h.first) (map unit_of ss) (map unit_of us)) → IsFaultless ss → IsFaultless us
+        → KeepsBytes h.count h.old_tokens h.new_tokens → (x : Environment) → package_answer ss (uses (map unit_of ss)) ≡ Ok x → (s : Stands) → let a = surroundings_of (uses (map unit_of ss)) x in
+        let b = surroundings_of (uses (map unit_of us)) (with_function keeps.gap.shared s x) in
+        AddsNoRights (package_in us) b keeps.gap.functions (function_specification k ss us h)
+        → (y : Functions) → functions_from (package_in ss) a x.rights 0 (those_of entity.Function (specifications 0 ss)) ≡ Ok y
+        → (z : Functions) → functions_from (package_in us) b x.rights 0 (those_of entity.Function (specifications 0 us)) ≡ Ok z
+        → StaysBetween keeps.gap y.functions z.functions }
+{
+    functions_in_front_are_counted();
+    unchanged_functions_keep_their_fault();
 }
