@@ -1,11 +1,10 @@
 -- The functions of a package, and the same functions with another one between.
-use Rattle.std.proofs.Common.{◌≡◌, ◌∙◌, ℕ, zero, suc, ◌+◌, ◌≤◌, List, [], ◌∷◌, ◌++◌, length, map, Option, Some, None, slice_get, ap, refl, sym, subst, arith}
+use Rattle.std.proofs.Common.{◌≡◌, ◌∙◌, ℕ, suc, ◌+◌, List, [], ◌∷◌, ◌++◌, length, map, Some, slice_get, ap, refl, sym, subst, arith}
 use Rattle.std.specs.Prelude.{Result, Ok, Err}
 use Rattle.std.proofs.lemmas.List.{map-append}
 use Rattle.go_base.specs.Gives.{◌>>=◌}
 use Rattle.go_tree.specs.Failures.{Failure}
 use Rattle.go_types.specs.Relations.{Rights}
-use Rattle.go_types.specs.Trees.{TypeTree}
 use Rattle.go_typed.specs.Contents.{FuncContent}
 use Rattle.go_exprs_rules.specs.declared.fault.TypeFault.{TypeFault}
 use Rattle.go_package_defs.specs.Bodies.{Behind, Functions, Surroundings, functions_from, placed, portion_of, typed_function, with_function}
@@ -14,7 +13,6 @@ use Rattle.go_package_defs.specs.Sources.{Package}
 use Rattle.go_heads_added.specs.Added.{Gap, beyond}
 use Rattle.go_package_added.specs.Reported.{FunctionsAlong, FunctionsStay, KeepsBodies}
 use Rattle.go_package_added.specs.Unchanged.{last_in}
-use Rattle.clone_window.specs.Bodies.{Body}
 use Rattle.clone_window_added.specs.Unchanged.{AddsNoRights, StaysBetween, body_in, renumbered}
 use Rattle.clone_window_added.proofs.Kept.{keeps_windows}
 use Rattle.clone_window_added.proofs.Placed.{body_same}

@@ -1,5 +1,5 @@
 -- Windows of functions that stay as they are in a package with one function more.
-use Rattle.std.specs.Prelude.{◌≡◌, ℕ, false, List, ◌∷◌, ◌++◌, length, map, Option, Some, Result, Ok, Err, slice_get}
+use Rattle.std.specs.Prelude.{◌≡◌, ℕ, false, List, ◌∷◌, ◌++◌, length, map, Some, Result, Ok, Err, slice_get}
 use Rattle.go_types.specs.Relations.{Rights}
 use Rattle.go_types.specs.Trees.{TypeTree}
 use Rattle.go_types_relations.specs.Identity.{is_identical}
