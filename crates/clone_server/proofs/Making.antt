@@ -64,7 +64,7 @@ one_call n = ap call_lines (behind n)
 
 -- ---- lengths
 
-front_chosen : (a b c d : Bool) → length (if a then codes "a = a + " else if b then codes "b = b ^ " else if c then codes "a = b - " else if d then codes "b = a & " else codes "a = b | ") ≡ 8
+front_chosen : (a b c d : Bool) → length (if a then codes "a = a + " else if b then codes "b = b ^ " else if c then codes "a = b - " else if d then codes "b = a & " else codes "b = a | ") ≡ 8
 front_chosen true b c d = refl
 front_chosen false true c d = refl
 front_chosen false false true d = refl

@@ -28,7 +28,7 @@ constant_of r = 10 + r / 5 % 90
 -- a statement of this kind, up to its constant
 abbrev pub statement_front : ℕ → List ℕ
 statement_front k =
-    if nat_eq k 0 then codes "a = a + " else if nat_eq k 1 then codes "b = b ^ " else if nat_eq k 2 then codes "a = b - " else if nat_eq k 3 then codes "b = a & " else codes "a = b | "
+    if nat_eq k 0 then codes "a = a + " else if nat_eq k 1 then codes "b = b ^ " else if nat_eq k 2 then codes "a = b - " else if nat_eq k 3 then codes "b = a & " else codes "b = a | "
 
 -- the line that a draw gives
 abbrev pub drawn_line : ℕ → List ℕ

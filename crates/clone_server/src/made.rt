@@ -46,7 +46,7 @@ fn push_line(alloc: Global, out: &mut Vec<u8>, drawn: u64) -> Result<(), AllocEr
         1 => format!(in alloc; "\tb = b ^ {constant}\n")?,
         2 => format!(in alloc; "\ta = b - {constant}\n")?,
         3 => format!(in alloc; "\tb = a & {constant}\n")?,
-        _ => format!(in alloc; "\ta = b | {constant}\n")?,
+        _ => format!(in alloc; "\tb = a | {constant}\n")?,
     };
     out.extend_from_slice(line.as_bytes())
 }
