@@ -19,7 +19,7 @@ use Rattle.go_eval.specs.Entry.{main_number}
 
 -- how deep calls may go
 abbrev pub depth : ℕ
-depth = 200
+depth = 100000
 
 -- ---- the answer
 

@@ -17,7 +17,7 @@ use go_typed::node::TypedNode;
 use std::alloc::Global;
 
 /// How deep calls may go; `main` runs at depth 1.
-pub const DEPTH: u32 = 200;
+pub const DEPTH: u32 = 100_000;
 
 /// Drops all tasks and values, so that something else can be run in the same state.
 fn reset(engine: &mut Engine<'_>)
