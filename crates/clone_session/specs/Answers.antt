@@ -1,10 +1,14 @@
 -- The replies to commands at the present package, by its texts alone.
-use Rattle.std.specs.Prelude.{◌≡◌, ◌&&◌, ℕ, Bool, nat_le, List}
+use Rattle.std.specs.Prelude.{◌≡◌, ◌&&◌, ℕ, Bool, nat_le, List, Result}
 use Rattle.go_base.specs.declared.bytes.FileText.{FileText}
 use Rattle.go_base.specs.declared.fault.Fault.{Fault}
+use Rattle.go_base.specs.Gives.{Gives}
 use Rattle.go_scopes.specs.Views.{failure_of}
 use Rattle.go_typed.specs.Contents.{Content}
-use Rattle.go_package_defs.specs.Checked.{names_of, IsChecked, IsReported}
+use Rattle.go_eval.specs.declared.outcome.Outcome.{Outcome}
+use Rattle.go_eval.specs.declared.outcome.RunError.{RunError}
+use Rattle.go_eval.specs.Runs.{outcome_view, refusal}
+use Rattle.go_package_defs.specs.Checked.{names_of, IsChecked, IsGood, IsReported}
 use Rattle.clone_script.specs.declared.command.Command.{Command}
 use Rattle.clone_script.specs.declared.command.Command.TheVariants as command
 use Rattle.clone_script.specs.Listing.{file_name}
@@ -58,6 +62,11 @@ IsNumbers bounds texts c reply = reply ≡ numbers_reply (numbers_in bounds text
 -- what came of its run with so many turns and this input
 abbrev pub IsRun : ℕ → List ℕ → OfPackage
 IsRun turns input c reply = reply ≡ run_words (run_in c input turns)
+
+-- The package of these files type-checks, and its run with this input and so many turns comes to this.
+pub record IsRunOf (texts : List FileText) (input : List ℕ) (turns : ℕ) (answer : Result Outcome RunError) : Type 0 where
+  pub good : IsGood texts
+  pub run : (c : Content) → IsChecked texts c → Gives outcome_view refusal answer (run_in c input turns)
 
 -- At these files a command gets this reply, and leaves these files. `save` and `quit` are not answered by the texts alone.
 abbrev pub Answers : Settings → List FileText → Command → List ℕ → List FileText → Type 0

@@ -1,35 +1,15 @@
 //! The reply to `run`.
 
-ghost use Rattle.std.specs.Prelude.{◌≡◌, IfOk, IsSome};
-ghost use Rattle.go_typed.specs.Contents.{Content as Whole};
-ghost use Rattle.go_package_defs.specs.Checked.{IsChecked};
-ghost use Rattle.clone_session.specs.Session.{IsGoodVerdict};
-ghost use Rattle.clone_replies.specs.ReplyContents.{run_in};
-ghost use Rattle.clone_replies.specs.Replies.{run_words};
+ghost use Rattle.std.specs.Prelude.{◌≡◌, IfOk};
 ghost use Rattle.clone_session.specs.Answers.{IsRun, PackageReply};
 
-use crate::answers::{fault_line, refresh};
+use crate::answers::fault_line;
 use crate::{Check, Session};
 use alpha_hash_defs::window_hash::WindowHash;
 use clone_replies::run_reply::reply_to;
 use go_base::{Bytes, Memory};
+use go_package_defs::CheckError;
 use std::alloc::Global;
-use std::marker::Brand;
-use std::sync::ledger::Blank;
-
-/// The reply to the run of a package that type-checks.
-fn run_reply<C: Check, H: WindowHash + Copy + Drop>(
-    alloc: Global,
-    session: &Session<C, H>,
-    turns: u64,
-    input: &[u8],
-) -> Result<Bytes, Memory>
-    requires { IsGoodVerdict session.now.verdict }
-    ensures { IfOk result (λ reply. (c : Whole) → IsChecked session.now.texts c → reply ≡ run_words (run_in c input.now turns)) }
-{
-    let answer = session.run(input, turns);
-    reply_to(alloc, &answer)
-}
 
 /// The reply to `run`.
 pub fn ran<C: Check, H: WindowHash + Copy + Drop>(
@@ -39,12 +19,11 @@ pub fn ran<C: Check, H: WindowHash + Copy + Drop>(
     input: &[u8],
 ) -> Result<Bytes, Memory>
     ensures reply { IfOk result (λ reply. PackageReply (IsRun turns input.now) session.old.texts reply) }
-    ensures kept { session.new ≡ record session.old { verdict = session.new.verdict } }
-    ensures known { IsSome session.old.verdict → session.new ≡ session.old }
+    ensures kept { session.new ≡ session.old }
 {
-    refresh::<C, H, Brand>(session, Blank::new(3))?;
-    match session.fault() {
-        Some(fault) => fault_line(alloc, session, &fault),
-        None => run_reply(alloc, session, turns, input),
+    match session.run_present(input, turns) {
+        Ok(answer) => reply_to(alloc, &answer),
+        Err(CheckError::Fault(fault)) => fault_line(alloc, session, &fault),
+        Err(CheckError::Memory) => Err(Memory),
     }
 }

@@ -24,6 +24,8 @@ ghost use Rattle.clone_session.specs.After.{after_command};
 ghost use Rattle.clone_session.specs.Extracting.{IsDone, IsNotDone};
 ghost use Rattle.extract_rewrite.specs.Shown.{extract_refusal, extracted_shown};
 ghost use Rattle.edit_apply.specs.Applied.{AreApplicable, applied};
+ghost use Rattle.go_package_defs.specs.Refusals.{check_refusal};
+ghost use Rattle.clone_session.specs.Answers.{IsRunOf};
 ghost use Rattle.clone_session.specs.Maximal.{LiesInOneOf};
 ghost use Rattle.clone_session.specs.Session.{IsGoodVerdict, fault_in, windows_entered};
 ghost use Rattle.clone_session.specs.declared.verdict.Verdict.TheVariants as verdict;
@@ -33,8 +35,8 @@ use crate::extract::taken;
 use crate::indexed::{classes_of, indexed};
 use crate::laws::listings_follow_from_the_texts;
 use crate::maximal::{covered_of, maximal_of, report_of};
-use crate::run::run_of;
-use crate::verdict::{Verdict, verdict_of};
+use crate::run::{run_of, run_under};
+use crate::verdict::{Verdict, judged};
 use crate::{answer, copy_under, file_at};
 use alpha_hash_defs::window_hash::WindowHash;
 use clone_classes::choose::Choice;
@@ -45,6 +47,7 @@ use extract_rewrite::error::ExtractError;
 use extract_rewrite::extracted::Extracted;
 use go_base::{Bytes, Fault, FileText, Memory, Name, Steps};
 use go_eval::outcome::{Outcome, RunError};
+use go_package_defs::CheckError;
 use go_typed::checked::Checked;
 use go_typed::window::Class;
 use std::alloc::Global;
@@ -53,7 +56,8 @@ use std::sync::ledger::Ledger;
 use window_index::index::Index;
 
 /// A session: the present texts of a package, and what the check says of them, where it was asked since they changed. Beside a
-/// package that type-checks stands the index of its windows.
+/// package that type-checks stands the index of its windows. What a check said for a run, which needs no index, is kept apart until
+/// windows are asked for.
 #[derive(Drop)]
 pub struct Session<C, H: WindowHash> {
     alloc: Global,
@@ -63,6 +67,7 @@ pub struct Session<C, H: WindowHash> {
     hash: H,
     verdict: Option<Verdict>,
     index: Option<Index<H>>,
+    judged: Option<Verdict>,
     check: PhantomData<C>,
 }
 
@@ -80,7 +85,7 @@ impl<C, H: WindowHash> Model for Session<C, H> {
     ghost view = { λ s. record { texts = s.texts; bounds = record { fewest = s.min; least = s.mass }; verdict = s.verdict } };
 
     ghost invariant = { λ s. AreBounds (record { fewest = s.min; least = s.mass }) × IfSome s.verdict (IsOf s.texts)
-        × IsIndexed H.number (record { fewest = s.min; least = s.mass }) s.verdict s.index };
+        × IsIndexed H.number (record { fewest = s.min; least = s.mass }) s.verdict s.index × IfSome s.judged (IsOf s.texts) };
 }
 
 impl<C: Check, H: WindowHash + Copy + Drop> Session<C, H> {
@@ -112,6 +117,7 @@ impl<C: Check, H: WindowHash + Copy + Drop> Session<C, H> {
             hash,
             verdict: None,
             index: None,
+            judged: None,
             check: PhantomData,
         })
     }
@@ -129,6 +135,7 @@ impl<C: Check, H: WindowHash + Copy + Drop> Session<C, H> {
         self.texts.edit(name, start, end, new)?;
         self.verdict = None;
         self.index = None;
+        self.judged = None;
         Ok(())
     }
 
@@ -145,6 +152,7 @@ impl<C: Check, H: WindowHash + Copy + Drop> Session<C, H> {
         self.texts.add(name, bytes)?;
         self.verdict = None;
         self.index = None;
+        self.judged = None;
         Ok(())
     }
 
@@ -162,11 +170,12 @@ impl<C: Check, H: WindowHash + Copy + Drop> Session<C, H> {
         self.texts.remove(name)?;
         self.verdict = None;
         self.index = None;
+        self.judged = None;
         Ok(())
     }
 
     /// Brings what is known up to the present texts: they are checked, and the windows of a package that type-checks are put into a
-    /// new index, each once. Where they were known already nothing is done.
+    /// new index, each once. Where they were known already nothing is done, and where a run had them checked that check stands.
     ///
     /// # Errors
     ///
@@ -181,7 +190,7 @@ impl<C: Check, H: WindowHash + Copy + Drop> Session<C, H> {
         if self.is_fresh() {
             return Ok(());
         }
-        let verdict = verdict_of::<C>(self.alloc, &self.texts)?;
+        let verdict = judged::<C>(self.alloc, &self.texts, self.judged.take())?;
         let index = indexed(self.alloc, &verdict, self.hash, self.min, self.mass, steps)?;
         self.verdict = Some(verdict);
         self.index = index;
@@ -305,6 +314,29 @@ impl<C: Check, H: WindowHash + Copy + Drop> Session<C, H> {
         run_of(self.alloc, self.checked(), input, turns)
     }
 
+    /// What the run of the present package with this input and so many turns comes to. The texts are checked where they weren't since
+    /// they changed; no window is looked for, so that what is known of windows stays as it was.
+    ///
+    /// # Errors
+    ///
+    /// The fault that is reported, exactly where the package doesn't type-check; or want of memory.
+    pub fn run_present(
+        &mut self,
+        input: &[u8],
+        turns: u64,
+    ) -> Result<Result<Outcome, RunError>, CheckError>
+        ensures answer { Meets check_refusal result (IsRunOf self.old.texts input.now turns) (λ fault. IsReported self.old.texts (failure_of fault)) }
+        ensures kept { self.new ≡ self.old }
+    {
+        if let Some(verdict) = &self.verdict {
+            return run_under(self.alloc, verdict, input, turns);
+        }
+        let verdict = judged::<C>(self.alloc, &self.texts, self.judged.take())?;
+        let answer = run_under(self.alloc, &verdict, input, turns);
+        self.judged = Some(verdict);
+        answer
+    }
+
     /// The numbers of the present package.
     ///
     /// # Errors
@@ -341,6 +373,7 @@ impl<C: Check, H: WindowHash + Copy + Drop> Session<C, H> {
         self.texts.apply(extracted.edits.as_slice())?;
         self.verdict = None; // It was that of the old texts.
         self.index = None;
+        self.judged = None;
         Ok(extracted)
     }
 

@@ -1,6 +1,6 @@
 //! What the check says of a package.
 
-ghost use Rattle.std.specs.Prelude.{IfOk};
+ghost use Rattle.std.specs.Prelude.{IfOk, IfSome};
 ghost use Rattle.clone_session.specs.Session.{IsOf};
 
 use crate::check::Check;
@@ -23,7 +23,7 @@ pub enum Verdict {
 /// # Errors
 ///
 /// Want of memory.
-pub fn verdict_of<C: Check>(alloc: Global, texts: &Texts) -> Result<Verdict, Memory>
+fn verdict_of<C: Check>(alloc: Global, texts: &Texts) -> Result<Verdict, Memory>
     ensures { IfOk result (IsOf texts.now) }
 {
     match C::check(alloc, texts.all()) {
@@ -33,5 +33,24 @@ pub fn verdict_of<C: Check>(alloc: Global, texts: &Texts) -> Result<Verdict, Mem
         }
         Err(CheckError::Fault(fault)) => Ok(Verdict::Faulty(fault)),
         Err(CheckError::Memory) => Err(Memory),
+    }
+}
+
+/// What the check says of the present texts; this, where it was asked already.
+///
+/// # Errors
+///
+/// Want of memory.
+pub fn judged<C: Check>(
+    alloc: Global,
+    texts: &Texts,
+    known: Option<Verdict>,
+) -> Result<Verdict, Memory>
+    requires { IfSome known (IsOf texts.now) }
+    ensures { IfOk result (IsOf texts.now) }
+{
+    match known {
+        Some(verdict) => Ok(verdict),
+        None => verdict_of::<C>(alloc, texts),
     }
 }

@@ -1,4 +1,0 @@
-use Rattle.clone_session.proofs.run_answers.ran.Given as goal
-
-abbrev pub ghosts-refresh : goal.ghosts-refresh
-ghosts-refresh g a = record { name = a.blank.name; parts = a.blank.parts }
