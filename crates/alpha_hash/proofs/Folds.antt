@@ -3,7 +3,7 @@ use Rattle.std.proofs.Common.{◌≡◌, ◌∙◌, ℕ, zero, suc, ◌+◌, ◌
 use Rattle.std.specs.Prelude.{◌⊎◌}
 use Rattle.std.proofs.lemmas.List.{map-append}
 use Rattle.std.proofs.lemmas.Option.{same_Some}
-use Rattle.std.proofs.Math.Nat.{add-mod-mod, mod-mod}
+use Rattle.std.proofs.Math.Nat.{add-mod-mod}
 use Rattle.alpha_hash_defs.specs.Hash.{mix, basis, fold, fold_from, term}
 use Rattle.alpha_hash_defs.specs.Numbers.{place_before, terms_from, words_hash}
 use Rattle.alpha_hash_defs.specs.Words.{Word, number, named, word_value}

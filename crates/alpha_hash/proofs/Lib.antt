@@ -2,4 +2,3 @@ pub mod Folds
 pub mod Declared
 pub mod Rows
 pub mod Runs
-pub mod Last

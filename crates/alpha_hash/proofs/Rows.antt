@@ -1,5 +1,5 @@
 -- The words of rows of parts, part by part.
-use Rattle.std.proofs.Common.{◌≡◌, ◌∙◌, ℕ, zero, suc, ◌+◌, ◌-◌, ◌<◌, ◌≤◌, Bool, true, false, List, [], ◌∷◌, ◌++◌, length, drop, get_or, Option, Some, None, refl, sym, ap, arith, append_assoc, drop-cons, length-append, length-drop}
+use Rattle.std.proofs.Common.{◌≡◌, ◌∙◌, ℕ, zero, suc, ◌+◌, ◌-◌, ◌<◌, ◌≤◌, Bool, true, false, List, [], ◌∷◌, ◌++◌, length, drop, take, get_or, Option, Some, None, refl, sym, ap, arith, append_assoc, length-append, length-drop}
 use Rattle.std.specs.Prelude.{if◌then◌else◌, slice_get, Result, Ok, Err, OnOk}
 use Rattle.std.proofs.lemmas.Bool.{and_parts}
 use Rattle.go_typed.specs.declared.node.TypedNode.{TypedNode, out-TypedNode}
@@ -13,6 +13,7 @@ use Rattle.clone_window.specs.Kinds.{outline}
 use Rattle.clone_window.specs.Masses.{is_hole, is_inside}
 use Rattle.clone_window.specs.Sameness.{compared}
 use Rattle.clone_window.proofs.Public.{view_out, views-at}
+use Rattle.alpha_hash_defs.specs.Naming.{Naming}
 use Rattle.alpha_hash_defs.specs.Words.{Word, number, all_declared, hole_words, is_defined, lengths_at, own_words, row_length, row_words, window_words, words}
 use Rattle.alpha_hash.specs.declared.names.Names.{Names}
 use Rattle.alpha_hash.specs.declared.word.Word as decl
@@ -101,27 +102,41 @@ statements-more n parts i all out out' part l e h oe =
     ∙ sym (append_assoc out (statement_words (naming n) part) (window_words (naming n) (views rest)))
     ∙ ap (λ ws. ws ++ window_words (naming n) (views rest)) (sym oe)
 
-parts-at : (parts : List (Option TypedNode)) (i : ℕ) (part : Option TypedNode) → i < length parts → part ≡ get_or parts i part → drop i parts ≡ part ∷ drop (i + 1) parts
-parts-at parts i part l e =
-    drop-cons parts i part l ∙ ap (λ x. x ∷ drop (suc i) parts) (sym e) ∙ (let n : suc i ≡ i + 1 = omega arith in ap (λ k. part ∷ drop k parts) n)
+ends-begin : (n : Naming ℕ) (m : ℕ) (part : Option TypedNode) (ps : List (Option TypedNode)) → ends_from n m (views (part ∷ ps)) ≡ m ∷ ends_from n (m + length (statement_words n part)) (views ps)
+ends-begin n m None ps = let e : m ≡ m + 0 = omega arith in ap (λ k. m ∷ ends_from n k (views ps)) e
+ends-begin n m (Some p) ps = refl
 
 -- how many words there are, whatever they show
 pub shown-count : (ws : List decl.Word) → length (shown ws) ≡ length ws
 shown-count [] = refl
 shown-count (w ∷ ws) = ap suc (shown-count ws)
 
+shown-taken : (k : ℕ) (ws : List decl.Word) → shown (take k ws) ≡ take k (shown ws)
+shown-taken zero [] = refl
+shown-taken zero (w ∷ ws) = refl
+shown-taken (suc k) [] = refl
+shown-taken (suc k) (w ∷ ws) = ap (λ vs. word_view w ∷ vs) (shown-taken k ws)
+
+-- what words at some places show
+pub shown-between : (a k : ℕ) (ws : List decl.Word) → shown (take k (drop a ws)) ≡ take k (drop a (shown ws))
+shown-between zero k [] = shown-taken k []
+shown-between zero k (w ∷ ws) = shown-taken k (w ∷ ws)
+shown-between (suc a) k [] = shown-taken k []
+shown-between (suc a) k (w ∷ ws) = shown-between a k ws
+
 pub ends-more : (n : Names) (parts : List (Option TypedNode)) (i : ℕ) (all ends ends' : List ℕ) (out out' : List decl.Word) (part : Option TypedNode) → i < length parts → part ≡ get_or parts i part →
-    all ≡ ends ++ ends_from (naming n) (length out) (drop i parts) → ends' ≡ ends ++ length out ∷ [] → shown out' ≡ shown out ++ statement_words (naming n) part →
-    all ≡ ends' ++ ends_from (naming n) (length out') (drop (i + 1) parts)
+    all ≡ ends ++ ends_from (naming n) (length out) (views (drop i parts)) → ends' ≡ ends ++ length out ∷ [] → shown out' ≡ shown out ++ statement_words (naming n) part →
+    all ≡ ends' ++ ends_from (naming n) (length out') (views (drop (i + 1) parts))
 ends-more n parts i all ends ends' out out' part l e h ee oe =
     let rest = drop (i + 1) parts in
     let long : length out + length (statement_words (naming n) part) ≡ length out' =
     omega (arith, shown-count out, shown-count out', ap length oe, length-append (shown out) (statement_words (naming n) part)) in
     h
-    ∙ ap (λ ps. ends ++ ends_from (naming n) (length out) ps) (parts-at parts i part l e)
-    ∙ sym (append_assoc ends (length out ∷ []) (ends_from (naming n) (length out + length (statement_words (naming n) part)) rest))
-    ∙ ap (λ es. es ++ ends_from (naming n) (length out + length (statement_words (naming n) part)) rest) (sym ee)
-    ∙ ap (λ m. ends' ++ ends_from (naming n) m rest) long
+    ∙ ap (λ ps. ends ++ ends_from (naming n) (length out) ps) (views-at parts i part l e)
+    ∙ ap (λ es. ends ++ es) (ends-begin (naming n) (length out) part rest)
+    ∙ sym (append_assoc ends (length out ∷ []) (ends_from (naming n) (length out + length (statement_words (naming n) part)) (views rest)))
+    ∙ ap (λ es. es ++ ends_from (naming n) (length out + length (statement_words (naming n) part)) (views rest)) (sym ee)
+    ∙ ap (λ m. ends' ++ ends_from (naming n) m (views rest)) long
 
 -- ---- a node by its fields
 

@@ -1,17 +1,17 @@
 //! Windows with their numbers.
 
-ghost use Rattle.std.specs.Prelude.{◌≡◌, ◌++◌, ◌∷◌, [], true, IfOk, OnOk};
+ghost use Rattle.std.specs.Prelude.{◌≡◌, ◌++◌, ◌∷◌, [], IfOk, OnOk};
 ghost use Rattle.alpha_hash_defs.specs.Packages.{window_hash};
 ghost use Rattle.alpha_hash_defs.specs.Sharing.{numbered};
-ghost use Rattle.alpha_hash.specs.Starts.{IsStart, covers};
+ghost use Rattle.alpha_hash.specs.Starts.{AreStarts};
 
-use crate::start::Start;
+use crate::starts::Starts;
 use go_base::Memory;
 use go_typed::checked::Checked;
 use go_typed::window::Window;
 use std::alloc::Global;
 
-/// Windows with their numbers. Those from one start stand together, and are numbered in one pass.
+/// Windows of a function with their numbers. The words of each statement list are taken once.
 ///
 /// # Errors
 ///
@@ -24,41 +24,26 @@ pub fn numbers_of(
     ensures { IfOk result (λ v. v.items ≡ numbered (window_hash checked.now) windows.now) }
 {
     let mut out = Vec::with_capacity(alloc, windows.len())?;
-    let Some(first) = windows.first() else {
-        return Ok(out);
-    };
-    let mut start = Start::of(alloc, checked, *first)?;
+    let mut starts = Starts::new(alloc);
     for window in windows {
-        start = push_numbered(alloc, checked, start, *window, &mut out)?;
+        push_numbered(alloc, checked, *window, &mut starts, &mut out)?;
     }
     Ok(out)
 }
 
-/// Puts a window with its number behind the others, and tells where it begins.
+/// Puts a window with its number behind the others.
 fn push_numbered(
     alloc: Global,
     checked: &Checked,
-    start: Start,
     window: Window,
+    starts: &mut Starts,
     out: &mut Vec<(Window, u64)>,
-) -> Result<Start, Memory>
-    requires { IsStart checked.now start }
-    ensures start { IfOk result (IsStart checked.now) }
+) -> Result<(), Memory>
+    requires { AreStarts checked.now starts.old }
+    ensures starts { OnOk result (AreStarts checked.now starts.new) }
     ensures pushed { OnOk result (out.new.items ≡ out.old.items ++ (window, window_hash checked.now window) ∷ []) }
 {
-    let start = reached(alloc, checked, start, window)?;
-    out.push((window, start.number(window.count)))?;
-    Ok(start)
-}
-
-/// The start of a window: this one, if it is the same.
-fn reached(alloc: Global, checked: &Checked, start: Start, window: Window) -> Result<Start, Memory>
-    requires { IsStart checked.now start }
-    ensures start { IfOk result (IsStart checked.now) }
-    ensures covers { IfOk result (λ s. covers s window ≡ true) }
-{
-    if start.covers(window) {
-        return Ok(start);
-    }
-    Start::of(alloc, checked, window)
+    let number = starts.number(alloc, checked, window)?;
+    out.push((window, number))?;
+    Ok(())
 }

@@ -23,7 +23,7 @@ pub fn numbers_of(alloc: Global, words: &[Word]) -> Result<Vec<u64>, AllocError>
     let mut places = HashMap::new(alloc);
     let mut fold = BASIS;
     let mut terms: u64 = 0;
-    let mut numbers = Vec::new(alloc);
+    let mut numbers = Vec::with_capacity(alloc, words.len() + 1)?;
     numbers.push(mix(fold, terms))?;
     for index in 0..words.len() {
         let word = words[index];

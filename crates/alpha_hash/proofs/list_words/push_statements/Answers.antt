@@ -4,7 +4,7 @@ use Rattle.alpha_hash_defs.specs.Words.{window_words}
 use Rattle.alpha_hash.specs.Shown.{naming, shown}
 use Rattle.alpha_hash.specs.Starts.{ends_from}
 use Rattle.alpha_hash.proofs.Rows.{ends-more, row-known, statements-more}
-use Rattle.alpha_hash.proofs.start.push_statements.Goals as goal
+use Rattle.alpha_hash.proofs.list_words.push_statements.Goals as goal
 
 pub push_if_there-requires-clause-statement : goal.push_if_there-requires-clause-statement
 push_if_there-requires-clause-statement c =
@@ -16,7 +16,7 @@ loop-statement-preserved c =
     let i = c.loop-statement.statement-index in (
       statements-more c.args.names parts i (shown c.args.words.now.items ++ window_words (naming c.args.names) (views parts)) (shown c.loop-statement.words.items) (shown c.push_if_there.new.words.items)
           c.statement-item.result c.loop-statement-test.true c.statement-item.is c.loop-statement.invariant.0 c.in_ok-push_if_there.ensures,
-      ends-more c.args.names parts i (c.args.ends.now.items ++ ends_from (naming c.args.names) (length c.args.words.now.items) parts) c.loop-statement.ends.items c.push.new.self.items
+      ends-more c.args.names parts i (c.args.ends.now.items ++ ends_from (naming c.args.names) (length c.args.words.now.items) (views parts)) c.loop-statement.ends.items c.push.new.self.items
           c.loop-statement.words.items c.push_if_there.new.words.items c.statement-item.result c.loop-statement-test.true c.statement-item.is c.loop-statement.invariant.1
           (c.in_ok-push.ensures.items ∙ (let e : c.len.result ≡ length c.loop-statement.words.items = omega (arith, c.len.ensures, c.loop-statement.words.ok) in ap (λ m. c.loop-statement.ends.items ++ m ∷ []) e)) c.in_ok-push_if_there.ensures,
       (row-known c.args.names parts i c.statement-item.result c.loop-statement-test.true c.statement-item.is c.loop-statement.invariant.2).1,
