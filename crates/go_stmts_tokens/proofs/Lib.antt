@@ -1,0 +1,6 @@
+mod Lying
+mod Trees
+mod Typings
+mod Layouts
+mod Readings
+pub mod Public
