@@ -10,8 +10,7 @@ use Rattle.go_typed.specs.Trees.{Label, Typed, typed, Typeds, none, more, skip}
 use Rattle.clone_window.specs.Masses.{is_constant_expression, is_hole, is_inside}
 use Rattle.clone_window.specs.Sameness.{locals, all_locals}
 use Rattle.param_choose.specs.Choosing.{is_needed}
-use Rattle.param_choose.specs.Locals.{new_local, new_in, names_among, names_in, names_specified, holds_names, holds_specifications, names_of, names_declared, declared_names, has}
-use Rattle.param_choose.specs.Members.{Member}
+use Rattle.param_choose.specs.Locals.{new_in, names_among, names_specified, holds_names, holds_specifications, names_of, names_declared, declared_names, has}
 use Rattle.extract_texts_named.specs.Named.{ArePlain, SpecificationsArePlain, DeclaredLocalsAreNamed}
 use Rattle.extract_texts_named.proofs.Within.{has_own, Within, within_back, within_front, within_both, where_have}
 

@@ -9,7 +9,7 @@ use Rattle.go_typed.specs.Trees.{Sort, Value, Typeds}
 use Rattle.go_typed.specs.Trees as trees
 use Rattle.go_typed.specs.Windows.{use_at, uses_from}
 use Rattle.clone_window.specs.Sameness.{all_locals, sort_at, standing}
-use Rattle.param_choose.specs.Choosing.{choice, declared_results}
+use Rattle.param_choose.specs.Choosing.{declared_results}
 use Rattle.param_choose.specs.Locals.{Variable, variable_of, variable_at, variables_where, has, once, each_local, is_outside, free_locals}
 use Rattle.param_choose.specs.Members.{Member, uses_within}
 use Rattle.escape_check.specs.Places.{Sources, Place, token_place}
