@@ -11,6 +11,7 @@ use Rattle.go_grammar.specs.declared.kind.Category.TheVariants as category
 use Rattle.go_grammar.specs.declared.kind.Kind.{Kind}
 use Rattle.go_grammar.specs.declared.kind.Kind.TheVariants as kind
 use Rattle.go_grammar.specs.declared.kind.Place.TheVariants as place
+use Rattle.go_grammar.specs.declared.kind.Sort.TheVariants as sort
 use Rattle.go_grammar.specs.Grammar.{IsFile, rule, Derives, ends_named}
 use Rattle.go_grammar.specs.Trees.{Tree, node, Trees, none, more, skip, kind_of, first, last, parts}
 use Rattle.go_rewriting.proofs.Public.{tree_order, derives_ordered}
@@ -93,6 +94,7 @@ module _ (hidden : Bool) (n : ℕ) (l : TokenList) where
 
   own_left : (c : Context) (k : Kind) (i j : ℕ) (ps : Trees) → is_top k ≡ false → left (own_events c k i j ps) ≡ []
   own_left c kind.FunctionDeclaration i j ps e = absurd (true_false true refl e)
+  own_left c (kind.Specification sort.Type) i j ps e = refl
   own_left c kind.DeclaredName i j ps e = name_left c i c.role
   own_left c kind.Name i j ps e = name_left c i c.role
   own_left c kind.Switch i j ps e = second_left false ps

@@ -10,7 +10,7 @@ use Rattle.go_heads.specs.Functions.{Function, Alone, AreRead, KeepsFunctions, a
 use Rattle.go_heads.specs.Heads.{File, without_body}
 use Rattle.go_heads.specs.Locals.{HaveNames, AreNamed}
 use Rattle.go_heads.specs.Names.{text_there}
-use Rattle.go_heads.proofs.Public.{IsThere, is_there, texts_at, texts_length}
+use Rattle.go_heads.proofs.Public.{IsThere, is_there, same_some, texts_at}
 
 -- ---- names
 
@@ -50,10 +50,7 @@ each_from Q (x ∷ xs) h = (h zero x refl, each_from Q xs (λ k. h (suc k)))
 
 pub each_at : {A : Type 0} (Q : A → Type 0) (xs : List A) → AllByRecursion Q xs → (k : ℕ) (x : A) → slice_get xs k ≡ Some x → Q x
 each_at Q [] h k x e = absurd cc
-each_at Q (y ∷ ys) h zero x e = subst Q (same y x e) h.0
-  where
-    same : (a b : A) → Some a ≡ Some b → a ≡ b
-    same a b s = cc
+each_at Q (y ∷ ys) h zero x e = subst Q (same_some y x e) h.0
 each_at Q (y ∷ ys) h (suc k) x e = each_at Q ys h.1 k x e
 
 -- ---- packages
