@@ -24,6 +24,7 @@ use Rattle.go_tree.specs.Declarations.{Found, found, found_in, found_from}
 use Rattle.go_base.specs.declared.fault.FaultCode.TheVariants as code
 use Rattle.go_tree.specs.Failures.{Failure, failing, place_if}
 use Rattle.go_tree.specs.Faults.{clause_faults}
+use Rattle.go_tree.specs.Units as names
 use Rattle.go_tree.specs.Units.{word, is_blank, bytes_at}
 use Rattle.go_scopes_events.specs.Orders.{BeginsIn, EachDeclared, IsFollowed}
 use Rattle.go_scopes_events.proofs.Public.{derives_laid, derives_layered, each_between, events_order, file_follows, true_false}
@@ -249,3 +250,9 @@ clauses_stay carried tell old new h k e f bodies =
     ∙ ap (λ z. failing code.Outside z ++ failing code.Outside (missing_bodies (found vs) vs))
     (declarations_stay tell 0 old new h k e (failing_none code.Outside (outside_declarations (found us)) (right_none (a ++ b) c three)))
     ∙ ap (failing code.Outside) bodies
+
+-- no function lacks its body where none of these rules fails
+pub no_missing : (us : List names.Unit) → clause_faults us ≡ [] → missing_bodies (found us) us ≡ []
+no_missing us f =
+    failing_none code.Outside (missing_bodies (found us) us)
+    (right_none (failing code.PackageName (package_names us) ++ failing code.Outside (imports us) ++ failing code.Outside (outside_declarations (found us))) (failing code.Outside (missing_bodies (found us) us)) f)

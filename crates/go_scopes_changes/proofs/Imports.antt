@@ -57,7 +57,7 @@ file_paths f h =
 
 -- ---- the texts of paths
 
-abbrev texts_of : TokenList → List ℕ → List (List ℕ)
+abbrev pub texts_of : TokenList → List ℕ → List (List ℕ)
 texts_of l ns = map (word l) ns
 
 moved_texts : (a b : File) (es : List Event) → Every (IsSame a b) es → texts_of b.tokens (paths (map (carried_event (moves a b)) es)) ≡ texts_of a.tokens (paths es)
@@ -71,7 +71,7 @@ moved_texts a b (event.Statement i j ∷ es) h = moved_texts a b es h.1
 moved_texts a b (event.Misplaced i j ∷ es) h = moved_texts a b es h.1
 moved_texts a b (event.SecondDefault i ∷ es) h = moved_texts a b es h.1
 
-same_texts : CarriedTell → (a b : File) → IsRead a → IsRead b → head_of a ≡ head_of b → texts_of b.tokens (paths (file_events b)) ≡ texts_of a.tokens (paths (file_events a))
+pub same_texts : CarriedTell → (a b : File) → IsRead a → IsRead b → head_of a ≡ head_of b → texts_of b.tokens (paths (file_events b)) ≡ texts_of a.tokens (paths (file_events a))
 same_texts tell a b g h e =
     ap (texts_of b.tokens) (file_paths b h ∙ ap paths (same_events tell a b g h e)) ∙ moved_texts a b (outside_events a) (all_same tell a b g h e) ∙ ap (texts_of a.tokens) (sym (file_paths a g))
 

@@ -10,3 +10,11 @@ mod Standing
 mod Meant
 mod Lookups
 mod Clauses
+mod Named
+mod Used
+mod Sites
+mod Sited
+mod HeadPlaces
+mod HeadNeeds
+mod Cycles
+mod Missing

@@ -1,6 +1,6 @@
 -- Rules on the names that are looked up outside of functions, in packages with equal heads.
 use Rattle.std.proofs.Common.{◌≡◌, ◌∙◌, ℕ, suc, ◌+◌, Bool, true, false, List, [], ◌∷◌, ◌++◌, map, refl, sym, ap, subst, arith}
-use Rattle.std.specs.Prelude.{if◌then◌else◌, ◌&&◌}
+use Rattle.std.specs.Prelude.{if◌then◌else◌, ◌&&◌, ◌||◌, nat_eq}
 use Rattle.go_base.specs.declared.fault.FaultCode.{FaultCode}
 use Rattle.go_base.specs.declared.fault.FaultCode.TheVariants as code
 use Rattle.go_grammar.specs.Trees.{parts}
@@ -12,7 +12,7 @@ use Rattle.go_tree.specs.declared.event.Use.{Use}
 use Rattle.go_tree.specs.Failures.{Failure, fault, failing, place_if}
 use Rattle.go_tree.specs.Faults.{lookup_faults}
 use Rattle.go_tree.specs.Lookups.{Asked, asked, asked_in, asked_from, object_asked, lacks_meaning, undeclared, is_unknown, outside_names}
-use Rattle.go_tree.specs.Lookups.{is_import, is_other_member, outside_members, is_no_call, not_called, is_initial, initialisers, selected_of}
+use Rattle.go_tree.specs.Lookups.{is_import, is_other_member, outside_members, is_no_call, not_called, is_initial, initialisers, selected_of, uses_import}
 use Rattle.go_tree.specs.Meanings.{Meaning, meanings}
 use Rattle.go_tree.specs.Objects.{object_by}
 use Rattle.go_tree.specs.Units.{Place, word, is_blank}
@@ -31,6 +31,7 @@ use Rattle.go_scopes_changes.proofs.Standing.{Stands, all_out}
 
 -- The rules see the same of both.
 pub record Alike (x y : Asked) : Type 0 where
+  pub file : y.file ≡ x.file
   pub constant : y.it.constant ≡ x.it.constant
   pub initial : y.it.initial ≡ x.it.initial
   pub name : y.name ≡ x.name
@@ -111,6 +112,16 @@ lookups_alike xs ys h e =
     ∙ ap (λ z. failing code.NotAValue z ++ failing code.Initialiser (initialisers ys)) (calls_stay xs ys h (failing_none code.NotAValue (not_called xs) (right_none ((a ++ b) ++ c) d four)))
     ∙ ap (failing code.Initialiser) (values_stay xs ys h (failing_none code.Initialiser (initialisers xs) (right_none (((a ++ b) ++ c) ++ d) f e)))
 
+-- whether the import of a file is used
+uses_same : (n : ℕ) (xs ys : List Asked) → AreAlike xs ys → uses_import n ys ≡ uses_import n xs
+uses_same n [] [] h = refl
+uses_same n [] (y ∷ ys) h = absurd h
+uses_same n (x ∷ xs) [] h = absurd h
+uses_same n (x ∷ xs) (y ∷ ys) h =
+    ap (λ i. (nat_eq i n && is_import (object_asked y)) || uses_import n ys) h.0.file
+    ∙ ap (λ o. (nat_eq x.file n && is_import o) || uses_import n ys) h.0.object
+    ∙ ap (λ b. (nat_eq x.file n && is_import (object_asked x)) || b) (uses_same n xs ys h.1)
+
 -- ---- what is looked up
 
 other_same : (v : ℕ → ℕ) (r : Role) (x y : List ℕ) → y ≡ x → is_other_member (carried_role v r) y ≡ is_other_member r x
@@ -140,6 +151,7 @@ module _ (old new : List File) (h : AreRead old) (k : AreRead new) (e : heads ol
         let out : StandsOutside old n u.name = ap (λ (f : File). in_bodies (parts f.tree) u.name) here ∙ x in
         let off : StandsOutside new n (v u.name) = ap (λ (f : File). in_bodies (parts f.tree) (v u.name)) there ∙ y in
         record {
+          file = refl;
           constant = refl;
           initial = refl;
           name = s.1;
@@ -183,7 +195,12 @@ module _ (old new : List File) (h : AreRead old) (k : AreRead new) (e : heads ol
         (asks_alike n a b f.0 g.0 (outside_events a) (all_same tell a b r.0 s.0 one) (all_out tell a r.0) (subst (Every (Stands b)) told (all_out tell b s.0))))
         (files_alike (suc n) xs bs r.1 s.1 (others_same (head_of a) (head_of b) (heads xs) (heads bs) q) f.1 g.1)
 
+    asked_alike : AreAlike (outside_asked old) (outside_asked new)
+    asked_alike =
+        files_alike 0 old new h k e (stand_from old 0 old (λ x. let z : 0 + x ≡ x = omega arith in ap (file_in old) z)) (stand_from new 0 new (λ x. let z : 0 + x ≡ x = omega arith in ap (file_in new) z))
+
     pub lookups_stay : lookup_faults (outside_asked old) ≡ [] → lookup_faults (outside_asked new) ≡ []
-    lookups_stay f =
-        lookups_alike (outside_asked old) (outside_asked new)
-        (files_alike 0 old new h k e (stand_from old 0 old (λ x. let z : 0 + x ≡ x = omega arith in ap (file_in old) z)) (stand_from new 0 new (λ x. let z : 0 + x ≡ x = omega arith in ap (file_in new) z))) f
+    lookups_stay f = lookups_alike (outside_asked old) (outside_asked new) asked_alike f
+
+    pub uses_stay : (n : ℕ) → uses_import n (outside_asked new) ≡ uses_import n (outside_asked old)
+    uses_stay n = uses_same n (outside_asked old) (outside_asked new) asked_alike

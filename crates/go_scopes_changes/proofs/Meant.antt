@@ -93,7 +93,7 @@ meaning_outer fs h n t w out =
 
 -- ---- the first meaning of a name
 
-first_append : (f : Extent → Bool) (w : List ℕ) (xs ys : List Meaning) → first_by f w (xs ++ ys) ≡ otherwise (first_by f w xs) (first_by f w ys)
+pub first_append : (f : Extent → Bool) (w : List ℕ) (xs ys : List Meaning) → first_by f w (xs ++ ys) ≡ otherwise (first_by f w xs) (first_by f w ys)
 first_append f w [] ys = refl
 first_append f w (x ∷ xs) ys = by (same_text x.name w && f x.extent) (first_append f w xs ys)
   where
@@ -102,11 +102,11 @@ first_append f w (x ∷ xs) ys = by (same_text x.name w && f x.extent) (first_ap
     by true e = refl
     by false e = e
 
-never : (b : Bool) (x y : Option Meaning) → (if b && false then x else y) ≡ y
+pub never : (b : Bool) (x y : Option Meaning) → (if b && false then x else y) ≡ y
 never true x y = refl
 never false x y = refl
 
-imported_none : (w : List ℕ) (k : ℕ) (us : List names.Unit) → first_by scopes.is_package w (imported_from k us) ≡ None
+pub imported_none : (w : List ℕ) (k : ℕ) (us : List names.Unit) → first_by scopes.is_package w (imported_from k us) ≡ None
 imported_none w k [] = refl
 imported_none w k (u ∷ us) = by (imports_fmt u.tokens u.events) (imported_none w (suc k) us)
   where
@@ -118,14 +118,14 @@ no_import : (n k : ℕ) (s : Scope) (b : Block) → scopes.is_import n (extent_b
 no_import n k s block.Package = refl
 no_import n k s (block.Local i) = refl
 
-numbered_none : (n : ℕ) (w : List ℕ) (k : Numbers) (ds : List Found) → first_by (scopes.is_import n) w (numbered k ds) ≡ None
+pub numbered_none : (n : ℕ) (w : List ℕ) (k : Numbers) (ds : List Found) → first_by (scopes.is_import n) w (numbered k ds) ≡ None
 numbered_none n w k [] = refl
 numbered_none n w k (d ∷ ds) =
     uncovered (same_text d.name w) (scopes.is_import n (extent_of d)) (Some (record { name = d.name; extent = extent_of d; object = own_number k d.it.block; source = Some d }))
     (first_by (scopes.is_import n) w (numbered (numbers_behind k d.it.entity d.it.block) ds)) (no_import n d.file d.it.scope d.it.block)
     ∙ numbered_none n w (numbers_behind k d.it.entity d.it.block) ds
 
-nothing_else : (o : Option Meaning) → otherwise o None ≡ o
+pub nothing_else : (o : Option Meaning) → otherwise o None ≡ o
 nothing_else None = refl
 nothing_else (Some m) = refl
 

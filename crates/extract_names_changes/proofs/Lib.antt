@@ -1,0 +1,4 @@
+mod Numbers
+mod Sound
+mod Imported
+mod Bodied
