@@ -1,7 +1,7 @@
 -- An import that a function names is used; it stays named in what is left of a function, and in a copy.
-use Rattle.std.proofs.Common.{◌≡◌, ◌∙◌, ℕ, zero, suc, ◌+◌, ◌<◌, ◌≤◌, inl, inr, ◌⊎◌, Bool, true, false, List, [], ◌∷◌, ◌++◌, map, length, Option, Some, None, refl, sym, ap, subst, arith}
+use Rattle.std.proofs.Common.{◌≡◌, ◌∙◌, ℕ, ◌+◌, ◌<◌, ◌≤◌, inl, inr, ◌⊎◌, Bool, true, false, List, [], ◌∷◌, ◌++◌, map, length, Option, Some, None, refl, sym, ap, subst, arith}
 use Rattle.std.specs.Option.{option_map}
-use Rattle.std.specs.Prelude.{if◌then◌else◌, ◌&&◌, ◌||◌, nat_eq, nat_le}
+use Rattle.std.specs.Prelude.{if◌then◌else◌, ◌||◌, nat_eq, nat_le}
 use Rattle.std.proofs.lemmas.Bool.Decides.{nat_tests}
 use Rattle.go_grammar.specs.Trees.{Tree}
 use Rattle.go_rewriting.specs.Places.{Patch, become}
@@ -14,7 +14,7 @@ use Rattle.go_tree.specs.declared.object.Object.{Object}
 use Rattle.go_tree.specs.declared.object.Object.TheVariants as object
 use Rattle.go_tree.specs.Contexts.{file_context}
 use Rattle.go_tree.specs.Events.{events}
-use Rattle.go_tree.specs.Lookups.{Asked, is_import, object_asked, uses_import}
+use Rattle.go_tree.specs.Lookups.{is_import, object_asked, uses_import}
 use Rattle.go_tree.specs.Meanings.{Meaning}
 use Rattle.go_tree.specs.Objects.{is_declared_at, object_by}
 use Rattle.go_tree.specs.Units.{is_blank}
@@ -25,10 +25,10 @@ use Rattle.go_heads.specs.Names.{own_text}
 use Rattle.go_scopes_bodies.specs.Carried.{carried_event, carried_use}
 use Rattle.go_scopes_bodies.specs.Faults.{asked_among, outer_meaning, own_ask, own_asked, own_faults}
 use Rattle.go_scopes_bodies.specs.Meant.{Meant, own, outside, Outer, or_outside, own_declared, own_local, own_meanings, own_meant, own_object, told_object}
-use Rattle.extract_names.specs.Copies.{AllCopied, Copy, CopiesNames, EventCopied, HoleGoes, IsCopy, IsKept, Replaced, StandsBehind, StandsInFront, StaysOutside, copied_event, copied_number, told_copied}
+use Rattle.extract_names.specs.Copies.{AllCopied, Copy, HoleGoes, IsCopy, IsKept, Replaced, StandsBehind, StandsInFront, StaysOutside, copied_event, copied_number, told_copied}
 use Rattle.extract_names.specs.Gaps.{Among, Gap, IsInRun, Stays, moved_by}
 use Rattle.extract_names.specs.Pieces.{Piece, ReplacesRuns, TellsPieces, gap, pieces, stays, told_before, told_behind}
-use Rattle.extract_names.specs.Sites.{AllStand, EachEvent, EventGoes, IsSite, KeepsNames, new_number, renumbered}
+use Rattle.extract_names.specs.Sites.{AllStand, EachEvent, EventGoes, IsSite, new_number, renumbered}
 use Rattle.extract_names_changes.proofs.Sound.{CopiesAreFaultless, SitesAreFaultless}
 
 -- ---- a name that means an import

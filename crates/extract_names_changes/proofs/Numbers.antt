@@ -3,7 +3,7 @@ use Rattle.std.proofs.Common.{◌≡◌, ◌∙◌, ℕ, zero, suc, List, [], �
 use Rattle.std.specs.Prelude.{slice_get}
 use Rattle.go_grammar.specs.Trees.{Tree, parts}
 use Rattle.go_tree.specs.Lists.{functions}
-use Rattle.go_heads.specs.Functions.{Function, AreRead, KeepsFunctions, all_functions}
+use Rattle.go_heads.specs.Functions.{Function, AreRead, KeepsFunctions}
 use Rattle.go_heads.specs.Heads.{File, head_of, heads}
 use Rattle.go_heads.specs.Tokens.{function_files}
 use Rattle.go_heads.proofs.Public.{first_same, others_same, some_not_none}

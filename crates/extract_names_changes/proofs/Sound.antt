@@ -1,5 +1,5 @@
 -- No function of a package where statements are taken out fails a rule of names by itself.
-use Rattle.std.proofs.Common.{◌≡◌, ◌∙◌, ℕ, inl, inr, ◌⊎◌, List, [], Some, refl, sym, ap}
+use Rattle.std.proofs.Common.{◌≡◌, ◌∙◌, ℕ, inl, inr, ◌⊎◌, List, [], Some, sym, ap}
 use Rattle.std.specs.Prelude.{slice_get}
 use Rattle.go_heads.specs.Functions.{Alone, Function, KeepsFunctions, all_functions, function_alone}
 use Rattle.go_heads.specs.Heads.{File}

@@ -10,7 +10,7 @@ use Rattle.go_tree.specs.Contexts.{is_package}
 use Rattle.go_tree.specs.Declarations.{Found, found_from, is_function, declarations}
 use Rattle.go_tree.specs.Extents.{extent_by}
 use Rattle.go_tree.specs.Imports.{imports_fmt}
-use Rattle.go_tree.specs.Lookups.{Asked, asked_from}
+use Rattle.go_tree.specs.Lookups.{Asked}
 use Rattle.go_tree.specs.Meanings.{Meaning, Numbers, first_numbers, own_number, behind_shared, numbers_behind, numbered, imported_meaning, imported_from, meanings, meaning_at}
 use Rattle.go_tree.specs.Needs.{Needed, needs, is_same, needs_of, is_among, is_known, with_one, with_all, all_needed, needs_itself, cycles}
 use Rattle.go_tree.specs.Units as names
@@ -21,7 +21,7 @@ use Rattle.go_scopes_cycles.specs.Needs.{source_of}
 use Rattle.go_scopes_events.specs.Scopes.{first_by, otherwise}
 use Rattle.go_scopes_events.specs.Scopes as scopes
 use Rattle.go_heads.specs.Functions.{AreRead}
-use Rattle.go_heads.specs.Heads.{File, IsRead, Head, head_of, heads}
+use Rattle.go_heads.specs.Heads.{File, Head, head_of, heads}
 use Rattle.go_heads.specs.Objects.{units_of, file_in}
 use Rattle.go_heads.specs.Told.{Told, declares, asks, told_outside}
 use Rattle.go_heads.proofs.Public.{Every, StandFrom, first_same, imports_told, others_same, some_not_none, stand_from}
@@ -29,7 +29,7 @@ use Rattle.go_scopes_bodies.specs.Faults.{all_asked, shared}
 use Rattle.go_scopes_bodies.proofs.Public.{BoundRounds, NoneItself, cycles_none, enough_rounds, none_cycles}
 use Rattle.go_scopes_changes.proofs.Clauses.{TellTheSame}
 use Rattle.go_scopes_changes.proofs.HeadNeeds.{HasOut, CallsSo, DeclaresSo, calls, source_calls, head_ask, head_asks, head_asked, head_declared, heads_declared, all_declare, all_needs}
-use Rattle.go_scopes_changes.proofs.HeadPlaces.{same_test, bodies, at_head, IsOut, NeedsSo, itself_at_head}
+use Rattle.go_scopes_changes.proofs.HeadPlaces.{bodies, at_head, IsOut, NeedsSo, itself_at_head}
 use Rattle.go_scopes_changes.proofs.Meant.{first_append, imported_none, meaning_outer, never, nothing_else, numbered_none}
 use Rattle.go_scopes_changes.proofs.Pairs.{text_in_head}
 

@@ -1,10 +1,9 @@
 -- What the declarations of the package need at once is told by the heads of its files.
-use Rattle.std.proofs.Common.{◌≡◌, ◌∙◌, ℕ, zero, suc, ◌+◌, ◌<◌, ◌≤◌, inr, Bool, true, false, List, [], ◌∷◌, ◌++◌, map, length, Option, Some, None, refl, sym, ap, subst, arith}
+use Rattle.std.proofs.Common.{◌≡◌, ◌∙◌, ℕ, suc, ◌<◌, inr, Bool, true, false, List, [], ◌∷◌, ◌++◌, map, length, Option, Some, None, refl, sym, ap, subst, arith}
 use Rattle.std.specs.Prelude.{if◌then◌else◌, ◌&&◌, ◌||◌, not, nat_eq, option_map}
-use Rattle.go_tokens.specs.Spellings.{same_text}
 use Rattle.go_tokens.specs.Tokens.{TokenList, kinds}
 use Rattle.go_grammar.specs.declared.kind.Category.TheVariants as category
-use Rattle.go_grammar.specs.Trees.{first, last, parts}
+use Rattle.go_grammar.specs.Trees.{first, last}
 use Rattle.go_tree.specs.declared.context.Block.TheVariants as block
 use Rattle.go_tree.specs.declared.context.Manner.TheVariants as manner
 use Rattle.go_tree.specs.declared.context.Role.TheVariants as role
@@ -26,7 +25,7 @@ use Rattle.go_scopes_cycles.specs.Needs.{source_of}
 use Rattle.go_scopes_events.specs.Orders.{EachDeclared}
 use Rattle.go_scopes_events.proofs.Public.{derives_laid, events_order}
 use Rattle.go_heads.specs.Functions.{AreRead}
-use Rattle.go_heads.specs.Heads.{File, IsRead, head_of, in_bodies, place_outside}
+use Rattle.go_heads.specs.Heads.{File, IsRead, head_of, place_outside}
 use Rattle.go_heads.specs.Names.{no_place}
 use Rattle.go_heads.specs.Objects.{units_of, file_in}
 use Rattle.go_heads.specs.Told.{Told, declares, asks, NewName, AskedName, new_name, asked_name, told, placed, place_of, site_of, file_events, told_outside}

@@ -1,6 +1,6 @@
 -- Functions without bodies, in packages with equal heads: each is that of the profile, where each was and no body is gone.
 use Rattle.std.proofs.Common.{◌≡◌, ◌∙◌, ℕ, zero, suc, ◌+◌, ◌-◌, ◌<◌, ◌≤◌, Bool, true, false, List, [], ◌∷◌, ◌++◌, map, length, Option, Some, None, refl, sym, ap, subst, arith}
-use Rattle.std.specs.Prelude.{if◌then◌else◌, ◌&&◌, ◌||◌, not, nat_eq, is_some, slice_get}
+use Rattle.std.specs.Prelude.{if◌then◌else◌, ◌&&◌, ◌||◌, not, nat_eq, is_some}
 use Rattle.std.specs.List.{AllByRecursion}
 use Rattle.std.proofs.lemmas.Bool.{lt-ltb}
 use Rattle.std.proofs.lemmas.Bool.Decides.{nat_tests}
@@ -12,7 +12,7 @@ use Rattle.go_grammar.specs.declared.kind.Kind.{Kind}
 use Rattle.go_grammar.specs.declared.kind.Kind.TheVariants as kind
 use Rattle.go_grammar.specs.declared.kind.Place.TheVariants as place
 use Rattle.go_grammar.specs.declared.kind.Sort.TheVariants as sort
-use Rattle.go_grammar.specs.Grammar.{IsFile, rule, Derives, ends_named}
+use Rattle.go_grammar.specs.Grammar.{IsFile, rule, ends_named}
 use Rattle.go_grammar.specs.Trees.{Tree, node, Trees, none, more, skip, kind_of, first, last, parts}
 use Rattle.go_rewriting.proofs.Public.{tree_order, derives_ordered}
 use Rattle.go_tree.specs.declared.context.Context.{Context}
@@ -42,7 +42,7 @@ use Rattle.go_scopes_changes.proofs.Clauses.{TellTheSame}
 use Rattle.go_scopes_changes.proofs.HeadNeeds as at_heads
 use Rattle.go_scopes_changes.proofs.HeadPlaces.{bodies, place_at}
 use Rattle.go_scopes_changes.proofs.Named.{each_at, each_from, there_too}
-use Rattle.go_scopes_changes.proofs.Pairs.{text_in_head, none_if, if_none, left_none, right_none, none_both}
+use Rattle.go_scopes_changes.proofs.Pairs.{text_in_head, none_if, left_none, right_none, none_both}
 
 -- ---- what a tree tells of functions without bodies
 

@@ -1,12 +1,12 @@
 -- In packages with equal heads functions of one number have one name, so that none has the blank one where none had.
-use Rattle.std.proofs.Common.{◌≡◌, ◌∙◌, ℕ, zero, suc, ◌+◌, ◌-◌, ◌<◌, Bool, true, false, List, [], ◌∷◌, ◌++◌, map, length, Some, refl, sym, ap, subst, arith}
+use Rattle.std.proofs.Common.{◌≡◌, ◌∙◌, ℕ, zero, suc, ◌+◌, ◌-◌, Bool, true, false, List, [], ◌∷◌, ◌++◌, map, length, Some, refl, sym, ap, subst, arith}
 use Rattle.std.specs.Prelude.{if◌then◌else◌, slice_get}
 use Rattle.std.specs.List.{AllByRecursion}
 use Rattle.go_grammar.specs.Trees.{Tree, node, none, more, skip, first, last, parts}
 use Rattle.go_tree.specs.Lists.{is_function, functions}
 use Rattle.go_tree.specs.Units.{word, is_blank}
 use Rattle.go_heads.specs.FunctionNames.{function_name}
-use Rattle.go_heads.specs.Functions.{Function, Alone, AreRead, KeepsFunctions, all_functions, functions_in, signature_alone}
+use Rattle.go_heads.specs.Functions.{Function, Alone, AreRead, KeepsFunctions, all_functions, signature_alone}
 use Rattle.go_heads.specs.Heads.{File, without_body}
 use Rattle.go_heads.specs.Locals.{HaveNames, AreNamed}
 use Rattle.go_heads.specs.Names.{text_there}

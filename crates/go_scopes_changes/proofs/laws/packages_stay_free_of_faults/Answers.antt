@@ -1,4 +1,4 @@
-use Rattle.std.specs.Prelude.{◌≡◌, ◌≤◌, List, []}
+use Rattle.std.specs.Prelude.{◌≡◌, ◌≤◌, []}
 use Rattle.std.proofs.Common.{◌∙◌, ap, subst, sym}
 use Rattle.go_tree.specs.Clauses.{missing_bodies}
 use Rattle.go_tree.specs.Declarations.{found}
