@@ -3,7 +3,9 @@
 ghost use Rattle.extract_rewrite_checked.specs.Checked.{WindowsHaveSites};
 ghost use Rattle.extract_rewrite_checked.specs.Extracted.{ExtractedFilesAreNew};
 
-use extract_rewrite_files::laws::{accepted_files_are_new, functions_stand_behind, signatures_are_shallow};
+use extract_rewrite_files::laws::{
+    accepted_files_are_new, functions_stand_behind, signatures_are_shallow,
+};
 use extract_texts_written::laws::{calls_can_be_written, functions_can_be_written};
 use go_function_trees::laws::windows_stand;
 

@@ -200,10 +200,13 @@ module _ (laws : Laws) (p : PackageView) (name : List ℕ) (ws : List Window) (t
           → (g : FileText) × (slice_get (applied (texts_of p) (edits c name ws)) n ≡ Some g) × (g.bytes ≡ called_bytes ++ tb)
       bytes_there tb law =
           let r = edits_here n in
-          let g = some_text (slice_get (applied (texts_of p) (edits c name ws)) n) _ (bytes_then n text_here.text text_here.there) in
-          (g.0, g.1, g.2 ∙ ap (renewed text_here.text.bytes 0) r.is
-          ∙ renewed_is c name ws t there text_here.text.bytes tb r.tail law r.members 0 (omega arith)
-          (all_to {P = λ m. Known_member m × (file_of (sources_of c) m ≡ n)} {Q = λ m. (member_of c m.window ≡ Some m) × ((window_bytes (sources_of c) m).end ≤ length text_here.text.bytes)} ends_here r.members r.are))
+          let g = some_text (slice_get (applied (texts_of p) (edits c name ws)) n) _ (bytes_then n text_here.text text_here.there) in (
+            g.0,
+            g.1,
+            g.2 ∙ ap (renewed text_here.text.bytes 0) r.is
+                ∙ renewed_is c name ws t there text_here.text.bytes tb r.tail law r.members 0 (omega arith)
+                (all_to {P = λ m. Known_member m × (file_of (sources_of c) m ≡ n)} {Q = λ m. (member_of c m.window ≡ Some m) × ((window_bytes (sources_of c) m).end ≤ length text_here.text.bytes)} ends_here r.members r.are),
+          )
 
       -- with its calls alone it has one derivation
       with_front : (tb : List ℕ) → tb ≡ behind_file c name ws t n → ((at : ℕ) → at ≤ length text_here.text.bytes → renewed text_here.text.bytes at (edits_here n).tail ≡ drop at text_here.text.bytes ++ tb) → HasFront p name ws t n

@@ -189,24 +189,27 @@ module _ (law : TokensRewritten) (file : ℕ) (hb body : List ℕ) (returned : L
 
   fits : HasTexts all
   unfolding width span encode_utf8
-  fits = (record {
-    range = record {
-      first = lexing.token file token.Func 1 4;
-      last = lexing.token file token.RightParenthesis 8 1;
-      order = omega arith;
-      has_first = front.func;
-      has_last = front.close;
-      first_written = omega arith;
-      last_written = omega arith;
-      begins = refl;
-      ends = refl;
-    };
-    stands = h.stands;
-    tokens = refl;
-    apart_before = subst (λ x. are_apart (codes "\n") (x ++ (rest ++ [])) ≡ true) (sym new_split.is) (line_apart _);
-    apart_behind = or_true _ _ (blank_apart h.text (chars behind ++ []));
-    line = λ _. sym h.closes;
-  }, tt)
+  fits = (
+    record {
+      range = record {
+        first = lexing.token file token.Func 1 4;
+        last = lexing.token file token.RightParenthesis 8 1;
+        order = omega arith;
+        has_first = front.func;
+        has_last = front.close;
+        first_written = omega arith;
+        last_written = omega arith;
+        begins = refl;
+        ends = refl;
+      };
+      stands = h.stands;
+      tokens = refl;
+      apart_before = subst (λ x. are_apart (codes "\n") (x ++ (rest ++ [])) ≡ true) (sym new_split.is) (line_apart _);
+      apart_behind = or_true _ _ (blank_apart h.text (chars behind ++ []));
+      line = λ _. sym h.closes;
+    },
+    tt,
+  )
 
   abbrev text : List ℕ
   text = 10 ∷ (h.text ++ (rest ++ []))
