@@ -204,7 +204,7 @@ module _ (law : TokensRewritten) (file : ℕ) (hb body : List ℕ) (returned : L
       };
       stands = h.stands;
       tokens = refl;
-      apart_before = subst (λ x. are_apart (codes "\n") (x ++ (rest ++ [])) ≡ true) (sym new_split.is) (line_apart _);
+      apart_before = subst (λ x. are_apart (codes "\n") (x ++ (rest ++ [])) ≡ true) (sym new_split.is) (line_apart (codes "unc " ++ (chars hb ++ (rest ++ []))));
       apart_behind = or_true _ _ (blank_apart h.text (chars behind ++ []));
       line = λ _. sym h.closes;
     },
