@@ -11,8 +11,8 @@ use go_function_headers::laws::functions_read;
 use go_print_laws::laws::{calls_stand, functions_stand};
 use go_rewriting::laws::{
     a_new_text_fits, changed_sites, clear_rewrites_agree, clear_sites_agree, items_stand,
-    operands_stand_for_expressions, ranges_end_well, rewritten_text, run_stands_elsewhere,
-    statements_stand_in_both, subtrees_stand, texts_end_well,
+    operands_stand_for_expressions, ranges_end_well, rewritten_text, rewritten_tokens,
+    run_stands_elsewhere, statements_stand_in_both, subtrees_stand, texts_end_well,
 };
 
 /// Statements of a text with names in place of some of their expressions stand by themselves: they are a run of statements over the

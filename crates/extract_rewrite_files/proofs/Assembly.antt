@@ -221,7 +221,8 @@ module _ (laws : Laws) (p : PackageView) (name : List ℕ) (ws : List Window) (t
           subst (λ y. IsText y f.tokens.text) cutting.text_is (subst (IsText text_here.read.lexing.text) (sym text_here.read.bytes) text_here.read.lexing.is_text) in
           let old : encode_utf8_all (file_text cutting.windows cutting.rest) ≡ text_here.text.bytes = text.encoded ∙ text_here.read.bytes in
           let written : encode_utf8_all (called_text (declared_text (sources_of c)) cutting.windows (cutting.rest ++ [])) ≡ called_bytes =
-          new.bytes ∙ append-nil _ ∙ (λ j. with_texts (old j) 0 (map (window_bytes (sources_of c)) r.members) (map (call_text (λ x. x) (sources_of c) name t (chosen_of c ws)) r.members)) in
+          new.bytes ∙ append-nil (with_texts (encode_utf8_all (file_text cutting.windows cutting.rest)) 0 (map (window_bytes (sources_of c)) r.members) (map (call_text (λ x. x) (sources_of c) name t (chosen_of c ws)) r.members))
+          ∙ (λ j. with_texts (old j) 0 (map (window_bytes (sources_of c)) r.members) (map (call_text (λ x. x) (sources_of c) name t (chosen_of c ws)) r.members)) in
           let g = bytes_there tb law in
           record {
             text = g.0;

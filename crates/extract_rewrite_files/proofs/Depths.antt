@@ -1,6 +1,6 @@
 -- The levels of the template's statements in the new function.
 use Rattle.std.proofs.Common.{◌≡◌, ◌∙◌, ℕ, zero, suc, ◌+◌, ◌≤◌, ◌⊎◌, inl, inr, Bool, true, false, not, ◌&&◌, ◌||◌, List, [], ◌∷◌, Some, refl, sym, ap, subst, arith, eqb-true}
-use Rattle.std.specs.Prelude.{max, nat_eq}
+use Rattle.std.specs.Prelude.{nat_eq}
 use Rattle.go_tokens.specs.declared.token.Token.{Token}
 use Rattle.go_tokens.specs.declared.token.TokenKind.{TokenKind}
 use Rattle.go_tokens.specs.declared.token.TokenKind.TheVariants as token
@@ -14,7 +14,7 @@ use Rattle.go_grammar.specs.declared.kind.Place.TheVariants as place
 use Rattle.go_grammar.specs.Categories.{is_expression, place_of, within}
 use Rattle.go_grammar.specs.Grammar.{rule, Derives}
 use Rattle.go_grammar.specs.Rules.{Items, Lines, Open, Each, Again, Rule, End, Then, Maybe, Unless, Many, item}
-use Rattle.go_grammar.specs.Trees.{Tree, node, Trees, none, more, skip, depth, depths, kind_of, last, onto, parts, weight}
+use Rattle.go_grammar.specs.Trees.{Tree, node, Trees, none, more, skip, depth, depths, kind_of, parts, weight}
 use Rattle.go_grammar.proofs.Public.{all, kinds, kinds_at}
 use Rattle.go_rewriting.specs.Lists.{Subtree, items_at, run_at, so_many}
 use Rattle.go_rewriting.specs.Places.{Change, become, carry, carries, moved_by}

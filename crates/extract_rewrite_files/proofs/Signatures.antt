@@ -1,5 +1,5 @@
 -- The signature of the new function has few levels where an extraction is accepted.
-use Rattle.std.proofs.Common.{◌≡◌, ◌∙◌, ℕ, ◌+◌, ◌≤◌, true, cond, List, [], ◌++◌, refl, sym, ap, subst, arith, eq-eqb}
+use Rattle.std.proofs.Common.{◌≡◌, ◌∙◌, ℕ, ◌+◌, true, cond, List, [], ◌++◌, refl, sym, ap, subst, arith, eq-eqb}
 use Rattle.std.specs.Prelude.{◌==◌}
 use Rattle.go_base.specs.declared.Span.{Span}
 use Rattle.go_tokens.specs.declared.token.Token.{Token}
@@ -16,6 +16,7 @@ use Rattle.escape_check.specs.Places.{file_of, sources_of}
 use Rattle.extract_texts.specs.Texts.{function_for, header_of}
 use Rattle.extract_files.specs.Levels.{FunctionsMayBeAppended, HasSignature}
 use Rattle.extract_rewrite.specs.Answers.{texts_after}
+use Rattle.extract_rewrite.specs.Edits.{edits}
 use Rattle.extract_rewrite.specs.Limits.{IsWithinLimits}
 use Rattle.extract_rewrite_files.specs.Behind.{FunctionsReadBehind, names_for}
 use Rattle.extract_rewrite_files.specs.NewFiles.{behind_file}
@@ -39,6 +40,6 @@ signatures_are_shallow fronts functions append law p name ws t e taken calls hol
     let f = functions p name ws t taken holes written in
     let whole = append n b.front b.one_tree (function_for (content p) name ws) f.words signature f.reads in
     let h : HasSignature n b.text.bytes signature = subst (λ y. HasSignature n y signature) (sym (b.is ∙ ap (λ y. b.front ++ y) (function_there (content p) name ws t))) whole in
-    let r = read_there _ there.files n 0 b.text there.read b.there in
+    let r = read_there (texts_after (content p) (edits (content p) name ws)) there.files n 0 b.text there.read b.there in
     let is = one_tree law n b.text r.0 (subst (λ m. IsRead m b.text r.0) (let z : 0 + n ≡ n = omega arith in z) r.1) h.one_tree in
     omega (arith, h.above, is.shallow)

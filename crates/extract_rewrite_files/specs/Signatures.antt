@@ -4,7 +4,7 @@ use Rattle.go_base.specs.declared.bytes.FileText.{FileText}
 use Rattle.go_tree.specs.File.{FileTree}
 use Rattle.go_types.specs.Trees.{TypeTree}
 use Rattle.go_typed.specs.declared.window.Window.{Window}
-use Rattle.go_typed.specs.Contents.{Content, content}
+use Rattle.go_typed.specs.Contents.{content}
 use Rattle.go_typed.specs.Packages.{PackageView}
 use Rattle.param_choose.specs.Members.{Member}
 use Rattle.extract_files.specs.Levels.{HasOneTree}
