@@ -307,11 +307,11 @@ module _ (laws : Laws) (p : PackageView) (name : List ℕ) (ws : List Window) (t
 
       -- whether this is the template's file
       either : (R : Type 0) → (n ≡ file_of (sources_of c) t → function_for c name ws ≡ behind_file c name ws t n → R) → ((n ≡ file_of (sources_of c) t → ⊥) → [] ≡ behind_file c name ws t n → R) → R
-      either R yes no = by (n == file_of (sources_of c) t) refl
+      either R here elsewhere = by (n == file_of (sources_of c) t) refl
         where
           by : (q : Bool) → (n == file_of (sources_of c) t) ≡ q → R
-          by true k = yes (eqb-true n (file_of (sources_of c) t) k) (ap (λ x. cond x (function_for c name ws) []) (sym k))
-          by false k = no (λ same. let yes : (n == file_of (sources_of c) t) ≡ true = eq-eqb n (file_of (sources_of c) t) same in absurd cc) (ap (λ x. cond x (function_for c name ws) []) (sym k))
+          by true k = here (eqb-true n (file_of (sources_of c) t) k) (ap (λ x. cond x (function_for c name ws) []) (sym k))
+          by false k = elsewhere (λ same. let yes : (n == file_of (sources_of c) t) ≡ true = eq-eqb n (file_of (sources_of c) t) same in absurd cc) (ap (λ x. cond x (function_for c name ws) []) (sym k))
 
       pub file_new : (n ≡ file_of (sources_of c) t → StandsBehind c name ws t) → BecomesNew p name ws t n f
       file_new b = either (BecomesNew p name ws t n f) (λ same is. function_end same is (b same)) unchanged_end
