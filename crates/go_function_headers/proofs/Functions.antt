@@ -1,10 +1,9 @@
 -- Functions are read, whatever their headers are.
-use Rattle.std.proofs.Common.{◌≡◌, ℕ, ◌≤◌, List, [], ◌∷◌, ◌++◌, codes, length, refl, arith}
+use Rattle.std.proofs.Common.{ℕ, List, [], ◌∷◌, ◌++◌, codes, length, refl, arith}
 use Rattle.go_tokens.specs.declared.token.TokenKind.{TokenKind}
 use Rattle.go_tokens.specs.declared.token.TokenKind.TheVariants as token
-use Rattle.go_grammar.specs.Trees.{Trees, depths}
 use Rattle.go_print.specs.Texts.{listed, named, results_text, row_texts}
-use Rattle.go_print_laws.specs.Functions.{Function, FunctionsStand, block_tree, function_tree, returning_lexemes}
+use Rattle.go_print_laws.specs.Functions.{Function, FunctionsStand, block_tree, returning_lexemes}
 use Rattle.go_print_laws.specs.Headers.{Header, HeadersStand, header_lexemes, signature_tree}
 use Rattle.go_print_laws.specs.Lexemes.{words}
 use Rattle.go_print_laws.specs.Types.{right_brace, semicolon}

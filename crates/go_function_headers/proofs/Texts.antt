@@ -1,6 +1,6 @@
 -- The text of a function with another header.
-use Rattle.std.proofs.Common.{◌≡◌, ◌∙◌, ℕ, zero, suc, ◌+◌, ◌<◌, Bool, true, false, not, ◌&&◌, ◌||◌, ◌==◌, List, [], ◌∷◌, ◌++◌, append-nil, append_assoc, codes, drop, take, Some, refl, sym, ap, subst, arith}
-use Rattle.std.specs.Prelude.{nat_lt, slice_get, slice_index, IsAscii}
+use Rattle.std.proofs.Common.{◌≡◌, ◌∙◌, ℕ, zero, suc, ◌<◌, Bool, true, false, not, ◌&&◌, ◌||◌, ◌==◌, List, [], ◌∷◌, ◌++◌, append-nil, append_assoc, codes, drop, take, refl, sym, ap, subst, arith}
+use Rattle.std.specs.Prelude.{nat_lt, IsAscii}
 use Rattle.std.specs.List.{list_all, list_any}
 use Rattle.std.specs.Char.{encode_utf8}
 use Rattle.std.specs.Str.{all_scalars, chars, encode_utf8_all}
@@ -9,7 +9,6 @@ use Rattle.std.proofs.lemmas.Str.{IsUtf8-from_ascii, chars-IsAscii, chars-append
 use Rattle.ucd_category.specs.GeneralCategory.{general_category}
 use Rattle.ucd_category.specs.GeneralCategoryRows.{general_category_rows}
 use Rattle.ucd_table.specs.Rows.{value_in}
-use Rattle.go_base.specs.declared.Span.{Span}
 use Rattle.go_tokens.specs.declared.token.Token.{Token}
 use Rattle.go_tokens.specs.declared.token.TokenKind.{TokenKind}
 use Rattle.go_tokens.specs.declared.token.TokenKind.TheVariants as token
@@ -23,7 +22,7 @@ use Rattle.go_tokens.specs.Tokens.{kinds}
 use Rattle.go_tokens.proofs.Public.{and_both, both, lexes_by_test}
 use Rattle.go_grammar.specs.declared.kind.Kind.TheVariants as kind
 use Rattle.go_grammar.specs.Trees.{node, none}
-use Rattle.go_rewriting.specs.Rewriting.{HasNewTokens, HasTail, HasTexts, IsRange, IsTail, Rewrite, Rewriting, before, own}
+use Rattle.go_rewriting.specs.Rewriting.{HasNewTokens, HasTail, HasTexts, IsTail, Rewrite, Rewriting, before, own}
 use Rattle.go_rewriting.specs.Sites.{whole}
 use Rattle.go_print_laws.specs.Functions.{returning_text}
 use Rattle.go_print_laws.specs.Lexemes.{Lexeme, words}
