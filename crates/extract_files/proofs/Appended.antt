@@ -9,7 +9,7 @@ use Rattle.go_grammar.specs.declared.kind.Category.{Category}
 use Rattle.go_grammar.specs.declared.kind.Category.TheVariants as category
 use Rattle.go_grammar.specs.Categories.{within, place_of}
 use Rattle.go_grammar.specs.Rules.{Items, Each, Many}
-use Rattle.go_grammar.specs.Trees.{Tree, node, Trees, none, more, skip, first, last, onto}
+use Rattle.go_grammar.specs.Trees.{Tree, node, Trees, none, more, skip, first, kind_of, last, onto, weight}
 use Rattle.go_grammar.specs.Grammar.{rule, IsAt, Words, Derives, Spells, Goes}
 use Rattle.go_grammar.proofs.Public.{words_order, derives_order, spells_order, goes_order}
 use Rattle.go_rewriting.specs.Places.{carry, carries, with_declaration}
@@ -139,3 +139,7 @@ appended ts ts' (node k a b ps) d h agree is begins closed all = go k (file_kind
           begins = g'.begins;
           ends = refl;
         })
+
+-- the top of a file is a level
+pub file_level : (ts : List TokenKind) (t : Tree) → IsFileTree ts t → weight (kind_of t) ≡ 1
+file_level ts (node k a b ps) h = ap weight (file_kind k h.derives.0)

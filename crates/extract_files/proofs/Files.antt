@@ -319,7 +319,7 @@ module _ (k : Facts) (name : ℕ → List ℕ) (file : ℕ) (ts : List Token) (t
       }
 
 -- what is appended begins with a newline
-tail_plain : (tail : List ℕ) → is_at_line_end tail ≡ true → are_allowed tail ≡ true → list_all is_plain tail ≡ true
+pub tail_plain : (tail : List ℕ) → is_at_line_end tail ≡ true → are_allowed tail ≡ true → list_all is_plain tail ≡ true
 tail_plain [] e h = refl
 tail_plain (y ∷ ys) e h =
     let ten : is_plain y ≡ true = ap is_plain (eqb-true y 10 e) in

@@ -14,14 +14,15 @@ use Rattle.go_grammar.specs.declared.kind.Category.{Category}
 use Rattle.go_grammar.specs.Trees.{Tree}
 use Rattle.go_print_laws.specs.Functions.{FunctionsStand, FunctionStands, Statements, function_text, function_tree, function_words}
 use Rattle.go_print_laws.specs.Functions as functions
-use Rattle.go_print_laws.specs.Headers.{header_text}
+use Rattle.go_print_laws.specs.Headers.{header_text, signature_tree}
+use Rattle.go_function_headers.specs.Functions.{FunctionReads, FunctionsRead}
 use Rattle.param_choose.specs.Choosing.{Choice}
 use Rattle.param_choose.specs.Members.{Member}
 use Rattle.escape_check.specs.Places.{Sources}
 use Rattle.escape_check.specs.Types.{declared_text}
 use Rattle.extract_texts.specs.Texts.{function_with, header_of, hole_bytes, returning_text, template_text, variable_names, window_bytes, with_names}
 use Rattle.extract_files.specs.Holes.{Hole, Template, TemplatesStand, AreHoles, whole_text, named_text, named_words, named_trees}
-use Rattle.extract_files.specs.Functions.{AreAt, IsTemplateOf, ExtractedFunctionsStand, extracted_function}
+use Rattle.extract_files.specs.Functions.{AreAt, IsTemplateOf, ExtractedFunctionsRead, ExtractedFunctionsStand, extracted_function}
 
 slice_at : (a p b : List ℕ) (i j : ℕ) → i ≡ length a → j ≡ i + length p → slice_range (a ++ (p ++ b)) i j ≡ p
 slice_at a p b i j e f =
@@ -81,11 +82,19 @@ returned_same : (xs : List (List ℕ)) → returning_text xs ≡ functions.retur
 returned_same [] = refl
 returned_same (x ∷ xs) = refl
 
+text_same : (s : Sources) (name : List ℕ) (fresh : List (List ℕ)) (t : Member TypeTree) (h : Choice TypeTree) → function_text (declared_text s) (extracted_function s name fresh t h) ≡ function_with (λ x. x) s name fresh t h
+text_same s name fresh t h =
+    ap (λ l. codes "\n" ++ header_text (declared_text s) (header_of (λ x. x) s name fresh t h) ++ codes " {\n" ++ template_text s fresh t h ++ codes "\n" ++ l ++ codes "}\n") (sym (returned_same (variable_names s t (h.assigned ++ h.declared))))
+
+body_stands : TemplatesStand → (s : Sources) (fresh : List (List ℕ)) (t : Member TypeTree) (h : Choice TypeTree) (w : Template) → IsTemplateOf s fresh t h w → Statements w.part.file (template_text s fresh t h) (named_words w) (named_trees w)
+body_stands templates s fresh t h w i = subst (λ l. Statements w.part.file l (named_words w) (named_trees w)) (sym (template_bytes s fresh t h w i)) (templates w i.template)
+
 pub extracted_functions_stand : FunctionsStand → TemplatesStand → ExtractedFunctionsStand
 extracted_functions_stand stand templates s name fresh t h w header names i low =
-    let body : Statements w.part.file (template_text s fresh t h) (named_words w) (named_trees w) = subst (λ l. Statements w.part.file l (named_words w) (named_trees w)) (sym (template_bytes s fresh t h w i)) (templates w i.template) in
-    let f = extracted_function s name fresh t h in
-    let same : function_text (declared_text s) (extracted_function s name fresh t h) ≡ function_with (λ x. x) s name fresh t h =
-    ap (λ l. codes "\n" ++ header_text (declared_text s) (header_of (λ x. x) s name fresh t h) ++ codes " {\n" ++ template_text s fresh t h ++ codes "\n" ++ l ++ codes "}\n") (sym (returned_same (variable_names s t (h.assigned ++ h.declared)))) in
-    subst (λ l. FunctionStands w.part.file l (function_words (declared_text s) (extracted_function s name fresh t h) (named_words w)) (function_tree (extracted_function s name fresh t h) (length (named_words w)) (named_trees w))) same
-    (stand w.part.file (declared_text s) (extracted_function s name fresh t h) (named_words w) (named_trees w) header names body low)
+    subst (λ l. FunctionStands w.part.file l (function_words (declared_text s) (extracted_function s name fresh t h) (named_words w)) (function_tree (extracted_function s name fresh t h) (length (named_words w)) (named_trees w)))
+    (text_same s name fresh t h) (stand w.part.file (declared_text s) (extracted_function s name fresh t h) (named_words w) (named_trees w) header names (body_stands templates s fresh t h w i) low)
+
+pub extracted_functions_read : FunctionsRead → TemplatesStand → ExtractedFunctionsRead
+extracted_functions_read read templates s name fresh t h w header names i low =
+    subst (λ l. FunctionReads w.part.file l (function_words (declared_text s) (extracted_function s name fresh t h) (named_words w)) (signature_tree 2 (header_of (λ x. x) s name fresh t h)))
+    (text_same s name fresh t h) (read w.part.file (declared_text s) (extracted_function s name fresh t h) (named_words w) (named_trees w) header names (body_stands templates s fresh t h w i) low)

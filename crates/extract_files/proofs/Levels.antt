@@ -1,28 +1,35 @@
 -- A file with calls has one derivation.
-use Rattle.std.proofs.Common.{◌≡◌, ℕ, zero, suc, ◌+◌, ◌-◌, ◌<◌, ◌≤◌, ◌⊎◌, inl, inr, Bool, true, false, List, [], ◌∷◌, ◌++◌, append-nil, length, map, Option, Some, None, refl, sym, ap, ◌∙◌, subst, arith}
+use Rattle.std.proofs.Common.{◌≡◌, ℕ, zero, suc, ◌+◌, ◌-◌, ◌<◌, ◌≤◌, ◌⊎◌, inl, inr, Bool, true, false, not, ◌==◌, List, [], ◌∷◌, ◌++◌, append-nil, length, map, Option, Some, None, refl, sym, ap, ◌∙◌, subst, arith}
 use Rattle.std.specs.Prelude.{slice_get}
 use Rattle.std.specs.Str.{encode_utf8_all}
+use Rattle.std.specs.List.{list_all}
 use Rattle.std.proofs.lemmas.List.{length-append}
+use Rattle.std.proofs.lemmas.Str.{encodes-append}
 use Rattle.go_tokens.specs.declared.token.Token.{Token}
 use Rattle.go_tokens.specs.declared.token.TokenKind.{TokenKind}
 use Rattle.go_tokens.specs.Editing.{new_text}
-use Rattle.go_tokens.specs.Encoding.{IsText}
-use Rattle.go_tokens.specs.Lexing.{join, width}
+use Rattle.go_tokens.specs.Encoding.{IsText, are_allowed, is_plain}
+use Rattle.go_tokens.specs.Lexing.{Lexes, join, width}
+use Rattle.go_tokens.specs.Replacing.{is_at_line_end}
 use Rattle.go_tokens.specs.Tokens.{AreOrdered, span_of, kinds}
-use Rattle.go_tokens.proofs.Public.{tokens_ordered}
+use Rattle.go_tokens.proofs.Public.{and_both, both, tokens_ordered}
 use Rattle.go_grammar.specs.declared.kind.Category.{Category}
 use Rattle.go_grammar.specs.declared.kind.Category.TheVariants as category
 use Rattle.go_grammar.specs.Grammar.{Derives}
-use Rattle.go_grammar.specs.Trees.{Tree, node, Trees, none, first, last, depth}
+use Rattle.go_grammar.specs.Trees.{Tree, node, Trees, none, more, skip, first, kind_of, last, depth, depths, onto, weight}
 use Rattle.go_grammar.proofs.Public.{unique}
 use Rattle.go_rewriting.specs.Places.{carry, carries, Patch, keep, put, inside, Ascending, changed, ranges, become, with_declaration}
-use Rattle.go_rewriting.specs.Rewriting.{Rewrite, IsRange, TextsFit, changes, edits, settled, sites, sites_alone, move, new_tree, extended, AddedFits, Rewriting, IsWellFormed, HasTail, HasNewTokens, HasNewTree}
+use Rattle.go_rewriting.specs.Rewriting.{Rewrite, IsRange, TextsFit, changes, edits, settled, sites, sites_alone, move, new_tree, extended, AddedFits, Rewriting, IsWellFormed, HasTail, HasTexts, HasNewTokens, HasNewTree, before}
 use Rattle.go_rewriting.specs.Sites.{Local, items, Site, insert, patch_of}
 use Rattle.go_rewriting.proofs.Public.{derives_kept, first_carry, last_carry, soft_same}
 use Rattle.go_print_laws.specs.Calls.{call_trees}
+use Rattle.go_function_headers.specs.Functions.{IsWholeDeclaration}
+use Rattle.go_function_headers.proofs.Public.{carry_depth}
 use Rattle.extract_files.specs.Files.{called_text, Window, CalledFilesAreRewritten, call_sites, rewriting_of}
-use Rattle.extract_files.specs.Levels.{IsFileTree, CalledFilesHaveOneTree, FilesWithoutTreesAreDeep}
-use Rattle.extract_files.proofs.Appended.{appended}
+use Rattle.extract_files.specs.Levels.{IsFileTree, CalledFilesHaveOneTree, FilesWithoutTreesAreDeep, FunctionsMayBeAppended}
+use Rattle.extract_files.proofs.Appended.{appended, file_level}
+use Rattle.extract_files.proofs.Files.{tail_plain}
+use Rattle.extract_files.proofs.Templates.{plain_join, scalars_join}
 use Rattle.extract_files.proofs.Moves.{moved_start, moved_end}
 use Rattle.extract_files.proofs.Numbers.{earlier, get_right}
 
@@ -119,18 +126,19 @@ get_left [] ys n lt = absurd (omega (arith, lt))
 get_left (x ∷ xs) ys zero lt = refl
 get_left (x ∷ xs) ys (suc n) lt = get_left xs ys n (omega (arith, lt))
 
-with_added : (ks ws : List TokenKind) (t : Tree) (added : Option Tree) → IsFileTree ks t → AddedFits ws added → IsFileTree (ks ++ ws) (extended (length ks) ws added t)
-with_added ks ws t None h a = subst (λ us. IsFileTree us t) (sym (append-nil ks) ∙ ap (λ us. ks ++ us) (sym a)) h
-with_added ks ws t (Some d) h a =
+with_declared : (ks ws : List TokenKind) (t d : Tree) → IsFileTree ks t → IsWholeDeclaration ws d → IsFileTree (ks ++ ws) (with_declaration t (carry (λ k. length ks + k) d) (length ks + length ws))
+with_declared ks ws t d h a =
     let far : length (ks ++ ws) ≡ length ks + length ws = length-append ks ws in
-    let m : ℕ → ℕ = λ k. length ks + k in
-    let d' : Tree = carry (λ k. length ks + k) d in
     let there : Derives (ks ++ ws) category.Declaration (carry (λ k. length ks + k) d) =
     derives_kept ws (ks ++ ws) (λ k. length ks + k) d category.Declaration (λ n lo hi. record { same = get_right ks ws n; next = omega arith }) (soft_same ws (ks ++ ws) (λ k. length ks + k) (last d) (get_right ks ws (last d))) a.derives in
     let from : first (carry (λ k. length ks + k) d) ≡ length ks = first_carry (λ k. length ks + k) d ∙ (omega (arith, a.begins)) in
     let to : last (carry (λ k. length ks + k) d) ≡ length ks + last d = last_carry (λ k. length ks + k) d in
     subst (λ n. IsFileTree (ks ++ ws) (with_declaration t (carry (λ k. length ks + k) d) n)) far
     (appended ks (ks ++ ws) t (carry (λ k. length ks + k) d) h (λ n lt. get_left ks ws n lt) there from (ap (slice_get (ks ++ ws)) to ∙ get_right ks ws (last d) ∙ a.closed) (omega (arith, to, far, a.all)))
+
+with_added : (ks ws : List TokenKind) (t : Tree) (added : Option Tree) → IsFileTree ks t → AddedFits ws added → IsFileTree (ks ++ ws) (extended (length ks) ws added t)
+with_added ks ws t None h a = subst (λ us. IsFileTree us t) (sym (append-nil ks) ∙ ap (λ us. ks ++ us) (sym a)) h
+with_added ks ws t (Some d) h a = with_declared ks ws t d h (record { derives = a.derives; begins = a.begins; closed = a.closed; all = a.all })
 
 -- ---- one derivation
 
@@ -167,3 +175,39 @@ deep_files file bytes h lacks = elim (two (depth h.tree)) [
   where
     two : (n : ℕ) → (n ≤ 101) ⊎ (101 < n)
     two n = grind arith
+
+-- ---- a function behind a file
+
+text_joined : (xs ys a b : List ℕ) → IsText xs a → IsText ys b → is_at_line_end ys ≡ true → IsText (xs ++ ys) (a ++ b)
+text_joined xs ys a b h k l = record { scalars = scalars_join xs ys h.scalars k.scalars; encoded = encodes-append xs ys ∙ (λ j. h.encoded j ++ k.encoded j); allowed = allowed xs h.allowed }
+  where
+    allowed : (zs : List ℕ) → are_allowed zs ≡ true → are_allowed (zs ++ ys) ≡ true
+    allowed [] e = k.allowed
+    allowed (z ∷ zs) e = let c = both (not (z == 0)) (list_all is_plain zs) e in and_both (not (z == 0)) (list_all is_plain (zs ++ ys)) c.0 (plain_join zs ys c.1 (tail_plain ys l k.allowed))
+
+onto_above : (ps : Trees) (d : Tree) → depth d ≤ depths (onto ps (more d none))
+onto_above none d = omega arith
+onto_above (more p ps) d = let r = onto_above ps d in omega (arith, r)
+onto_above (skip ps) d = onto_above ps d
+
+declared_above : (t d : Tree) (n : ℕ) → weight (kind_of t) ≡ 1 → suc (depth d) ≤ depth (with_declaration t d n)
+declared_above (node k a b ps) d n w = let r = onto_above ps d in omega (arith, r, w)
+
+pub function_appended : ((w : Rewriting) → Lexes w.file (before w) w.tokens w.comments → HasTexts w → HasTail w → HasNewTokens w) → FunctionsMayBeAppended
+function_appended law file front h behind ws s r =
+    let l = h.lexing in
+    let n = law (record { file = file; tokens = h.tokens; comments = h.comments; tree = h.tree; ranges = []; rest = l.text; tail = r.text; tail_tokens = r.tokens }) l.lexes tt r.tail in
+    let same : kinds n.tokens ≡ kinds h.tokens ++ ws = n.kinds_are ∙ ap (λ us. kinds h.tokens ++ us) r.kinds_are in
+    let whole = subst (λ us. IsFileTree us (with_declaration h.tree (carry (λ k. length (kinds h.tokens) + k) r.tree) (length (kinds h.tokens) + length ws))) (sym same) (with_declared (kinds h.tokens) ws h.tree r.tree h.is_tree r.whole) in
+    let above = declared_above h.tree (carry (λ k. length (kinds h.tokens) + k) r.tree) (length (kinds h.tokens) + length ws) (file_level (kinds h.tokens) h.tree h.is_tree) in
+    record {
+      one_tree = record {
+        tokens = n.tokens;
+        comments = n.comments;
+        lexing = record { text = l.text ++ r.text; is_text = text_joined l.text r.text front behind l.is_text r.is_text r.tail.begins; lexes = n.lexes };
+        tree = with_declaration h.tree (carry (λ k. length (kinds h.tokens) + k) r.tree) (length (kinds h.tokens) + length ws);
+        is_tree = whole;
+        only = λ u i. unique (kinds n.tokens) category.File u _ i.derives whole.derives (i.begins ∙ sym whole.begins) (i.ends ∙ sym whole.ends);
+      };
+      above = omega (arith, above, carry_depth (λ k. length (kinds h.tokens) + k) r.tree, r.above);
+    }

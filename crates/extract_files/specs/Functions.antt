@@ -4,10 +4,11 @@ use Rattle.std.specs.Str.{encode_utf8_all}
 use Rattle.go_tokens.specs.Lexing.{width}
 use Rattle.go_tree.specs.Units.{Place}
 use Rattle.go_types.specs.Trees.{TypeTree}
-use Rattle.go_grammar.specs.Trees.{depth}
+use Rattle.go_grammar.specs.Trees.{depth, depths}
 use Rattle.go_print_laws.specs.Functions.{Function, FunctionStands, function_tree, function_words}
-use Rattle.go_print_laws.specs.Headers.{HeaderCanBeWritten}
+use Rattle.go_print_laws.specs.Headers.{HeaderCanBeWritten, signature_tree}
 use Rattle.go_print_laws.specs.Lexemes.{AreNames}
+use Rattle.go_function_headers.specs.Functions.{FunctionReads}
 use Rattle.param_choose.specs.Choosing.{Choice}
 use Rattle.param_choose.specs.Members.{Member}
 use Rattle.escape_check.specs.Places.{Sources}
@@ -43,3 +44,9 @@ ExtractedFunctionsStand = (s : Sources) (name : List ℕ) (fresh : List (List �
     → depth (function_tree (extracted_function s name fresh t h) (length (named_words w)) (named_trees w)) ≤ 100
     → FunctionStands w.part.file (function_with (λ x. x) s name fresh t h) (function_words (declared_text s) (extracted_function s name fresh t h) (named_words w))
     (function_tree (extracted_function s name fresh t h) (length (named_words w)) (named_trees w))
+
+-- It is read there as a declaration, whatever levels its signature has.
+abbrev pub ExtractedFunctionsRead : Type 0
+ExtractedFunctionsRead = (s : Sources) (name : List ℕ) (fresh : List (List ℕ)) (t : Member TypeTree) (h : Choice TypeTree) (w : Template)
+    → HeaderCanBeWritten (declared_text s) (header_of (λ x. x) s name fresh t h) → AreNames (variable_names s t (h.assigned ++ h.declared)) → IsTemplateOf s fresh t h w → depths (named_trees w) ≤ 98
+    → FunctionReads w.part.file (function_with (λ x. x) s name fresh t h) (function_words (declared_text s) (extracted_function s name fresh t h) (named_words w)) (signature_tree 2 (header_of (λ x. x) s name fresh t h))

@@ -1,5 +1,5 @@
 -- The tree of a file with calls, of whatever depth.
-use Rattle.std.specs.Prelude.{◌≡◌, ℕ, ◌++◌, ◌<◌, length, List}
+use Rattle.std.specs.Prelude.{◌≡◌, ℕ, suc, ◌++◌, ◌<◌, ◌≤◌, length, List}
 use Rattle.std.specs.Str.{encode_utf8_all}
 use Rattle.go_base.specs.declared.Span.{Span}
 use Rattle.go_tokens.specs.declared.token.Token.{Token}
@@ -10,6 +10,7 @@ use Rattle.go_tokens.specs.Tokens.{kinds}
 use Rattle.go_grammar.specs.declared.kind.Category.TheVariants as category
 use Rattle.go_grammar.specs.Grammar.{Derives, IsFile}
 use Rattle.go_grammar.specs.Trees.{Tree, first, last, depth}
+use Rattle.go_function_headers.specs.Functions.{FunctionReads}
 use Rattle.extract_files.specs.Files.{Called, IsCalled, called_text, file_text}
 
 -- A derivation of a file over all its tokens, of whatever depth.
@@ -35,3 +36,12 @@ CalledFilesHaveOneTree = (w : Called) → IsCalled w → IsFileTree (kinds w.tok
 -- Where that isn't the tree of a file within the limit on levels, it has more levels.
 abbrev pub FilesWithoutTreesAreDeep : Type 0
 FilesWithoutTreesAreDeep = (file : ℕ) (bytes : List ℕ) (h : HasOneTree file bytes) → ((t : Tree) → IsFile (kinds h.tokens) t → ⊥) → 101 < depth h.tree
+
+-- The bytes have a lexing and one derivation, which has two levels more than this signature.
+pub record HasSignature (file : ℕ) (bytes : List ℕ) (signature : Tree) : Type 0 where
+  pub one_tree : HasOneTree file bytes
+  pub above : suc (suc (depth signature)) ≤ depth one_tree.tree
+
+-- A function that is read behind bytes with one derivation is a declaration more of it, whatever levels it has.
+abbrev pub FunctionsMayBeAppended : Type 0
+FunctionsMayBeAppended = (file : ℕ) (front : List ℕ) → HasOneTree file front → (behind : List ℕ) (ws : List TokenKind) (signature : Tree) → FunctionReads file behind ws signature → HasSignature file (front ++ behind) signature

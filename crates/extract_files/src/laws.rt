@@ -3,15 +3,16 @@
 ghost use Rattle.extract_files.specs.Enclosed.{RunsAreEnclosed};
 ghost use Rattle.extract_files.specs.Extracted.{ExtractedFilesAreRewritten};
 ghost use Rattle.extract_files.specs.Files.{CalledFilesAreRewritten};
-ghost use Rattle.extract_files.specs.Functions.{ExtractedFunctionsStand};
+ghost use Rattle.extract_files.specs.Functions.{ExtractedFunctionsRead, ExtractedFunctionsStand};
 ghost use Rattle.extract_files.specs.Holes.{TemplatesStand};
-ghost use Rattle.extract_files.specs.Levels.{CalledFilesHaveOneTree, FilesWithoutTreesAreDeep};
+ghost use Rattle.extract_files.specs.Levels.{CalledFilesHaveOneTree, FilesWithoutTreesAreDeep, FunctionsMayBeAppended};
 
+use go_function_headers::laws::functions_read;
 use go_print_laws::laws::{calls_stand, functions_stand};
 use go_rewriting::laws::{
     a_new_text_fits, changed_sites, clear_rewrites_agree, clear_sites_agree, items_stand,
-    operands_stand_for_expressions, ranges_end_well, rewritten_text, run_stands_elsewhere,
-    statements_stand_in_both, subtrees_stand, texts_end_well,
+    operands_stand_for_expressions, ranges_end_well, rewritten_text, rewritten_tokens,
+    run_stands_elsewhere, statements_stand_in_both, subtrees_stand, texts_end_well,
 };
 
 /// Statements of a text with names in place of some of their expressions stand by themselves: they are a run of statements over the
@@ -44,6 +45,16 @@ pub fn extracted_functions_stand()
     ensures { ExtractedFunctionsStand }
 {
     functions_stand();
+    templates_stand();
+}
+
+/// It is read there as a declaration, in which the signature stands as it is written down for it, whatever levels its types have.
+///
+/// A caller gives that its statements have at most 98 levels, as those of a file have them.
+pub fn extracted_functions_read()
+    ensures { ExtractedFunctionsRead }
+{
+    functions_read();
     templates_stand();
 }
 
@@ -97,3 +108,11 @@ pub fn called_files_have_one_tree()
 pub fn files_without_trees_are_deep()
     ensures { FilesWithoutTreesAreDeep }
 {}
+
+/// A function that is read behind a file with one derivation over all its tokens is a declaration more of it: they have one derivation, whatever
+/// levels the function has, and it has two levels more than the function's signature.
+pub fn functions_may_be_appended()
+    ensures { FunctionsMayBeAppended }
+{
+    rewritten_tokens();
+}

@@ -1,5 +1,5 @@
 -- Extractions from packages that type-check make each file new.
-use Rattle.std.proofs.Common.{◌≡◌, ℕ, ◌≤◌, Bool, List, ◌++◌, length, Some, sym, ap, subst}
+use Rattle.std.proofs.Common.{◌≡◌, ℕ, Bool, List, ◌++◌, length, Some, sym, ap, subst}
 use Rattle.std.specs.List.{AllByRecursion}
 use Rattle.go_types.specs.Trees.{TypeTree}
 use Rattle.go_typed.specs.declared.window.Window.{Window}
@@ -18,6 +18,7 @@ use Rattle.extract_texts.specs.Texts.{call_of, header_of, variable_names}
 use Rattle.extract_texts_written.specs.Written.{AllCallsCanBeWritten, FunctionsCanBeWritten}
 use Rattle.extract_rewrite_files.specs.Accepted.{AcceptedFilesAreNew}
 use Rattle.extract_rewrite_files.specs.Behind.{CallsCanBeWritten, FunctionCanBeWritten, FunctionsStandBehind, MayBeTaken}
+use Rattle.extract_rewrite_files.specs.Signatures.{SignaturesAreShallow}
 use Rattle.extract_rewrite_checked.specs.Checked.{WindowsHaveSites}
 use Rattle.extract_rewrite_checked.specs.Extracted.{ExtractedFilesAreNew, MayBeExtracted}
 
@@ -44,9 +45,11 @@ module _ (functions : FunctionsCanBeWritten) (calls : AllCallsCanBeWritten) (ide
       let r : Headed (chosen_of c ws) = subst Headed same (f.header, f.returned, f.fresh) in
       record { header = r.0; returned = r.1; fresh = r.2 }
 
-pub extracted_files_are_new : WindowsHaveSites → FunctionsCanBeWritten → AllCallsCanBeWritten → FunctionsStandBehind → AcceptedFilesAreNew → ExtractedFilesAreNew
-extracted_files_are_new have functions calls stand accepted identical p name ws t e h x n f at own =
+pub extracted_files_are_new : WindowsHaveSites → FunctionsCanBeWritten → AllCallsCanBeWritten → FunctionsStandBehind → SignaturesAreShallow → AcceptedFilesAreNew → ExtractedFilesAreNew
+extracted_files_are_new have functions calls stand shallow accepted identical p name ws t e h x n f at own =
     let sites = have p ws h.allowed.checked h.within.small h.windows in
     let taken : MayBeTaken p name ws t = record { checked = h.allowed.checked; within = h.within; template = h.allowed.template; allowed = h.allowed.allowed; sites = sites } in
-    accepted p name ws t e h.allowed.checked h.within h.allowed.template sites (all_written functions calls identical p name ws t h) x n f at
-    (λ same. let k = own same in stand p name ws t taken k.0 (function_written functions calls identical p name ws t h) k.1)
+    let called = all_written functions calls identical p name ws t h in
+    let written = function_written functions calls identical p name ws t h in
+    accepted p name ws t e h.allowed.checked h.within h.allowed.template sites called x n f at
+    (λ same. let k = own same in stand p name ws t taken k written (shallow p name ws t e taken called k written x))

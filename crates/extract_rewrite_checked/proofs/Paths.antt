@@ -1,9 +1,8 @@
 -- The members of windows at their paths.
-use Rattle.std.proofs.Common.{◌≡◌, ◌∙◌, ℕ, suc, ◌+◌, ◌-◌, ◌<◌, ◌≤◌, List, [], ◌∷◌, Option, Some, None, refl, sym, ap, subst, arith}
+use Rattle.std.proofs.Common.{◌≡◌, ◌∙◌, ◌+◌, ◌-◌, Some, ap, arith}
 use Rattle.std.specs.Prelude.{slice_get}
-use Rattle.go_grammar.specs.Trees.{Trees, first, parts}
+use Rattle.go_grammar.specs.Trees.{first}
 use Rattle.go_rewriting.specs.Places.{range}
-use Rattle.go_tree.specs.Uses.{functions_among}
 use Rattle.go_types.specs.Trees.{TypeTree}
 use Rattle.go_typed.specs.declared.window.Window.{Window}
 use Rattle.go_typed.specs.Contents.{Content, FuncContent}

@@ -1,5 +1,5 @@
 -- Extractions of windows that are the same from a package that type-checks.
-use Rattle.std.specs.Prelude.{◌≡◌, ℕ, ◌≤◌, Bool, Some, List, slice_get}
+use Rattle.std.specs.Prelude.{◌≡◌, ℕ, Bool, Some, List, slice_get}
 use Rattle.std.specs.List.{AllByRecursion}
 use Rattle.go_base.specs.Package.{IsPackage}
 use Rattle.go_tree.specs.File.{FileTree}
@@ -14,7 +14,6 @@ use Rattle.extract_rewrite.specs.Answers.{IsExtraction}
 use Rattle.extract_rewrite.specs.Extraction.{Extraction}
 use Rattle.extract_texts_written.specs.Written.{HolesCanBeSpelled, IsAllowed, LocalsAreNamed, chosen}
 use Rattle.extract_rewrite_files.specs.Accepted.{IsNewBehind}
-use Rattle.extract_rewrite_files.specs.Behind.{signature_levels}
 use Rattle.extract_rewrite_files.specs.Sites.{HasHoles}
 use Rattle.extract_rewrite_checked.specs.Checked.{HasStatement}
 
@@ -27,8 +26,7 @@ pub record MayBeExtracted (identical : TypeTree → TypeTree → Bool) (p : Pack
   pub named : LocalsAreNamed t (chosen (content p) ws t)
   pub spelled : AllByRecursion HolesCanBeSpelled (members_of (content p) ws)
 
--- An extraction that is accepted makes each file new; that of the template where its holes stand below the node of its statements, and the
--- signature of the function has at most 99 levels.
+-- An extraction that is accepted makes each file new; that of the template where its holes stand below the node of its statements.
 abbrev pub ExtractedFilesAreNew : Type 0
 ExtractedFilesAreNew = (identical : TypeTree → TypeTree → Bool) (p : PackageView) (name : List ℕ) (ws : List Window) (t : Member TypeTree) (e : Extraction) → MayBeExtracted identical p name ws t → IsExtraction (content p) name ws e
-    → (n : ℕ) (f : FileTree) → slice_get p.files n ≡ Some f → (n ≡ file_of (sources_of (content p)) t → HasHoles (content p) t × (signature_levels (content p) name ws t ≤ 99)) → IsNewBehind p name ws t e n f
+    → (n : ℕ) (f : FileTree) → slice_get p.files n ≡ Some f → (n ≡ file_of (sources_of (content p)) t → HasHoles (content p) t) → IsNewBehind p name ws t e n f

@@ -16,7 +16,7 @@ use Rattle.extract_rewrite_files.specs.Levels.{NewFilesHaveTrees}
 use Rattle.extract_rewrite_files.specs.NewFiles.{FilesBecomeNew}
 use Rattle.extract_rewrite_files.proofs.Splits.{same_some}
 
-made : (c : Content) (name : List ℕ) (ws : List Window) (t : Member TypeTree) (e : Extraction) → template_of c ws ≡ Some t → extraction_of c name ws ≡ Some e → edits c name ws ≡ e.edits
+pub made : (c : Content) (name : List ℕ) (ws : List Window) (t : Member TypeTree) (e : Extraction) → template_of c ws ≡ Some t → extraction_of c name ws ≡ Some e → edits c name ws ≡ e.edits
 made c name ws t e there is =
     let whole : Extraction = record { edits = edits c name ws; counts = counts c ws } in
     ap (λ (x : Extraction). x.edits) (same_some whole e (sym (ap (extraction_by c name ws) there) ∙ is))

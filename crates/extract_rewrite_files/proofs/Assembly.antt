@@ -1,5 +1,5 @@
 -- Each file of an extraction is new.
-use Rattle.std.proofs.Common.{◌≡◌, ◌∙◌, ℕ, ◌+◌, ◌<◌, ◌≤◌, inl, inr, Bool, true, false, cond, List, [], ◌∷◌, ◌++◌, drop, length, map, reverse, Option, Some, None, refl, sym, ap, subst, arith, eq-eqb, eqb-true}
+use Rattle.std.proofs.Common.{◌≡◌, ◌∙◌, ℕ, ◌+◌, ◌<◌, ◌≤◌, inl, inr, Bool, true, false, cond, List, [], ◌∷◌, ◌++◌, append-nil, drop, length, map, reverse, Option, Some, None, refl, sym, ap, subst, arith, eq-eqb, eqb-true}
 use Rattle.std.specs.Prelude.{◌==◌, nat_eq, slice_get}
 use Rattle.std.specs.List.{AllByRecursion}
 use Rattle.std.specs.Option.{option_map}
@@ -43,6 +43,7 @@ use Rattle.extract_files.specs.Holes.{named_trees, named_words}
 use Rattle.extract_texts.specs.Texts as template_text
 use Rattle.extract_rewrite_files.specs.Behind.{StandsBehind, names_for}
 use Rattle.extract_rewrite_files.specs.NewFiles.{BecomesNew, IsOneOf, behind_file, called_file}
+use Rattle.extract_rewrite_files.specs.Signatures.{HasFront}
 use Rattle.extract_rewrite_files.proofs.CheckedFiles.{HasText}
 use Rattle.go_function_places.specs.Places.{HavePlaces}
 use Rattle.extract_rewrite_files.proofs.Complete.{InFunction, all_in}
@@ -190,6 +191,47 @@ module _ (laws : Laws) (p : PackageView) (name : List ℕ) (ws : List Window) (t
       all_here [] a b = tt
       all_here (m ∷ ms) a b = ((λ same. member_there c name ws t Known_member bytes_known n in_order (edits_here n) m a.0 same b.0), all_here ms a.1 b.1)
 
+      -- the bytes of its members' calls in place of their windows
+      abbrev called_bytes : List ℕ
+      called_bytes = with_texts text_here.text.bytes 0 (map (window_bytes (sources_of c)) (edits_here n).members) (map (call_text (λ x. x) (sources_of c) name t (chosen_of c ws)) (edits_here n).members)
+
+      -- its bytes behind the edits, where this is appended
+      bytes_there : (tb : List ℕ) → ((at : ℕ) → at ≤ length text_here.text.bytes → renewed text_here.text.bytes at (edits_here n).tail ≡ drop at text_here.text.bytes ++ tb)
+          → (g : FileText) × (slice_get (applied (texts_of p) (edits c name ws)) n ≡ Some g) × (g.bytes ≡ called_bytes ++ tb)
+      bytes_there tb law =
+          let r = edits_here n in
+          let g = some_text (slice_get (applied (texts_of p) (edits c name ws)) n) _ (bytes_then n text_here.text text_here.there) in (
+            g.0,
+            g.1,
+            g.2 ∙ ap (renewed text_here.text.bytes 0) r.is
+                ∙ renewed_is c name ws t there text_here.text.bytes tb r.tail law r.members 0 (omega arith)
+                (all_to {P = λ m. Known_member m × (file_of (sources_of c) m ≡ n)} {Q = λ m. (member_of c m.window ≡ Some m) × ((window_bytes (sources_of c) m).end ≤ length text_here.text.bytes)} ends_here r.members r.are),
+          )
+
+      -- with its calls alone it has one derivation
+      with_front : (tb : List ℕ) → tb ≡ behind_file c name ws t n → ((at : ℕ) → at ≤ length text_here.text.bytes → renewed text_here.text.bytes at (edits_here n).tail ≡ drop at text_here.text.bytes ++ tb) → HasFront p name ws t n
+      with_front tb is law =
+          let r = edits_here n in
+          let l = lexes_of laws.known c (texts_of p) read n f text_here in
+          let cutting = called laws.known (sources_of c) name t (chosen_of c ws) n f text_here.read.lexing.text l text_here.read.tree.derives r.members
+          (all_to {P = λ m. Known_member m × (file_of (sources_of c) m ≡ n)} {Q = IsMember (sources_of c) name t (chosen_of c ws) f} in_file r.members r.are) r.row [] [] None (no_tail n) refl in
+          let w = called_file (sources_of c) n f cutting.windows cutting.rest [] cutting.tail_tokens None in
+          let new = laws.rewritten (sources_of c) name t (chosen_of c ws) r.members w cutting.extracted in
+          let text : IsText (file_text cutting.windows cutting.rest) f.tokens.text =
+          subst (λ y. IsText y f.tokens.text) cutting.text_is (subst (IsText text_here.read.lexing.text) (sym text_here.read.bytes) text_here.read.lexing.is_text) in
+          let old : encode_utf8_all (file_text cutting.windows cutting.rest) ≡ text_here.text.bytes = text.encoded ∙ text_here.read.bytes in
+          let written : encode_utf8_all (called_text (declared_text (sources_of c)) cutting.windows (cutting.rest ++ [])) ≡ called_bytes =
+          new.bytes ∙ append-nil (with_texts (encode_utf8_all (file_text cutting.windows cutting.rest)) 0 (map (window_bytes (sources_of c)) r.members) (map (call_text (λ x. x) (sources_of c) name t (chosen_of c ws)) r.members))
+          ∙ (λ j. with_texts (old j) 0 (map (window_bytes (sources_of c)) r.members) (map (call_text (λ x. x) (sources_of c) name t (chosen_of c ws)) r.members)) in
+          let g = bytes_there tb law in
+          record {
+            text = g.0;
+            there = g.1;
+            front = encode_utf8_all (called_text (declared_text (sources_of c)) cutting.windows (cutting.rest ++ []));
+            one_tree = laws.one_tree w cutting.extracted.called (record { derives = text_here.read.tree.derives; begins = text_here.read.tree.begins; ends = text_here.read.tree.ends }) f.tokens.text [] text no_text;
+            is = g.2 ∙ (λ j. sym written j ++ is j);
+          }
+
       -- the file, with what is appended, and the edit that appends it
       with_tail : (tb : List ℕ) (b : Appended n tb) → tb ≡ behind_file c name ws t n
           → ((at : ℕ) → at ≤ length text_here.text.bytes → renewed text_here.text.bytes at (edits_here n).tail ≡ drop at text_here.text.bytes ++ tb) → BecomesNew p name ws t n f
@@ -206,16 +248,13 @@ module _ (laws : Laws) (p : PackageView) (name : List ℕ) (ws : List Window) (t
           let lexing : IsLexing n f.tokens.text f.tokens.tokens f.tokens.comments =
           subst (λ y. IsLexing n y f.tokens.tokens f.tokens.comments) (sym text_here.read.bytes) (subst (λ k. IsLexing k text_here.text.bytes f.tokens.tokens f.tokens.comments)
           (let z : 0 + n ≡ n = omega arith in z) text_here.read.lexing) in
-          let g = some_text (slice_get (applied (texts_of p) (edits c name ws)) n) _ (bytes_then n text_here.text text_here.there) in
+          let g = bytes_there tb law in
           let old : encode_utf8_all (file_text cutting.windows cutting.rest) ≡ text_here.text.bytes = text.encoded ∙ text_here.read.bytes in
           let written : encode_utf8_all (called_text (declared_text (sources_of c)) cutting.windows (cutting.rest ++ b.tail))
           ≡ with_texts text_here.text.bytes 0 (map (window_bytes (sources_of c)) r.members) (map (call_text (λ x. x) (sources_of c) name t (chosen_of c ws)) r.members) ++ tb =
           new.bytes ∙ (λ j. with_texts (old j) 0 (map (window_bytes (sources_of c)) r.members) (map (call_text (λ x. x) (sources_of c) name t (chosen_of c ws)) r.members) ++ b.is_text.encoded j) in
           let bytes : g.0.bytes ≡ encode_utf8_all (called_text (declared_text (sources_of c)) cutting.windows (cutting.rest ++ b.tail)) =
-          g.2 ∙ ap (renewed text_here.text.bytes 0) r.is
-          ∙ renewed_is c name ws t there text_here.text.bytes tb r.tail law r.members 0 (omega arith)
-          (all_to {P = λ m. Known_member m × (file_of (sources_of c) m ≡ n)} {Q = λ m. (member_of c m.window ≡ Some m) × ((window_bytes (sources_of c) m).end ≤ length text_here.text.bytes)} ends_here r.members r.are)
-          ∙ sym written in
+          g.2 ∙ sym written in
           let one = laws.one_tree w cutting.extracted.called (record { derives = text_here.read.tree.derives; begins = text_here.read.tree.begins; ends = text_here.read.tree.ends }) f.tokens.text tb text b.is_text in
           record {
             text = g.0;
@@ -241,17 +280,21 @@ module _ (laws : Laws) (p : PackageView) (name : List ℕ) (ws : List Window) (t
           }
 
       -- nothing is appended
+      unchanged_there : (n ≡ file_of (sources_of c) t → ⊥) → (at : ℕ) → at ≤ length text_here.text.bytes → renewed text_here.text.bytes at (edits_here n).tail ≡ drop at text_here.text.bytes ++ []
+      unchanged_there other at le = ap (renewed text_here.text.bytes at) (nothing_there c name ws t Known_member bytes_known n in_order (edits_here n) other) ∙ none_behind text_here.text.bytes at le
+
       unchanged_end : (n ≡ file_of (sources_of c) t → ⊥) → [] ≡ behind_file c name ws t n → BecomesNew p name ws t n f
-      unchanged_end other is =
-          let none = nothing_there c name ws t Known_member bytes_known n in_order (edits_here n) other in
-          with_tail [] (record { tail = []; tokens = []; added = None; is_text = no_text; is_tail = no_tail n; fits = refl }) is
-          (λ at le. ap (renewed text_here.text.bytes at) none ∙ none_behind text_here.text.bytes at le)
+      unchanged_end other is = with_tail [] (record { tail = []; tokens = []; added = None; is_text = no_text; is_tail = no_tail n; fits = refl }) is (unchanged_there other)
 
       -- the function is
-      function_end : n ≡ file_of (sources_of c) t → function_for c name ws ≡ behind_file c name ws t n → StandsBehind c name ws t → BecomesNew p name ws t n f
-      function_end same is b =
+      function_appended : n ≡ file_of (sources_of c) t → (at : ℕ) → at ≤ length text_here.text.bytes → renewed text_here.text.bytes at (edits_here n).tail ≡ drop at text_here.text.bytes ++ function_for c name ws
+      function_appended same at le =
           let one = function_there c name ws t Known_member bytes_known n in_order (edits_here n) same function_in in
           let long : length (template_text.file_text (sources_of c) t) ≡ length text_here.text.bytes = ap (λ o. length (template_text.text_of o)) (ap (slice_get c.files) (sym same) ∙ e) ∙ ap length text_here.read.bytes in
+          ap (renewed text_here.text.bytes at) one ∙ one_behind text_here.text.bytes function long long at le
+
+      function_end : n ≡ file_of (sources_of c) t → function_for c name ws ≡ behind_file c name ws t n → StandsBehind c name ws t → BecomesNew p name ws t n f
+      function_end same is b =
           with_tail (function_for c name ws) (record {
             tail = b.stands.text;
             tokens = b.stands.tokens;
@@ -260,12 +303,18 @@ module _ (laws : Laws) (p : PackageView) (name : List ℕ) (ws : List Window) (t
             is_tail = subst (λ k. IsTail k b.stands.text b.stands.tokens) (sym same) b.stands.tail;
             fits = subst (λ ks. IsDeclaration ks (function_tree (extracted_function (sources_of c) name (names_for c name ws) t (chosen_of c ws)) (length (named_words b.template)) (named_trees b.template)))
                 (sym b.stands.kinds_are) b.stands.declaration;
-          }) is
-          (λ at le. ap (renewed text_here.text.bytes at) one ∙ one_behind text_here.text.bytes function long long at le)
+          }) is (function_appended same)
+
+      -- whether this is the template's file
+      either : (R : Type 0) → (n ≡ file_of (sources_of c) t → function_for c name ws ≡ behind_file c name ws t n → R) → ((n ≡ file_of (sources_of c) t → ⊥) → [] ≡ behind_file c name ws t n → R) → R
+      either R here elsewhere = by (n == file_of (sources_of c) t) refl
+        where
+          by : (q : Bool) → (n == file_of (sources_of c) t) ≡ q → R
+          by true k = here (eqb-true n (file_of (sources_of c) t) k) (ap (λ x. cond x (function_for c name ws) []) (sym k))
+          by false k = elsewhere (λ same. let yes : (n == file_of (sources_of c) t) ≡ true = eq-eqb n (file_of (sources_of c) t) same in absurd cc) (ap (λ x. cond x (function_for c name ws) []) (sym k))
 
       pub file_new : (n ≡ file_of (sources_of c) t → StandsBehind c name ws t) → BecomesNew p name ws t n f
-      file_new b = by (n == file_of (sources_of c) t) refl
-        where
-          by : (q : Bool) → (n == file_of (sources_of c) t) ≡ q → BecomesNew p name ws t n f
-          by true k = let same = eqb-true n (file_of (sources_of c) t) k in function_end same (ap (λ x. cond x (function_for c name ws) []) (sym k)) (b same)
-          by false k = unchanged_end (λ same. let yes : (n == file_of (sources_of c) t) ≡ true = eq-eqb n (file_of (sources_of c) t) same in absurd cc) (ap (λ x. cond x (function_for c name ws) []) (sym k))
+      file_new b = either (BecomesNew p name ws t n f) (λ same is. function_end same is (b same)) unchanged_end
+
+      pub file_front : HasFront p name ws t n
+      file_front = either (HasFront p name ws t n) (λ same is. with_front (function_for c name ws) is (function_appended same)) (λ other is. with_front [] is (unchanged_there other))

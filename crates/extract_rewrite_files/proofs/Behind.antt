@@ -19,8 +19,10 @@ use Rattle.go_types.specs.Trees.{TypeTree}
 use Rattle.go_typed.specs.declared.window.Window.{Window}
 use Rattle.go_typed.specs.Contents.{Content}
 use Rattle.go_package_defs.specs.Checked.{AreRead}
+use Rattle.go_function_headers.specs.Functions.{FunctionReads}
+use Rattle.go_function_headers.proofs.Public.{function_low}
 use Rattle.go_print_laws.specs.Functions.{FunctionStands, function_tree, function_words}
-use Rattle.go_print_laws.specs.Headers.{HeaderCanBeWritten}
+use Rattle.go_print_laws.specs.Headers.{HeaderCanBeWritten, signature_tree}
 use Rattle.go_print_laws.specs.Lexemes.{AreNames}
 use Rattle.param_choose.specs.Choosing.{HoleParameter, chosen_in, chosen_of}
 use Rattle.param_choose.specs.Holes.{Hole, holes}
@@ -30,11 +32,11 @@ use Rattle.escape_check.specs.Places.{file_of, sources_of}
 use Rattle.escape_check.specs.Types.{declared_text}
 use Rattle.extract_texts.specs.Fresh.{AreEnough}
 use Rattle.extract_texts.specs.Texts.{function_among, function_with, header_of, hole_bytes, variable_names, window_bytes}
-use Rattle.extract_files.specs.Functions.{ExtractedFunctionsStand, extracted_function}
+use Rattle.extract_files.specs.Functions.{ExtractedFunctionsRead, ExtractedFunctionsStand, extracted_function}
 use Rattle.extract_files.specs.Holes.{IsTemplate, Template, named_trees, named_words}
-use Rattle.extract_rewrite_files.specs.Behind.{HasTemplate, StandsBehind, names_for, signature_levels}
+use Rattle.extract_rewrite_files.specs.Behind.{HasTemplate, ReadsBehind, StandsBehind, names_for, signature_levels}
 use Rattle.extract_rewrite_files.proofs.CheckedFiles.{HasText}
-use Rattle.extract_rewrite_files.proofs.Depths.{KeepsDepth, function_low, lists_statements, lists_them_all, named_low, two_above}
+use Rattle.extract_rewrite_files.proofs.Depths.{KeepsDepth, lists_statements, lists_them_all, named_low, two_above}
 use Rattle.extract_rewrite_files.proofs.Enough.{has_room, one_short}
 use Rattle.extract_rewrite_files.proofs.Facts.{Fact, file_read, has_bytes, lexes_of, some_before}
 use Rattle.extract_rewrite_files.specs.Sites.{HasHoles, IsHoleSite}
@@ -148,6 +150,7 @@ module _ (known : Known) (texts : TextsEndWell) (enough : AreEnough) (keeps : Ke
       record {
         template = r.0;
         is_template = (r.1, r.2);
+        low = trees_low r.0 r.1.template r.3;
         shallow = λ low. function_low (extracted_function (sources_of c) name (names_for c name ws) t (chosen_of c ws)) (length (named_words r.0)) (named_trees r.0) low (trees_low r.0 r.1.template r.3);
       }
 
@@ -164,4 +167,17 @@ module _ (known : Known) (texts : TextsEndWell) (enough : AreEnough) (keeps : Ke
         is_template = r.is_template;
         stands = subst (λ b. FunctionStands n b words tree) (sym (ap (λ o. function_among c name o (chosen_of c ws)) there))
             (subst (λ k. FunctionStands k (function_with (λ x. x) (sources_of c) name (names_for c name ws) t (chosen_of c ws)) words tree) r.is_template.1 stands);
+      }
+
+  pub reads_behind : ExtractedFunctionsRead → HeaderCanBeWritten (declared_text (sources_of c)) (header_of (λ x. x) (sources_of c) name (names_for c name ws) t (chosen_of c ws))
+      → AreNames (variable_names (sources_of c) t ((chosen_of c ws).assigned ++ (chosen_of c ws).declared)) → AreNames (names_for c name ws) → ReadsBehind c name ws t
+  reads_behind law header returned names =
+      let r = template_for names in
+      let words = function_words (declared_text (sources_of c)) (extracted_function (sources_of c) name (names_for c name ws) t (chosen_of c ws)) (named_words r.template) in
+      let signature = signature_tree 2 (header_of (λ x. x) (sources_of c) name (names_for c name ws) t (chosen_of c ws)) in
+      let reads = law (sources_of c) name (names_for c name ws) t (chosen_of c ws) r.template header returned r.is_template.0 r.low in
+      record {
+        words = words;
+        reads = subst (λ b. FunctionReads n b words signature) (sym (ap (λ o. function_among c name o (chosen_of c ws)) there))
+            (subst (λ k. FunctionReads k (function_with (λ x. x) (sources_of c) name (names_for c name ws) t (chosen_of c ws)) words signature) r.is_template.1 reads);
       }

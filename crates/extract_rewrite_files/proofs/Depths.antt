@@ -1,6 +1,6 @@
 -- The levels of the template's statements in the new function.
 use Rattle.std.proofs.Common.{◌≡◌, ◌∙◌, ℕ, zero, suc, ◌+◌, ◌≤◌, ◌⊎◌, inl, inr, Bool, true, false, not, ◌&&◌, ◌||◌, List, [], ◌∷◌, Some, refl, sym, ap, subst, arith, eqb-true}
-use Rattle.std.specs.Prelude.{max, nat_eq}
+use Rattle.std.specs.Prelude.{nat_eq}
 use Rattle.go_tokens.specs.declared.token.Token.{Token}
 use Rattle.go_tokens.specs.declared.token.TokenKind.{TokenKind}
 use Rattle.go_tokens.specs.declared.token.TokenKind.TheVariants as token
@@ -14,16 +14,15 @@ use Rattle.go_grammar.specs.declared.kind.Place.TheVariants as place
 use Rattle.go_grammar.specs.Categories.{is_expression, place_of, within}
 use Rattle.go_grammar.specs.Grammar.{rule, Derives}
 use Rattle.go_grammar.specs.Rules.{Items, Lines, Open, Each, Again, Rule, End, Then, Maybe, Unless, Many, item}
-use Rattle.go_grammar.specs.Trees.{Tree, node, Trees, none, more, skip, depth, depths, kind_of, last, onto, parts, weight}
+use Rattle.go_grammar.specs.Trees.{Tree, node, Trees, none, more, skip, depth, depths, kind_of, parts, weight}
 use Rattle.go_grammar.proofs.Public.{all, kinds, kinds_at}
 use Rattle.go_rewriting.specs.Lists.{Subtree, items_at, run_at, so_many}
 use Rattle.go_rewriting.specs.Places.{Change, become, carry, carries, moved_by}
 use Rattle.go_rewriting.specs.Replacing.{asked_at, asked_in, moved, subtree_at, subtree_in}
 use Rattle.go_rewriting.specs.Sites.{AllWithin, Site, levels, levels_in, patch_of, whole}
-use Rattle.go_print_laws.specs.Calls.{AreStatements, of_block, of_clause, names_behind}
-use Rattle.go_print_laws.specs.Functions.{Function, function_tree, returning_trees}
-use Rattle.go_print_laws.specs.Headers.{header_tree, signature_tree}
+use Rattle.go_print_laws.specs.Calls.{AreStatements, of_block, of_clause}
 use Rattle.go_print_laws.specs.Trees.{name_at}
+use Rattle.go_function_headers.proofs.Public.{carries_depth}
 use Rattle.extract_files.specs.Holes.{AreHoles, Hole, name_sites, named, named_tree, path_of}
 use Rattle.extract_rewrite_files.proofs.Splits.{same_some}
 
@@ -273,16 +272,7 @@ names_within ts c t d at xs (x ∷ hs) le h =
     let r = levels_low (path_of x) t h.0.stood (carry (λ k. moved_by xs x.from + k) (name_at 0)) h.0.at_path (expression_deep h.0.stood h.0.expression) in
     (omega (arith, r, le), names_within ts c t d (at + width x.kept + width x.old) xs hs le h.1)
 
--- ---- trees that are moved, and parts of them
-
-mutual
-  carry_depth : (m : ℕ → ℕ) (t : Tree) → depth (carry m t) ≡ depth t
-  carry_depth m (node k a b ps) = ap (λ n. weight k + n) (carries_depth m ps)
-
-  carries_depth : (m : ℕ → ℕ) (ps : Trees) → depths (carries m ps) ≡ depths ps
-  carries_depth m none = refl
-  carries_depth m (more p ps) = λ j. max (carry_depth m p j) (carries_depth m ps j)
-  carries_depth m (skip ps) = carries_depth m ps
+-- ---- parts of trees that are moved
 
 so_many_low : (n : ℕ) (ps : Trees) → depths (so_many n ps) ≤ depths ps
 so_many_low zero ps = omega arith
@@ -296,11 +286,6 @@ run_low (suc f) n none = omega arith
 run_low (suc f) n (more p ps) = let r = run_low f n ps in omega (arith, r)
 run_low (suc f) n (skip ps) = run_low f n ps
 
-onto_depth : (ps qs : Trees) (d : ℕ) → depths ps ≤ d → depths qs ≤ d → depths (onto ps qs) ≤ d
-onto_depth none qs d a b = b
-onto_depth (more p ps) qs d a b = let r = onto_depth ps qs d (omega (arith, a)) b in omega (arith, r, a)
-onto_depth (skip ps) qs d a b = onto_depth ps qs d a b
-
 parts_low : (t : Tree) (d : ℕ) → weight (kind_of t) ≡ 1 → depth t ≤ suc d → depths (parts t) ≤ d
 parts_low (node k a b ps) d w le = omega (arith, w, le)
 
@@ -308,14 +293,6 @@ parts_low (node k a b ps) d w le = omega (arith, w, le)
 top_stays : (m : ℕ → ℕ) (t : Tree) (xs : List Change) (hs : List Hole) → kind_of (become m t (patch_of (name_sites xs hs))) ≡ kind_of t
 top_stays m (node k a b ps) xs [] = refl
 top_stays m (node k a b ps) xs (x ∷ hs) = refl
-
-names_low : (i : ℕ) (xs : List (List ℕ)) → depths (names_behind i xs) ≤ 1
-names_low i [] = omega arith
-names_low i (x ∷ xs) = let r = names_low (suc (suc i)) xs in omega (arith, r)
-
-returning_low : (i : ℕ) (xs : List (List ℕ)) → depths (returning_trees i xs) ≤ 2
-returning_low i [] = omega arith
-returning_low i (x ∷ xs) = let r = names_low (suc (suc i)) xs in omega (arith, r)
 
 abbrev pub KeepsDepth : Type 0
 KeepsDepth = (m : ℕ → ℕ) (t : Tree) (ss : List Site) (d : ℕ) → depth t ≤ d → AllWithin d t ss → depth (become m t (patch_of ss)) ≤ d
@@ -331,12 +308,3 @@ named_low law ts c t at from f n hs le l h =
     let r = run_low f n (parts (named_tree hs t)) in
     let same = carries_depth (moved from 0) (run_at f n (parts (named_tree hs t))) in
     omega (arith, b, r, same)
-
--- the function
-pub function_low : (f : Function) (n : ℕ) (new : Trees) → depth (signature_tree 2 f.header) ≤ 99 → depths new ≤ 98 → depth (function_tree f n new) ≤ 100
-function_low f n new a b =
-    let k = last (header_tree 0 f.header) in
-    let i = suc (moved 0 (suc k) n) in
-    let moved_new = carries_depth (moved 0 (suc k)) new in
-    let body = onto_depth (carries (moved 0 (suc k)) new) (returning_trees i f.returned) 98 (omega (arith, moved_new, b)) (let r = returning_low i f.returned in omega (arith, r)) in
-    omega (arith, a, body)

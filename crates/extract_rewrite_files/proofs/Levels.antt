@@ -13,13 +13,13 @@ use Rattle.go_package_defs.specs.Checked.{AreRead, IsRead}
 use Rattle.extract_files.specs.Levels.{HasOneTree}
 use Rattle.extract_rewrite_files.specs.Levels.{NewFilesHaveTrees}
 
-read_there : (xs : List FileText) (fs : List FileTree) (n k : ℕ) (x : FileText) → AreRead k xs fs → slice_get xs n ≡ Some x → (g : FileTree) × IsRead (k + n) x g
+pub read_there : (xs : List FileText) (fs : List FileTree) (n k : ℕ) (x : FileText) → AreRead k xs fs → slice_get xs n ≡ Some x → (g : FileTree) × IsRead (k + n) x g
 read_there [] fs n k x h e = absurd cc
 read_there (y ∷ xs) [] n k x h e = absurd h
 read_there (y ∷ xs) (g ∷ fs) zero k x h e = let same : y ≡ x = cc in (g, subst (λ m. IsRead m x g) (let z : k ≡ k + 0 = omega arith in z) (subst (λ z. IsRead k z g) same h.0))
 read_there (y ∷ xs) (g ∷ fs) (suc n) k x h e = let r = read_there xs fs n (suc k) x h.1 e in (r.0, subst (λ m. IsRead m x r.0) (let z : suc k + n ≡ k + suc n = omega arith in z) r.1)
 
-one_tree : ((file : ℕ) (bytes : List ℕ) (ts us : List Token) (cs ds : List Span) → IsLexing file bytes ts cs → IsLexing file bytes us ds → (ts ≡ us) × (cs ≡ ds)) → (n : ℕ) (x : FileText) (g : FileTree) → IsRead n x g
+pub one_tree : ((file : ℕ) (bytes : List ℕ) (ts us : List Token) (cs ds : List Span) → IsLexing file bytes ts cs → IsLexing file bytes us ds → (ts ≡ us) × (cs ≡ ds)) → (n : ℕ) (x : FileText) (g : FileTree) → IsRead n x g
     → (h : HasOneTree n x.bytes) → IsFile (kinds h.tokens) h.tree
 one_tree law n x g r h =
     let same : g.tokens.tokens ≡ h.tokens = (law n x.bytes g.tokens.tokens h.tokens g.tokens.comments h.comments r.lexing h.lexing).0 in

@@ -23,3 +23,4 @@ mod Assembly
 mod Main
 mod Levels
 mod Accepted
+mod Signatures

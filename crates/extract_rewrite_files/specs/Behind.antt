@@ -2,11 +2,13 @@
 use Rattle.std.specs.Prelude.{◌≡◌, ℕ, ◌≤◌, ◌++◌, Some, None, length, List}
 use Rattle.std.specs.List.{AllByRecursion}
 use Rattle.go_base.specs.Package.{IsPackage}
-use Rattle.go_grammar.specs.Trees.{depth}
+use Rattle.go_tokens.specs.declared.token.TokenKind.{TokenKind}
+use Rattle.go_grammar.specs.Trees.{depth, depths}
 use Rattle.go_print_laws.specs.Calls.{CallCanBeWritten}
 use Rattle.go_print_laws.specs.Headers.{HeaderCanBeWritten, signature_tree}
 use Rattle.go_print_laws.specs.Lexemes.{AreNames}
 use Rattle.go_print_laws.specs.Functions.{FunctionStands, function_tree, function_words}
+use Rattle.go_function_headers.specs.Functions.{FunctionReads}
 use Rattle.go_types.specs.Trees.{TypeTree}
 use Rattle.go_typed.specs.declared.window.Window.{Window}
 use Rattle.go_typed.specs.Contents.{Content, content}
@@ -66,10 +68,11 @@ pub record StandsBehind (c : Content) (name : List ℕ) (ws : List Window) (t : 
 abbrev pub signature_levels : Content → List ℕ → List Window → Member TypeTree → ℕ
 signature_levels c name ws t = depth (signature_tree 2 (header_of (λ x. x) (sources_of c) name (names_for c name ws) t (chosen_of c ws)))
 
--- The template is a part of its file, and the new function is within the limit on levels where its signature is.
+-- The template is a part of its file, with at most 98 levels, and the new function is within the limit on levels where its signature is.
 pub record HasTemplate (c : Content) (name : List ℕ) (ws : List Window) (t : Member TypeTree) : Type 0 where
   pub template : Template
   pub is_template : IsTemplateFor c name ws t template
+  pub low : depths (named_trees template) ≤ 98
   pub shallow : signature_levels c name ws t ≤ 99 → levels_of c name ws t template ≤ 100
 
 abbrev pub TemplatesAreParts : Type 0
@@ -80,3 +83,12 @@ TemplatesAreParts = (p : PackageView) (name : List ℕ) (ws : List Window) (t : 
 abbrev pub FunctionsStandBehind : Type 0
 FunctionsStandBehind = (p : PackageView) (name : List ℕ) (ws : List Window) (t : Member TypeTree) → MayBeTaken p name ws t → HasHoles (content p) t → FunctionCanBeWritten (content p) name ws t
     → signature_levels (content p) name ws t ≤ 99 → StandsBehind (content p) name ws t
+
+-- What stands behind the template's file is read there as a declaration, whatever levels its signature has.
+pub record ReadsBehind (c : Content) (name : List ℕ) (ws : List Window) (t : Member TypeTree) : Type 0 where
+  pub words : List TokenKind
+  pub reads : FunctionReads (file_of (sources_of c) t) (function_for c name ws) words (signature_tree 2 (header_of (λ x. x) (sources_of c) name (names_for c name ws) t (chosen_of c ws)))
+
+-- The new function is read behind the file of the template.
+abbrev pub FunctionsReadBehind : Type 0
+FunctionsReadBehind = (p : PackageView) (name : List ℕ) (ws : List Window) (t : Member TypeTree) → MayBeTaken p name ws t → HasHoles (content p) t → FunctionCanBeWritten (content p) name ws t → ReadsBehind (content p) name ws t

@@ -3,3 +3,4 @@ pub mod Behind
 pub mod NewFiles
 pub mod Levels
 pub mod Accepted
+pub mod Signatures

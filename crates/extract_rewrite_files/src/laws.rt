@@ -1,13 +1,15 @@
 //! Laws of the files of an extraction, for the crates above. The functions do nothing: their contracts are the laws.
 
 ghost use Rattle.extract_rewrite_files.specs.Accepted.{AcceptedFilesAreNew};
-ghost use Rattle.extract_rewrite_files.specs.Behind.{FunctionsStandBehind, TemplatesAreParts};
+ghost use Rattle.extract_rewrite_files.specs.Behind.{FunctionsReadBehind, FunctionsStandBehind, TemplatesAreParts};
 ghost use Rattle.extract_rewrite_files.specs.Levels.{NewFilesHaveTrees};
 ghost use Rattle.extract_rewrite_files.specs.NewFiles.{FilesBecomeNew};
+ghost use Rattle.extract_rewrite_files.specs.Signatures.{FilesHaveFronts, SignaturesAreShallow};
 
 use escape_check::laws::unrefused_windows_are_apart;
 use extract_files::laws::{
-    called_files_have_one_tree, extracted_files_are_rewritten, extracted_functions_stand,
+    called_files_have_one_tree, extracted_files_are_rewritten, extracted_functions_read,
+    extracted_functions_stand, functions_may_be_appended,
 };
 use extract_rewrite::laws::{edits_can_be_done, other_bytes_stay};
 use extract_texts::laws::fresh_names_are_enough;
@@ -16,8 +18,8 @@ use go_rewriting::laws::{changed_sites_keep_a_depth, items_stand, subtrees_stand
 use go_tokens::laws::one_lexing;
 
 /// The template of an extraction is a part of the characters of its file: a run of statements, with expressions in it at the places of the
-/// holes that are parameters, each under a fresh name. The new function has at most 100 levels where its signature has at most 99: its
-/// statements have had as many levels in their file.
+/// holes that are parameters, each under a fresh name. Its statements have at most 98 levels, as they have had in their file; so the new
+/// function has at most 100 levels where its signature has at most 99.
 pub fn templates_are_parts()
     ensures { TemplatesAreParts }
 {
@@ -36,6 +38,20 @@ pub fn functions_stand_behind()
 {
     changed_sites_keep_a_depth();
     extracted_functions_stand();
+    fresh_names_are_enough();
+    functions_have_places();
+    items_stand();
+    subtrees_stand();
+    texts_end_well();
+}
+
+/// What stands behind the template's file is read there as a declaration with this signature, whatever levels the signature has: it may have
+/// more than a file may have.
+pub fn functions_read_behind()
+    ensures { FunctionsReadBehind }
+{
+    changed_sites_keep_a_depth();
+    extracted_functions_read();
     fresh_names_are_enough();
     functions_have_places();
     items_stand();
@@ -78,4 +94,31 @@ pub fn accepted_files_are_new()
 {
     files_become_new();
     new_files_have_trees();
+}
+
+/// The bytes of each file behind the edits are those of the file with its calls, which have one lexing and one derivation over all their tokens,
+/// and what is appended to it, whether that can be read or not.
+pub fn files_have_fronts()
+    ensures { FilesHaveFronts }
+{
+    called_files_have_one_tree();
+    edits_can_be_done();
+    extracted_files_are_rewritten();
+    functions_have_places();
+    items_stand();
+    other_bytes_stay();
+    subtrees_stand();
+    texts_end_well();
+    unrefused_windows_are_apart();
+}
+
+/// Behind an extraction that is accepted the signature of the new function has at most 99 levels: with more, the one derivation of the
+/// template's new file would have more than a file may have, and the code 17 would refuse the extraction.
+pub fn signatures_are_shallow()
+    ensures { SignaturesAreShallow }
+{
+    files_have_fronts();
+    functions_may_be_appended();
+    functions_read_behind();
+    one_lexing();
 }
