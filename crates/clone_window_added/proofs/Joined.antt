@@ -1,13 +1,12 @@
 -- The functions of a package, and the same functions with another one between.
 use Rattle.std.proofs.Common.{◌≡◌, ◌∙◌, ℕ, suc, ◌+◌, List, [], ◌∷◌, ◌++◌, length, map, Some, slice_get, ap, refl, sym, subst, arith}
-use Rattle.std.specs.Prelude.{Result, Ok, Err}
+use Rattle.std.specs.Prelude.{Result, Ok}
 use Rattle.std.proofs.lemmas.List.{map-append}
 use Rattle.go_base.specs.Gives.{◌>>=◌}
 use Rattle.go_tree.specs.Failures.{Failure}
 use Rattle.go_types.specs.Relations.{Rights}
 use Rattle.go_typed.specs.Contents.{FuncContent}
-use Rattle.go_exprs_rules.specs.declared.fault.TypeFault.{TypeFault}
-use Rattle.go_package_defs.specs.Bodies.{Behind, Functions, Surroundings, functions_from, placed, portion_of, typed_function, with_function}
+use Rattle.go_package_defs.specs.Bodies.{Functions, Surroundings, functions_from, placed, portion_of, with_function}
 use Rattle.go_package_defs.specs.Declarations.{Specification}
 use Rattle.go_package_defs.specs.Sources.{Package}
 use Rattle.go_heads_added.specs.Added.{Gap, beyond}
@@ -16,34 +15,11 @@ use Rattle.go_package_added.specs.Unchanged.{last_in}
 use Rattle.clone_window_added.specs.Unchanged.{AddsNoRights, StaysBetween, body_in, renumbered}
 use Rattle.clone_window_added.proofs.Kept.{keeps_windows}
 use Rattle.clone_window_added.proofs.Placed.{body_same}
+use Rattle.clone_window_added.proofs.Places.{headed}
 
 -- ---- functions one behind the other
 
 module _ (p : Package) (a : Surroundings) where
-  -- the first function, and those behind it
-  record Headed (rights : Rights) (n : ℕ) (d : Specification) (ds : List Specification) (y : Functions) : Type 0 where
-    one : Behind
-    others : Functions
-    typed : typed_function p a rights n d ≡ Ok one
-    later : functions_from p a one.rights (suc n) ds ≡ Ok others
-    functions : y.functions ≡ one.function ∷ others.functions
-
-  first_of : (f : FuncContent) (w y : Functions) → ◌≡◌ {A = Result Functions Failure} (Ok (with_function f w)) (Ok y) → y.functions ≡ f ∷ w.functions
-  first_of f w y e = ap (λ (z : Functions). z.functions) (let same : y ≡ with_function f w = cc in same)
-
-  headed_more : (rights : Rights) (n : ℕ) (d : Specification) (ds : List Specification) (y : Functions) (c : Behind) (r : Result Functions Failure) → typed_function p a rights n d ≡ Ok c → functions_from p a c.rights (suc n) ds ≡ r
-      → (r >>= λ fs. Ok (with_function c.function fs)) ≡ Ok y → Headed rights n d ds y
-  headed_more rights n d ds y c (Ok w) e h z = record { one = c; others = w; typed = e; later = h; functions = first_of c.function w y z }
-  headed_more rights n d ds y c (Err f) e h z = absurd cc
-
-  headed_one : (rights : Rights) (n : ℕ) (d : Specification) (ds : List Specification) (y : Functions) (r : Result Behind TypeFault) → typed_function p a rights n d ≡ r
-      → (placed p d r >>= λ b. functions_from p a b.rights (suc n) ds >>= λ fs. Ok (with_function b.function fs)) ≡ Ok y → Headed rights n d ds y
-  headed_one rights n d ds y (Ok c) e z = headed_more rights n d ds y c (functions_from p a c.rights (suc n) ds) e refl z
-  headed_one rights n d ds y (Err f) e z = absurd cc
-
-  headed : (rights : Rights) (n : ℕ) (d : Specification) (ds : List Specification) (y : Functions) → functions_from p a rights n (d ∷ ds) ≡ Ok y → Headed rights n d ds y
-  headed rights n d ds y e = headed_one rights n d ds y (typed_function p a rights n d) refl e
-
   -- the functions of the first specifications, and those of the others
   record Split (rights : Rights) (n : ℕ) (xs ys : List Specification) (y : Functions) : Type 0 where
     front : Functions
@@ -63,7 +39,7 @@ module _ (p : Package) (a : Surroundings) where
     count = refl;
   }
   split rights n (d ∷ xs) ys y e =
-      let h = headed rights n d (xs ++ ys) y e in
+      let h = headed p a rights n d (xs ++ ys) y e in
       let s = split h.one.rights (suc n) xs ys h.others h.later in
       record {
         front = with_function h.one.function s.front;
@@ -97,7 +73,7 @@ found_behind : (xs ys : List FuncContent) (f : FuncContent) → slice_get (xs ++
 found_behind [] ys f = refl
 found_behind (x ∷ xs) ys f = found_behind xs ys f
 
-mapped : (fs : List FuncContent) → length (map body_in fs) ≡ length fs
+pub mapped : (fs : List FuncContent) → length (map body_in fs) ≡ length fs
 mapped [] = refl
 mapped (f ∷ fs) = ap suc (mapped fs)
 

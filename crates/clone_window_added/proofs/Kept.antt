@@ -16,7 +16,6 @@ use Rattle.clone_window.specs.Fields.{field_by}
 use Rattle.clone_window.specs.Masses.{masses}
 use Rattle.clone_window.specs.Windows.{windows}
 use Rattle.clone_window.specs.declared.bounds.Bounds.{Bounds}
-use Rattle.clone_classes.specs.Classes.{classes}
 use Rattle.clone_classes.specs.Listing.{windows_of_all}
 use Rattle.clone_window_added.specs.Reworded.{IsRewording, StaysThere}
 use Rattle.clone_window_added.specs.Unchanged.{KeepsWindows, renumbered, window_beyond, with_between}
@@ -36,7 +35,7 @@ module _ (g : Gap) (f : Body TypeTree) where
 
   -- ---- the functions
 
-  found_between : (front rest : List (Body TypeTree)) (n : ℕ) → slice_get (map (renumbered g) front ++ f ∷ map (renumbered g) rest) (beyond (length front) n) ≡ option_map (renumbered g) (slice_get (front ++ rest) n)
+  pub found_between : (front rest : List (Body TypeTree)) (n : ℕ) → slice_get (map (renumbered g) front ++ f ∷ map (renumbered g) rest) (beyond (length front) n) ≡ option_map (renumbered g) (slice_get (front ++ rest) n)
   found_between [] rest n = ap (slice_get (f ∷ map (renumbered g) rest)) (beyond_first n) ∙ slice_get-map (renumbered g) rest n
   found_between (x ∷ xs) rest zero = ap (slice_get (to x ∷ (map (renumbered g) xs ++ f ∷ map (renumbered g) rest))) (beyond_zero (length xs))
   found_between (x ∷ xs) rest (suc n) = ap (slice_get (to x ∷ (map (renumbered g) xs ++ f ∷ map (renumbered g) rest))) (beyond_suc (length xs) n) ∙ found_between xs rest n

@@ -1,7 +1,16 @@
+mod Lists
 mod Reworded
 mod FieldNames
 mod Compared
 mod Classes
 mod Placed
 mod Kept
+mod Typeless
+mod Places
 mod Joined
+mod Moved
+mod Answered
+mod Extended
+mod Together
+mod Levels
+mod Between

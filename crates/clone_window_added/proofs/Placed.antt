@@ -93,11 +93,11 @@ module _ {T : Type 0} where
   sort_kept (OpenConstant c) = refl
   sort_kept (Results t) = refl
 
-  sorts_kept : (ss : List (Sort T)) → map (sort_mapped (λ (t : T). t)) ss ≡ ss
+  pub sorts_kept : (ss : List (Sort T)) → map (sort_mapped (λ (t : T). t)) ss ≡ ss
   sorts_kept [] = refl
   sorts_kept (s ∷ ss) = ap (λ z. z ∷ map (sort_mapped (λ (t : T). t)) ss) (sort_kept s) ∙ ap (λ zs. s ∷ zs) (sorts_kept ss)
 
-  label_kept : (l : Label T) → label_mapped (λ (t : T). t) l ≡ l
+  pub label_kept : (l : Label T) → label_mapped (λ (t : T). t) l ≡ l
   label_kept l = ap (λ s. let z : Label T = record { sort = s; varies = l.varies; calls = l.calls } in z) (sort_kept l.sort)
 
 module _ (g : Gap) where

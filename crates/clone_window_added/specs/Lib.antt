@@ -1,2 +1,3 @@
 pub mod Reworded
 pub mod Unchanged
+pub mod Extended

@@ -11,8 +11,8 @@ use Rattle.clone_window_added.proofs.Joined.{joined}
 use Rattle.clone_window_added.proofs.laws.windows_of_appended_packages_stay.Goals as goal
 
 pub returns : goal.returns
-returns c k ss us h keeps old new bytes x answer s none y typed z longer =
+returns c k ss us h keeps old new bytes x answer s y typed z longer =
     let kept = c.unchanged_functions_keep_their_fault.ensures k ss us h keeps old bytes x answer s in
     joined (package_in ss) (package_in us) keeps.gap (surroundings_of (uses (map unit_of ss)) x) (surroundings_of (uses (map unit_of us)) (with_function keeps.gap.shared s x)) (function_specification k ss us h)
     (those_of entity.Function (specifications 0 ss)) (those_of entity.Function (specifications 0 us)) kept (c.functions_in_front_are_counted.ensures k ss us h keeps old new kept.front kept.rest kept.was kept.is)
-    none x.rights y z typed longer
+    (c.appended_functions_add_no_right_sides.ensures k ss us h keeps old new (surroundings_of (uses (map unit_of us)) (with_function keeps.gap.shared s x))) x.rights y z typed longer

@@ -1,0 +1,3 @@
+mod Framed
+mod Reading
+mod Functions
