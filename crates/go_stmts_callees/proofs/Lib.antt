@@ -1,0 +1,9 @@
+mod Uncalled
+mod Callees
+mod Expressions
+mod Nesting
+mod Layouts
+mod Readings
+mod Functions
+mod Packages
+mod Windows
