@@ -55,11 +55,11 @@ module _ (o : Bool) (c : Category) (s : Frame) (h : Hint) (i j : ℕ) (ps : Tree
       let taken = none-declared s kind.Assignment (form.Assign n) all refl in
       let zs = all_given ks all in
       let good : AllSound (row zs) → Each (Good P) zs = λ sd.
-          let judged = sound-judged all (given-sound ks all taken (each-row zs sd)) in
-          let rules : failing s kind.Assignment (form.Assign n) i j all ≡ [] = ap (λ b. if b then failing s kind.Assignment (form.Assign n) i j all else []) (sym judged) ∙ e in
-          let targets = front-nil (each (not_a_target (rights_of s)) (take n (present all))) (assignment_failing (rights_of s) i j (map target_type (take n (present all))) (drop n (present all))) rules in
-          let first = subst (λ m. each (not_a_target (rights_of s)) (take m (present all)) ≡ []) m targets in
-          given-row P 0 ks all taken (aimed-good P (rights_of s) ts ys a f g first) in
+      let judged = sound-judged all (given-sound ks all taken (each-row zs sd)) in
+      let rules : failing s kind.Assignment (form.Assign n) i j all ≡ [] = ap (λ b. if b then failing s kind.Assignment (form.Assign n) i j all else []) (sym judged) ∙ e in
+      let targets = front-nil (each (not_a_target (rights_of s)) (take n (present all))) (assignment_failing (rights_of s) i j (map target_type (take n (present all))) (drop n (present all))) rules in
+      let first = subst (λ m. each (not_a_target (rights_of s)) (take m (present all)) ≡ []) m targets in
+      given-row P 0 ks all taken (aimed-good P (rights_of s) ts ys a f g first) in
       subst (λ fs. Fine P (built_by s kind.Assignment (form.Assign n) i j all fs)) (sym e) (made-good P (form.Assign n) i j all zs good, tt)
 
   pub assignment : (xs : Parts) → RowAs c kind.Assignment h ps (rule (place_of c) kind.Assignment) 0 [] xs → Unfailing s kind.Assignment i j xs → Fine (Below o c (node kind.Assignment i j ps)) (node_of s kind.Assignment i j xs)

@@ -158,12 +158,12 @@ pub targets-as : (o : Bool) (q : Place) (s : Frame) (h : Hint) (k : Kind) (i j :
 targets-as o q s h kind.Targets i j ps zs e r =
     let P : OfHole = InTargets o q (node kind.Targets i j ps) in (
       held-list (Aimed P) (all_held zs)
-      (each-held (Aimed P) zs
-      (single-each (λ x. Each (Aimed P) (held (Some x))) (category.Targets q) kind.Targets h ps [] (token.Assign ∷ []) (category.LeftList q)
-      (λ x part. each-aimed (Below false (category.LeftList q) part.stood) P (in-targets o q i j ps part.stood (part.at refl)) (held (Some x)) (part.read.0 refl).0) zs r)),
+          (each-held (Aimed P) zs
+          (single-each (λ x. Each (Aimed P) (held (Some x))) (category.Targets q) kind.Targets h ps [] (token.Assign ∷ []) (category.LeftList q)
+          (λ x part. each-aimed (Below false (category.LeftList q) part.stood) P (in-targets o q i j ps part.stood (part.at refl)) (held (Some x)) (part.read.0 refl).0) zs r)),
       full-list (all_held zs)
-      (full-held zs (single-each (λ x. Full (held (Some x))) (category.Targets q) kind.Targets h ps [] (token.Assign ∷ []) (category.LeftList q) (λ x part. (part.read.0 refl).1) zs r)
-      (single-full zs r)),
+          (full-held zs (single-each (λ x. Full (held (Some x))) (category.Targets q) kind.Targets h ps [] (token.Assign ∷ []) (category.LeftList q) (λ x part. (part.read.0 refl).1) zs r)
+          (single-full zs r)),
     ) where
       single-full : (ys : Parts) → RowAs (category.Targets q) kind.Targets h ps (rule q kind.Targets) 0 [] ys → Full ys
       single-full [] u = tt
@@ -253,7 +253,7 @@ module _ (o : Bool) (s : Frame) (h : Hint) (i j : ℕ) (ps : Trees) (told : judg
       let list_part = r.1.0 in
       let first : OneOf (Good P) (cut (Some t)) = cut-one P (cut (Some t)) (type-cut P category.Type type_part.stood t type_part.read.1 type_part.read.0) in
       let listed : Each (Good P) (held (Some l)) = each-weaker-holes (Below true (category.ExpressionList place.Free) list_part.stood) P
-          (λ a b q. deeper o category.VariableRest kind.TypedValues i j ps 1 (category.ExpressionList place.Free) list_part.stood (list_part.at refl) a b q refl) (held (Some l)) (list_part.read refl told) in
+      (λ a b q. deeper o category.VariableRest kind.TypedValues i j ps 1 (category.ExpressionList place.Free) list_part.stood (list_part.at refl) a b q refl) (held (Some l)) (list_part.read refl told) in
       let behind : Each (Good P) (all_held (Some l ∷ [])) = each-held (Good P) (Some l ∷ []) (listed, tt) in
       let rows : all_held (Some t ∷ Some l ∷ []) ≡ Some t ∷ all_held (Some l ∷ []) = ap (λ ys. ys ++ all_held (Some l ∷ [])) (unheld-row t type_part.read.2) in
       subst (λ ys. Each (Good P) (first_cut ys)) (sym (list-row (all_held (Some t ∷ Some l ∷ [])))) (subst (λ ys. Each (Good P) (first_cut ys)) (sym rows) (first, behind))

@@ -147,7 +147,7 @@ module _ (o : Bool) (c : Category) (s : Frame) (h : Hint) (i j : ℕ) (ps : Tree
       let right = r.1.0 in
       let aims : Each (Aimed (Q k)) (held (Some t)) = each-aimed (InTargets true place.Header left.stood) (Q k) (λ a b z. deeper o c k i j ps 0 (category.Targets place.Header) left.stood (left.at refl) a b z.hole z.changes) (held (Some t)) left.read.0 in
       let fine : Fine (Q k) v = operand-fine-in k (Some t ∷ []) v right (lifted o c k i j ps 1 (any place.Header) right.stood (right.at refl) (λ path. refl) (λ e. refl))
-          (plain-fine true (any place.Header) value right.stood v refl (λ e. refl) refl right.read) in
+      (plain-fine true (any place.Header) value right.stood v refl (λ e. refl) refl right.read) in
       let unheld : held (Some v) ≡ Some v ∷ [] = unheld-row v (right.read.part.unheld right.read.expression) in
       assigning-over (held (Some t)) v (all_held (Some t ∷ Some v ∷ [])) _ u (ap (λ zs. held (Some t) ++ (zs ++ [])) unheld) aims left.read.1 (fine-good (Q k) v fine)
 
@@ -161,7 +161,7 @@ module _ (o : Bool) (c : Category) (s : Frame) (h : Hint) (i j : ℕ) (ps : Tree
       let k = kind.DefiningRange in
       let right = r.1.0 in
       let fine : Fine (Q k) v = operand-fine-in k (Some n ∷ []) v right (lifted o c k i j ps 1 (any place.Header) right.stood (right.at refl) (λ path. refl) (λ e. refl))
-          (plain-fine true (any place.Header) value right.stood v refl (λ e. refl) refl right.read) in
+      (plain-fine true (any place.Header) value right.stood v refl (λ e. refl) refl right.read) in
       let unheld : held (Some v) ≡ Some v ∷ [] = unheld-row v (right.read.part.unheld right.read.expression) in
       let ys : Parts = all_held (Some n ∷ Some v ∷ []) in
       let is : ys ≡ held (Some n) ++ Some v ∷ [] = ap (λ zs. held (Some n) ++ (zs ++ [])) unheld in

@@ -185,10 +185,10 @@ module _ (subtrees : Subtrees) (shapes : Shapes) (ts : List TokenKind) (c : Cate
       let below = subtrees ts c t p (n ∷ []) derived there in
       let derives : Derives ts category.Statement p = subst (λ d. Derives ts d p) (some-same below.category category.Statement (sym below.asked ∙ asked)) below.derives in
       let inside : (path : List ℕ) (s : Tree) → subtree_at path p ≡ Some s → (b ≤ first s) × (first s < last s) = λ path s e.
-          let deep = subtrees ts category.Statement p s path derives e in
-          let begins = below.begins in
-          let deeper = deep.begins in
-          ((let v : b ≤ first s = omega (arith, low, begins, deeper) in v), deep.some) in
+      let deep = subtrees ts category.Statement p s path derives e in
+      let begins = below.begins in
+      let deeper = deep.begins in
+      ((let v : b ≤ first s = omega (arith, low, begins, deeper) in v), deep.some) in
       let y = tree_in (reading h.frame h.hint (based b p)) in
       let P : OfHole = λ v w. HoleStands c t n (b + v) (b + w) in
       let holes = statement-holes h.frame h.hint (based b p) (shapes ts category.Statement b p derives) h.faultless (sound-mapped (renamed name) y (subst Sound h.is sd)) in
@@ -201,7 +201,7 @@ module _ (subtrees : Subtrees) (shapes : Shapes) (ts : List TokenKind) (c : Cate
   rows-hold start total e (suc count) (skip qs) (x ∷ xs) g u a r sd = absurd r
   rows-hold start total e (suc count) (more p qs) (x ∷ xs) g u a r sd = (
     holes-weaker (λ y z. HoleStands c t (start + e) (b + y) (b + z)) (HoleAt c t start total b) (λ y z h. record { number = e; within = omega (arith, u); hole = h }) x
-    (one-statement (start + e) p x (omega (arith, g)) (behind-there (start + e) ps p qs a) r.0 sd.0),
+        (one-statement (start + e) p x (omega (arith, g)) (behind-there (start + e) ps p qs a) r.0 sd.0),
     rows-hold start total (suc e) count qs xs g (omega (arith, u)) (ap (λ m. parts_behind m ps) (add-suc start e) ∙ behind-more (start + e) ps p qs a) r.1 sd.1,
   )
 
@@ -237,8 +237,8 @@ module _ (subtrees : Subtrees) (shapes : Shapes) (c : Content) (w : Window) (f :
       (ap (λ n. parts_behind n ps) (plus-zero s.front) ∙ (ap (λ z. parts_behind s.front (parts z)) (sym e) ∙ (parts-there ∙ ap (λ z. parts_behind w.first (parts_behind s.stands.front (parts z))) e)))
       (subst (λ z. AreRead s.stands.name b (parts_behind w.first (parts_behind s.stands.front (parts z))) xs) e (read-behind b s.stands.name w.first (parts_behind s.stands.front (parts s.stands.stood)) (statements_of s.list) s.stands.read))
       (drop-sound w.first (statements_of s.list) (list-sound f.tree s.list w.list whole_sound s.there)) where
-    plus-zero : (n : ℕ) → n + 0 ≡ n
-    plus-zero n = omega arith
+        plus-zero : (n : ℕ) → n + 0 ≡ n
+        plus-zero n = omega arith
 
   count-within : length (take w.count xs) ≤ suc s.others
   count-within =
@@ -256,7 +256,7 @@ module _ (subtrees : Subtrees) (shapes : Shapes) (c : Content) (w : Window) (f :
       let P : OfHole = HoleAt s.stands.category s.stands.stood s.front (length (take w.count xs)) b in
       let held = all-hold s.stands.stood node-derives refl in
       let found : HoleAt s.stands.category s.stands.stood s.front (length (take w.count xs)) b h.from h.upto =
-          all-at (At P) (holes_among 0 false (row_of (take w.count xs))) n h (among-found P 0 false (row_of (take w.count xs)) held) (ap (λ q. slice_get (holes_among 0 false q) n) (sym statements_there) ∙ there) in
+      all-at (At P) (holes_among 0 false (row_of (take w.count xs))) n h (among-found P 0 false (row_of (take w.count xs)) held) (ap (λ q. slice_get (holes_among 0 false q) n) (sym statements_there) ∙ there) in
       let within = found.within in
       let most = count-within in
       record { number = found.number; within = omega (arith, within, most); hole = found.hole }
