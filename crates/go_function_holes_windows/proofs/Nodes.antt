@@ -127,46 +127,69 @@ plain-kind P k x e h = h
 abbrev special_in : Category → Kind → Bool
 special_in c k = is_special k && within c k
 
+none-behind : (b : Bool) → (b && false) ≡ false
+none-behind true = refl
+none-behind false = refl
+
 block-kinds : (k : Kind) → special_in category.Block k ≡ false
 block-kinds kind.Block = refl
+block-kinds (kind.Group d) = none-behind (is_special (kind.Group d))
+block-kinds (kind.Specification d) = none-behind (is_special (kind.Specification d))
 block-kinds k = refl
 
 else-kinds : (k : Kind) → special_in category.Else k ≡ false
 else-kinds kind.Else = refl
+else-kinds (kind.Group d) = none-behind (is_special (kind.Group d))
+else-kinds (kind.Specification d) = none-behind (is_special (kind.Specification d))
 else-kinds k = refl
 
 branch-kinds : (k : Kind) → special_in category.Branch k ≡ false
 branch-kinds kind.If = refl
+branch-kinds (kind.Group d) = none-behind (is_special (kind.Group d))
+branch-kinds (kind.Specification d) = none-behind (is_special (kind.Specification d))
 branch-kinds k = refl
 
 clause-kinds : (k : Kind) → special_in category.Clause k ≡ false
 clause-kinds kind.Case = refl
+clause-kinds (kind.Group d) = none-behind (is_special (kind.Group d))
+clause-kinds (kind.Specification d) = none-behind (is_special (kind.Specification d))
 clause-kinds k = refl
 
 statement-kinds : (k : Kind) → special_in category.Statement k ≡ false
 statement-kinds kind.Return = refl
+statement-kinds (kind.Group d) = none-behind (is_special (kind.Group d))
+statement-kinds (kind.Specification d) = none-behind (is_special (kind.Specification d))
 statement-kinds k = refl
 
 simple-kinds : (k : Kind) → special_in category.Simple k ≡ false
 simple-kinds kind.Define = refl
+simple-kinds (kind.Group d) = none-behind (is_special (kind.Group d))
+simple-kinds (kind.Specification d) = none-behind (is_special (kind.Specification d))
 simple-kinds k = refl
 
 post-kinds : (k : Kind) → special_in category.Post k ≡ false
 post-kinds kind.Assignment = refl
+post-kinds (kind.Group d) = none-behind (is_special (kind.Group d))
+post-kinds (kind.Specification d) = none-behind (is_special (kind.Specification d))
 post-kinds k = refl
 
 if-kinds : (k : Kind) → special_in category.IfHeader k ≡ false
 if-kinds kind.LateCondition = refl
+if-kinds (kind.Group d) = none-behind (is_special (kind.Group d))
+if-kinds (kind.Specification d) = none-behind (is_special (kind.Specification d))
 if-kinds k = refl
 
 switch-kinds : (k : Kind) → special_in category.SwitchHeader k ≡ false
 switch-kinds kind.LateTag = refl
+switch-kinds (kind.Group d) = none-behind (is_special (kind.Group d))
+switch-kinds (kind.Specification d) = none-behind (is_special (kind.Specification d))
 switch-kinds k = refl
 
 variable-kinds : (k : Kind) → special_in (category.Specification declaring.Variable) k ≡ false
 variable-kinds (kind.Specification declaring.Constant) = refl
 variable-kinds (kind.Specification declaring.Type) = refl
 variable-kinds (kind.Specification declaring.Variable) = refl
+variable-kinds (kind.Group d) = none-behind (is_special (kind.Group d))
 variable-kinds k = refl
 
 body-kinds : (k : Kind) → special_in (category.DeclarationBody declaring.Variable) k ≡ false

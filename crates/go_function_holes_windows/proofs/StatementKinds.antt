@@ -17,7 +17,7 @@ use Rattle.go_rewriting.specs.Replacing.{next_category, next_rule}
 use Rattle.go_exprs_rules.specs.Tables.{is_placed}
 use Rattle.go_stmts_defs.specs.Reading.{is_list, is_declared_name, is_statement}
 use Rattle.go_stmts_final_types.specs.Shapes.{AreShaped}
-use Rattle.go_function_holes.proofs.Public.{differ, expression-kind, placed-expression}
+use Rattle.go_function_holes.proofs.Public.{differ, expression-kind}
 
 -- ---- what isn't read as a statement
 
