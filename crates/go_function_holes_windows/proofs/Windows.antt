@@ -76,15 +76,13 @@ behind-ordered (suc n) i j none o = (i, o)
 behind-ordered (suc n) i j (more p ps) o = behind-ordered n (last p) j ps o.2
 behind-ordered (suc n) i j (skip ps) o = behind-ordered n i j ps o
 
+nothing-behind : (n : ℕ) → parts_behind n none ≡ none
+nothing-behind zero = refl
+nothing-behind (suc n) = refl
+
 behind-both : (m n : ℕ) (ps : Trees) → parts_behind (m + n) ps ≡ parts_behind n (parts_behind m ps)
 behind-both zero n ps = (let e : zero + n ≡ n = omega arith in ap (λ k. parts_behind k ps) e)
-behind-both (suc m) n none = ap (λ k. parts_behind k none) (plus m n) ∙ nothing-behind (m + n) ∙ sym (nothing-behind n) where
-  plus : (m n : ℕ) → suc m + n ≡ suc (m + n)
-  plus m n = omega arith
-
-  nothing-behind : (n : ℕ) → parts_behind n none ≡ none
-  nothing-behind zero = refl
-  nothing-behind (suc n) = refl
+behind-both (suc m) n none = nothing-behind (suc m + n) ∙ sym (nothing-behind n)
 behind-both (suc m) n (more p ps) = (let e : suc m + n ≡ suc (m + n) = omega arith in ap (λ k. parts_behind k (more p ps)) e) ∙ behind-both m n ps
 behind-both (suc m) n (skip ps) = (let e : suc m + n ≡ suc (m + n) = omega arith in ap (λ k. parts_behind k (skip ps)) e) ∙ behind-both m n ps
 
