@@ -1,5 +1,5 @@
 -- Assignments and short variable declarations (Go specification: Assignment statements, Short variable declarations).
-use Rattle.std.proofs.Common.{◌≡◌, ◌∙◌, ℕ, zero, suc, Bool, true, false, if◌then◌else◌, List, [], ◌∷◌, ◌++◌, length, map, take, drop, Option, Some, None, refl, sym, ap, subst}
+use Rattle.std.proofs.Common.{◌≡◌, ◌∙◌, ℕ, Bool, true, false, if◌then◌else◌, List, [], ◌∷◌, ◌++◌, length, map, take, drop, Some, None, refl, sym, ap, subst}
 use Rattle.go_base.specs.declared.fault.FaultCode.TheVariants as code
 use Rattle.go_grammar.specs.declared.kind.Category.{Category}
 use Rattle.go_grammar.specs.declared.kind.Category.TheVariants as category
@@ -13,16 +13,16 @@ use Rattle.go_typed.specs.Trees.{typed, row}
 use Rattle.go_exprs_rules.specs.declared.fault.TypeFault.{TypeFault}
 use Rattle.go_exprs_rules.specs.Scopes.{Hint}
 use Rattle.go_exprs_rules.specs.Settling.{Part, at_part}
-use Rattle.go_exprs_rules.specs.Tables.{Parts, present, held, all_held, is_judged, made}
+use Rattle.go_exprs_rules.specs.Tables.{Parts, present, held, all_held}
 use Rattle.go_stmts_defs.specs.Assigning.{Wanted, assignment_failing, value_types_by, values_take, whole_results}
 use Rattle.go_stmts_defs.specs.Frames.{Frame, rights_of}
 use Rattle.go_stmts_defs.specs.Laying.{held_count}
-use Rattle.go_stmts_defs.specs.Rules.{each, not_a_target, target_type, assign_failing, known_type, failing, taking, all_given, own_faults, built_by}
+use Rattle.go_stmts_defs.specs.Rules.{each, not_a_target, target_type, known_type, failing, taking, all_given, own_faults, built_by}
 use Rattle.go_stmts_defs.specs.Targets.{is_target}
 use Rattle.go_function_holes.proofs.Public.{AllSound, Below, OfHole, deeper, each-row}
-use Rattle.go_function_holes_windows.proofs.Rows.{OneOf, Each, Good, Fine, IsBare, each-both, made-good}
+use Rattle.go_function_holes_windows.proofs.Rows.{Each, Good, Fine, each-both, made-good}
 use Rattle.go_function_holes_windows.proofs.Takings.{built-fine, given-row, given-sound, names-fit, names-front, none-declared, sound-judged, values-fit}
-use Rattle.go_function_holes_windows.proofs.Read.{Aimed, Full, InTargets, PartAs, RowAs}
+use Rattle.go_function_holes_windows.proofs.Read.{Aimed, Full, InTargets, RowAs}
 use Rattle.go_function_holes_windows.proofs.Layouts.{Unfailing, node_of}
 use Rattle.go_function_holes_windows.proofs.Lists.{each-aimed}
 use Rattle.go_function_holes_windows.proofs.Within.{each-weaker-holes}

@@ -1,5 +1,5 @@
 -- A hole of a statement whose tokens are counted from its function's first one, in the node that lists the statement.
-use Rattle.std.proofs.Common.{◌≡◌, ◌∙◌, ℕ, zero, suc, ◌+◌, ◌-◌, ◌<◌, ◌≤◌, Bool, true, false, List, [], ◌∷◌, Option, Some, None, refl, sym, ap, subst, arith}
+use Rattle.std.proofs.Common.{◌≡◌, ◌∙◌, ℕ, zero, suc, ◌+◌, ◌-◌, ◌<◌, ◌≤◌, Bool, true, false, List, [], ◌∷◌, Option, Some, None, refl, sym, ap, arith}
 use Rattle.std.specs.Prelude.{◌&&◌}
 use Rattle.go_tokens.specs.declared.token.TokenKind.{TokenKind}
 use Rattle.go_grammar.specs.declared.kind.Category.{Category}
@@ -7,10 +7,10 @@ use Rattle.go_grammar.specs.declared.kind.Category.TheVariants as category
 use Rattle.go_grammar.specs.declared.kind.Kind.{Kind}
 use Rattle.go_grammar.specs.declared.kind.Kind.TheVariants as kind
 use Rattle.go_grammar.specs.Categories.{place_of, is_expression}
-use Rattle.go_grammar.specs.Grammar.{Derives, rule}
+use Rattle.go_grammar.specs.Grammar.{rule}
 use Rattle.go_grammar.specs.Rules.{Items, Rule, End, Then, Maybe, Unless, Many, item}
-use Rattle.go_grammar.specs.Trees.{Tree, node, Trees, none, more, skip, kind_of, first, last, parts}
-use Rattle.go_rewriting.specs.Lists.{Subtree, items_at}
+use Rattle.go_grammar.specs.Trees.{Tree, node, Trees, none, more, skip, kind_of, first, last}
+use Rattle.go_rewriting.specs.Lists.{items_at}
 use Rattle.go_rewriting.specs.Replacing.{subtree_at, subtree_in, asked_at, asked_in, next_category, next_rule}
 use Rattle.go_rewriting.specs.Sites.{whole, is_clear, is_clear_in, may_change}
 use Rattle.go_print_laws.specs.Calls.{AreStatements, of_block, of_clause}
@@ -19,7 +19,7 @@ use Rattle.extract_names_derived.specs.Holes.{may_hold_holes, may_be_replaced, g
 use Rattle.go_function_trees.specs.Lists.{statements_from}
 use Rattle.go_function_holes.specs.Holes.{HoleStands}
 use Rattle.go_function_holes.specs.Ways.{may_be_named, part_named}
-use Rattle.go_function_holes.proofs.Public.{differ, open-free}
+use Rattle.go_function_holes.proofs.Public.{open-free}
 use Rattle.go_function_holes_windows.specs.Statements.{StatementHole}
 
 pub none-some : {A B : Type 0} (x : A) → (let o : Option A = None in o) ≡ Some x → B

@@ -1,6 +1,6 @@
 -- Declarations of variables, constants and types in a function (Go specification: Variable declarations, Constant declarations, Type
 -- declarations).
-use Rattle.std.proofs.Common.{◌≡◌, ◌∙◌, ℕ, zero, suc, Bool, true, false, if◌then◌else◌, List, [], ◌∷◌, ◌++◌, length, take, replicate, Option, Some, None, refl, sym, ap, subst}
+use Rattle.std.proofs.Common.{◌≡◌, ◌∙◌, ℕ, Bool, true, false, List, [], ◌∷◌, ◌++◌, take, replicate, Option, Some, None, refl, sym, subst}
 use Rattle.go_grammar.specs.declared.kind.Category.{Category}
 use Rattle.go_grammar.specs.declared.kind.Category.TheVariants as category
 use Rattle.go_grammar.specs.declared.kind.Kind.{Kind}
@@ -12,23 +12,21 @@ use Rattle.go_grammar.specs.Grammar.{rule}
 use Rattle.go_grammar.specs.Rules.{Lines}
 use Rattle.go_grammar.specs.Trees.{Trees, node}
 use Rattle.go_tokens.specs.declared.token.TokenKind.TheVariants as token
-use Rattle.go_typed.specs.declared.form.Form.{Form}
 use Rattle.go_typed.specs.declared.form.Form.TheVariants as form
-use Rattle.go_typed.specs.Trees.{row, list_of, form_of, parts_of}
-use Rattle.go_typed.specs.Trees as sort
+use Rattle.go_typed.specs.Trees.{list_of, form_of, parts_of}
 use Rattle.go_exprs_rules.specs.declared.fault.TypeFault.{TypeFault}
-use Rattle.go_exprs_rules.specs.Scopes.{Hint, several}
+use Rattle.go_exprs_rules.specs.Scopes.{Hint}
 use Rattle.go_exprs_rules.specs.Settling.{Part}
-use Rattle.go_exprs_rules.specs.Tables.{Parts, held, first_cut, made}
+use Rattle.go_exprs_rules.specs.Tables.{Parts, held, first_cut}
 use Rattle.go_stmts_defs.specs.Assigning.{rests, value_types_by, values_take, whole_results}
 use Rattle.go_stmts_defs.specs.Frames.{Frame, rights_of}
-use Rattle.go_stmts_defs.specs.Laying.{type_sort, type_number, type_name, typed_or_not, specification_parts, specified_names, all_names, is_group, specifications, layout, form_by, held_count}
+use Rattle.go_stmts_defs.specs.Laying.{type_sort, type_number, type_name, typed_or_not, specification_parts, specified_names, all_names, is_group, specifications, held_count}
 use Rattle.go_stmts_defs.specs.Rules.{type_there, values_there, taking, all_given, own_faults, built_by}
 use Rattle.clone_window.specs.Masses.{is_constant}
 use Rattle.go_function_holes.proofs.Public.{Below, OfHole, deeper, either, differ}
-use Rattle.go_function_holes_windows.proofs.Rows.{OneOf, Each, Good, Fine, IsBare, IsOwn, bare-good, each-both, each-weaker, list-row, own-hold}
+use Rattle.go_function_holes_windows.proofs.Rows.{Each, Good, Fine, IsBare, IsOwn, bare-good, each-both, each-weaker, list-row, own-hold}
 use Rattle.go_function_holes_windows.proofs.Takings.{FirstOwn, built-fine, first-front, first-given, first-taken, names-front, none-declared, values-fit, variables-fit}
-use Rattle.go_function_holes_windows.proofs.Read.{Declares, PartAs, RowAs, Specifies, many-each}
+use Rattle.go_function_holes_windows.proofs.Read.{Declares, RowAs, Specifies, many-each}
 use Rattle.go_function_holes_windows.proofs.Layouts.{Unfailing, node_of}
 use Rattle.go_function_holes_windows.proofs.Within.{each-weaker-holes}
 

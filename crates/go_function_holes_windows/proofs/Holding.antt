@@ -1,14 +1,12 @@
 -- The parts of statements that are no statements: names, types, and expressions.
-use Rattle.std.proofs.Common.{◌≡◌, ◌∙◌, ℕ, zero, suc, Bool, true, false, if◌then◌else◌, [], ◌∷◌, ◌++◌, Option, Some, None, refl, sym, ap, subst, append_assoc, append-nil}
+use Rattle.std.proofs.Common.{◌≡◌, ◌∙◌, ℕ, suc, Bool, true, false, if◌then◌else◌, [], ◌∷◌, ◌++◌, Some, None, refl, sym, ap, subst, append_assoc, append-nil}
 use Rattle.go_grammar.specs.declared.kind.Category.{Category}
 use Rattle.go_grammar.specs.declared.kind.Category.TheVariants as category
 use Rattle.go_grammar.specs.declared.kind.Kind.{Kind}
 use Rattle.go_grammar.specs.declared.kind.Kind.TheVariants as kind
-use Rattle.go_grammar.specs.declared.kind.Level.{Level}
 use Rattle.go_grammar.specs.declared.kind.Level.TheVariants as level
 use Rattle.go_grammar.specs.declared.kind.Place.{Place}
 use Rattle.go_grammar.specs.declared.kind.Place.TheVariants as place
-use Rattle.go_grammar.specs.declared.kind.Sort.TheVariants as declaring
 use Rattle.go_grammar.specs.Categories.{within, place_of, is_expression, is_type}
 use Rattle.go_grammar.specs.Grammar.{rule, any, is_name}
 use Rattle.go_grammar.specs.Rules.{Rule}
@@ -28,10 +26,10 @@ use Rattle.go_stmts_final_types.specs.Shapes.{IsShaped, AreShaped}
 use Rattle.extract_names_derived.specs.Holes.{gives_operands}
 use Rattle.go_function_trees.specs.Lists.{Faultless, parts_behind}
 use Rattle.go_function_holes.proofs.Public.{Below, TypedPart, back-faultless, behind-asked, behind-more, behind-skip, behind-there, by-form, differ, expression-kind, front-faultless, judges_values, rules-next, rules_behind, shaped-kind, shaped-more, shaped-skip, typed-part, typed-unheld}
-use Rattle.go_function_holes_windows.proofs.Rows.{Fine, IsBare, Each, Good}
-use Rattle.go_function_holes_windows.proofs.Read.{IsRead, PartAs, ReadAs, RowAs, row-end, row-more, row-skip}
+use Rattle.go_function_holes_windows.proofs.Rows.{Fine, IsBare}
+use Rattle.go_function_holes_windows.proofs.Read.{PartAs, ReadAs, RowAs, row-end, row-more, row-skip}
 use Rattle.go_function_holes_windows.proofs.Lists.{left-as, list-as, name-bare, new-as, targets-as, type-rest, typed-rest, values-as, values-rest}
-use Rattle.go_function_holes_windows.proofs.StatementKinds.{HeldRule, expression-undeclared, expression-unlisted, for-expression, foreign, held-more, held-skip, if-expression, is_foreign, is_sentence, list-rule, sentence-read, switch-expression, type-placed, type-undeclared, type-unlisted}
+use Rattle.go_function_holes_windows.proofs.StatementKinds.{HeldRule, expression-undeclared, expression-unlisted, for-expression, foreign, held-more, held-skip, if-expression, is_sentence, list-rule, sentence-read, switch-expression, type-placed, type-undeclared, type-unlisted}
 use Rattle.go_function_holes_windows.proofs.Loops.{headed-fine, is_assigning}
 use Rattle.go_function_holes_windows.proofs.Within.{Within, operand-fine}
 use Rattle.go_typed.specs.declared.form.Form.{Form}

@@ -1,7 +1,7 @@
 -- Lists of names and of expressions that are parts of statements, and the types and values of declarations (Go specification: Variable
 -- declarations, Assignment statements).
-use Rattle.std.proofs.Common.{◌≡◌, ◌∙◌, ℕ, zero, suc, Bool, true, false, List, [], ◌∷◌, ◌++◌, map, Option, Some, None, refl, sym, ap, subst}
-use Rattle.std.specs.Prelude.{◌&&◌, ◌||◌, nat_lt}
+use Rattle.std.proofs.Common.{◌≡◌, ◌∙◌, ℕ, zero, suc, Bool, true, false, [], ◌∷◌, ◌++◌, map, Option, Some, None, refl, sym, ap, subst}
+use Rattle.std.specs.Prelude.{◌||◌, nat_lt}
 use Rattle.go_grammar.specs.declared.kind.Category.{Category}
 use Rattle.go_grammar.specs.declared.kind.Category.TheVariants as category
 use Rattle.go_grammar.specs.declared.kind.Kind.{Kind}
@@ -24,7 +24,7 @@ use Rattle.go_typed.specs.declared.form.Form.TheVariants as form
 use Rattle.go_typed.specs.Trees.{typed, row, list_of, form_of, sort_of, label_of, parts_of}
 use Rattle.go_typed.specs.Trees as sort
 use Rattle.go_exprs_rules.specs.Names.{declared_form, is_blank}
-use Rattle.go_exprs_rules.specs.Scopes.{Scope, Hint, value, several, type_place, target, declares}
+use Rattle.go_exprs_rules.specs.Scopes.{Scope, Hint, value, several, type_place, declares}
 use Rattle.go_exprs_rules.specs.Settling.{Part}
 use Rattle.go_exprs_rules.specs.Sorts.{Stands, is_unknown}
 use Rattle.go_exprs_rules.specs.Tables.{Parts, is_held, held, all_held, cut, first_cut, is_placed}
@@ -33,11 +33,10 @@ use Rattle.go_stmts_defs.specs.Laying.{alone_or_value, layout, new_form, new_nam
 use Rattle.go_stmts_defs.specs.Reading.{list_node, name_node}
 use Rattle.go_stmts_defs.specs.Targets.{is_variable, is_target}
 use Rattle.clone_window.specs.Masses.{is_constant, is_expression}
-use Rattle.extract_names_derived.specs.Holes.{gives_operands}
 use Rattle.go_stmts_final_types.specs.Known.{is_object}
-use Rattle.go_function_holes.proofs.Public.{Below, IsPart, OfHole, Holes, PartHoles, PartSound, Sound, TypedPart, all-weaker, both, deeper, deeper-path, differ, holes-here, holes-weaker, is_whole, judges_values, open-free, sound-known, type-cut}
-use Rattle.go_function_holes_windows.proofs.Rows.{OneOf, Each, Good, Fine, IsBare, IsOwn, each-held, each-good, each-weaker, list-row}
-use Rattle.go_function_holes_windows.proofs.Read.{Aimed, Full, InTargets, IsRead, PartAs, PlainKind, ReadAs, RowAs, and-first, and-second, many-each, row-fine, single-each, then-each, then-full}
+use Rattle.go_function_holes.proofs.Public.{Below, IsPart, OfHole, PartHoles, PartSound, TypedPart, all-weaker, both, deeper, deeper-path, differ, holes-here, holes-weaker, judges_values, open-free, sound-known, type-cut}
+use Rattle.go_function_holes_windows.proofs.Rows.{OneOf, Each, Good, IsBare, IsOwn, each-held, each-good, each-weaker, list-row}
+use Rattle.go_function_holes_windows.proofs.Read.{Aimed, Full, InTargets, IsRead, PartAs, PlainKind, ReadAs, RowAs, and-first, and-second, row-fine, single-each, then-each, then-full}
 use Rattle.go_function_holes_windows.proofs.Within.{each-weaker-holes}
 
 pub held-list : (D : Part → Type 0) (ys : Parts) → Each D ys → Each D (list_of (row ys))

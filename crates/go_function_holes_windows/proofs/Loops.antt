@@ -1,5 +1,5 @@
 -- Loops (Go specification: For statements, For statements with range clause).
-use Rattle.std.proofs.Common.{◌≡◌, ◌∙◌, ℕ, zero, suc, ◌+◌, ◌-◌, Bool, true, false, List, [], ◌∷◌, ◌++◌, length, take, drop, Option, Some, None, refl, sym, ap, subst, append_assoc, arith, length-append}
+use Rattle.std.proofs.Common.{◌≡◌, ◌∙◌, ℕ, ◌-◌, Bool, true, false, List, [], ◌∷◌, ◌++◌, length, take, drop, Some, None, refl, sym, ap, subst, append_assoc, arith, length-append}
 use Rattle.go_grammar.specs.declared.kind.Category.{Category}
 use Rattle.go_grammar.specs.declared.kind.Category.TheVariants as category
 use Rattle.go_grammar.specs.declared.kind.Kind.{Kind}
@@ -7,23 +7,23 @@ use Rattle.go_grammar.specs.declared.kind.Kind.TheVariants as kind
 use Rattle.go_grammar.specs.declared.kind.Place.TheVariants as place
 use Rattle.go_grammar.specs.Categories.{place_of}
 use Rattle.go_grammar.specs.Grammar.{rule, any}
-use Rattle.go_grammar.specs.Trees.{Trees, node, kind_of}
+use Rattle.go_grammar.specs.Trees.{Trees, node}
 use Rattle.go_types.specs.Relations.{Rights}
 use Rattle.go_typed.specs.declared.form.Form.{Form}
 use Rattle.go_typed.specs.declared.form.Form.TheVariants as form
-use Rattle.go_typed.specs.Trees.{typed, row, list_of, form_of}
+use Rattle.go_typed.specs.Trees.{typed, list_of, form_of}
 use Rattle.go_exprs_rules.specs.declared.fault.TypeFault.{TypeFault}
 use Rattle.go_exprs_rules.specs.Scopes.{Hint, value}
 use Rattle.go_exprs_rules.specs.Settling.{Part}
-use Rattle.go_exprs_rules.specs.Tables.{Parts, present, is_held, held, all_held}
+use Rattle.go_exprs_rules.specs.Tables.{Parts, present, held, all_held}
 use Rattle.go_stmts_defs.specs.Frames.{Frame, rights_of}
-use Rattle.go_stmts_defs.specs.Laying.{target_count, loop_form, loop_header, for_parts}
+use Rattle.go_stmts_defs.specs.Laying.{target_count, loop_form, loop_header}
 use Rattle.go_stmts_defs.specs.Rules.{each, not_a_target, last_part, range_types, range_assigned, range_failing, own_faults, built_by}
 use Rattle.go_function_holes.proofs.Public.{Below, OfHole, differ}
-use Rattle.go_function_holes_windows.proofs.Rows.{OneOf, Each, Good, Fine, each-both, fine-good, list-row}
+use Rattle.go_function_holes_windows.proofs.Rows.{Each, Good, Fine, each-both, fine-good, list-row}
 use Rattle.go_function_holes_windows.proofs.Takings.{built-fine, loop-taken, names-front, NamesFirst, range-fit}
-use Rattle.go_function_holes_windows.proofs.Read.{Aimed, Full, Headed, InTargets, PartAs, Ranges, RowAs, plain-fine}
-use Rattle.go_function_holes_windows.proofs.Layouts.{Unfailing, built-form, node_of}
+use Rattle.go_function_holes_windows.proofs.Read.{Aimed, Full, Headed, InTargets, PartAs, RowAs, plain-fine}
+use Rattle.go_function_holes_windows.proofs.Layouts.{Unfailing, node_of}
 use Rattle.go_function_holes_windows.proofs.Lists.{each-aimed, unheld-row}
 use Rattle.go_function_holes_windows.proofs.Assignments.{aimed-good, front-nil}
 use Rattle.go_function_holes_windows.proofs.Within.{Within, each-weaker-holes, good-weaker, lifted}

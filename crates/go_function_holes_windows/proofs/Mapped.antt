@@ -1,5 +1,5 @@
 -- Typed trees under other words for types, and the parts of a tree that is sound.
-use Rattle.std.proofs.Common.{◌≡◌, ◌∙◌, ℕ, zero, suc, Bool, true, false, if◌then◌else◌, List, [], ◌∷◌, ◌++◌, drop, take, Option, Some, None, slice_get, refl, sym, ap, subst}
+use Rattle.std.proofs.Common.{◌≡◌, ◌∙◌, ℕ, zero, suc, List, [], ◌∷◌, drop, Some, slice_get, refl, sym, ap, subst}
 use Rattle.std.specs.Prelude.{◌&&◌, not}
 use Rattle.std.specs.List.{AllByRecursion}
 use Rattle.go_types.specs.Trees.{TypeTree}
@@ -12,7 +12,6 @@ use Rattle.go_typed.specs.Trees as sort
 use Rattle.go_exprs_rules.specs.Settling.{Part}
 use Rattle.go_exprs_rules.specs.Sorts.{Stands, is_unknown}
 use Rattle.clone_window.specs.Masses.{is_constant, is_expression}
-use Rattle.clone_window.specs.Windows.{row_of}
 use Rattle.go_stmts_final_types.specs.Known.{AreOwn, DeclaresOwn}
 use Rattle.go_function_holes.specs.Holes.{applies, is_first_constant}
 use Rattle.go_function_holes.proofs.Public.{AllHoles, AllSound, Here, Holes, OfHole, Sound, all-at, all-both, both}
@@ -98,8 +97,3 @@ statements-sound (typed f i j m ps) h = drop-sound (values_count f) (present ps)
 -- the statements of a list of a sound tree are sound
 pub list-sound : (x l : Part) (n : ℕ) → Sound x → slice_get (statement_lists x) n ≡ Some l → AllByRecursion Sound (statements_of l)
 list-sound x l n h e = statements-sound l (all-at Sound (statement_lists x) n l (lists-sound x h) e)
-
-pub row-sound : (n : ℕ) (xs : List Part) → AllByRecursion Sound xs → AllSound (row_of (take n xs))
-row-sound zero xs h = tt
-row-sound (suc n) [] h = tt
-row-sound (suc n) (x ∷ xs) h = (h.0, row-sound n xs h.1)

@@ -1,15 +1,14 @@
 -- Each kind of statement over its parts, and what it is where a category is asked for.
-use Rattle.std.proofs.Common.{◌≡◌, ◌∙◌, ℕ, Bool, true, false, [], ◌∷◌, Option, Some, None, refl, sym, ap, subst}
+use Rattle.std.proofs.Common.{◌≡◌, ◌∙◌, ℕ, Bool, true, false, [], refl, sym, ap}
 use Rattle.std.specs.Prelude.{◌&&◌}
 use Rattle.go_grammar.specs.declared.kind.Category.{Category}
 use Rattle.go_grammar.specs.declared.kind.Category.TheVariants as category
 use Rattle.go_grammar.specs.declared.kind.Kind.{Kind}
 use Rattle.go_grammar.specs.declared.kind.Kind.TheVariants as kind
 use Rattle.go_grammar.specs.declared.kind.Sort.TheVariants as declaring
-use Rattle.go_grammar.specs.Categories.{within, place_of, is_expression}
+use Rattle.go_grammar.specs.Categories.{within, place_of}
 use Rattle.go_grammar.specs.Grammar.{rule}
 use Rattle.go_grammar.specs.Trees.{Tree, Trees, node}
-use Rattle.go_typed.specs.Trees.{form_of}
 use Rattle.go_exprs_rules.specs.Scopes.{Hint}
 use Rattle.go_exprs_rules.specs.Settling.{Part}
 use Rattle.go_exprs_rules.specs.Tables.{Parts}

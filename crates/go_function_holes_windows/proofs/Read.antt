@@ -1,5 +1,5 @@
 -- What is known of the parts of a statement that are read, by the categories that are asked for.
-use Rattle.std.proofs.Common.{◌≡◌, ◌∙◌, ℕ, zero, suc, Bool, true, false, List, [], ◌∷◌, ◌++◌, length, Option, Some, None, refl, sym, ap, subst}
+use Rattle.std.proofs.Common.{◌≡◌, ◌∙◌, ℕ, suc, Bool, true, false, List, [], ◌∷◌, ◌++◌, length, Option, Some, None, refl, sym}
 use Rattle.std.specs.Prelude.{◌&&◌, ◌||◌, not}
 use Rattle.go_grammar.specs.declared.kind.Category.{Category}
 use Rattle.go_grammar.specs.declared.kind.Category.TheVariants as category
@@ -8,8 +8,8 @@ use Rattle.go_grammar.specs.declared.kind.Kind.TheVariants as kind
 use Rattle.go_grammar.specs.declared.kind.Level.TheVariants as level
 use Rattle.go_grammar.specs.declared.kind.Place.{Place}
 use Rattle.go_grammar.specs.declared.kind.Sort.TheVariants as declaring
-use Rattle.go_grammar.specs.Categories.{within, place_of, is_expression}
-use Rattle.go_grammar.specs.Grammar.{rule, are_names, is_name}
+use Rattle.go_grammar.specs.Categories.{is_expression}
+use Rattle.go_grammar.specs.Grammar.{are_names, is_name}
 use Rattle.go_grammar.specs.Rules.{Rule, End, Then, Maybe, Unless, Many, Items, item}
 use Rattle.go_grammar.specs.Trees.{Tree, node, Trees, kind_of, parts}
 use Rattle.go_grammar.specs.Trees as syntax
@@ -24,11 +24,11 @@ use Rattle.go_exprs_rules.specs.Settling.{Part}
 use Rattle.go_exprs_rules.specs.Tables.{Parts, is_held, held, first_cut, is_placed}
 use Rattle.go_stmts_defs.specs.Laying.{told, behind_names, typed_or_not, specified_names, all_names, specifications, is_group, target_count}
 use Rattle.go_stmts_defs.specs.Targets.{is_target}
-use Rattle.go_stmts_final_types.specs.Shapes.{IsShaped, AreShaped}
+use Rattle.go_stmts_final_types.specs.Shapes.{AreShaped}
 use Rattle.extract_names_derived.specs.Holes.{may_hold_holes, may_be_replaced, gives_operands}
 use Rattle.go_rewriting.specs.Sites.{may_change}
-use Rattle.go_function_holes.proofs.Public.{Below, IsPart, OfHole, Holes, Sound, TypedPart, IsOpen, differ, operand-takes, judges_values, shaped-more}
-use Rattle.go_function_holes_windows.proofs.Rows.{Each, OneOf, Good, Fine, IsBare, IsOwn, each-weaker}
+use Rattle.go_function_holes.proofs.Public.{Below, IsPart, OfHole, Holes, Sound, TypedPart, IsOpen, differ, operand-takes, judges_values}
+use Rattle.go_function_holes_windows.proofs.Rows.{Each, Good, Fine, IsBare, IsOwn}
 use Rattle.go_function_holes_windows.proofs.Within.{Within, lifted, each-weaker-holes, fine-within, operand-fine}
 
 -- ---- flavours

@@ -1,5 +1,5 @@
 -- Rows of typed parts, and what holds of each part that is there.
-use Rattle.std.proofs.Common.{◌≡◌, ℕ, zero, suc, Bool, true, false, List, [], ◌∷◌, ◌++◌, Option, Some, None, refl, sym, ap, subst}
+use Rattle.std.proofs.Common.{◌≡◌, ℕ, Bool, true, false, [], ◌∷◌, ◌++◌, Option, Some, None, refl, sym, ap, subst}
 use Rattle.std.specs.Prelude.{◌&&◌}
 use Rattle.go_types.specs.Trees.{TypeTree}
 use Rattle.go_typed.specs.declared.form.Form.{Form}
@@ -11,7 +11,7 @@ use Rattle.go_exprs_rules.specs.Tables.{Parts, is_held, held, all_held, made, la
 use Rattle.go_stmts_defs.specs.Laying.{without_absent}
 use Rattle.clone_window.specs.Masses.{is_constant, is_expression}
 use Rattle.go_stmts_final_types.specs.Known.{is_object, AreOwn}
-use Rattle.go_function_holes.proofs.Public.{OfHole, Here, Holes, AllHoles, Sound, AllSound, EachSound, both, differ}
+use Rattle.go_function_holes.proofs.Public.{OfHole, Here, Holes, AllHoles, Sound, AllSound, both, differ}
 
 -- ---- each part
 
@@ -26,10 +26,6 @@ Each D (x ∷ xs) = OneOf D x × Each D xs
 pub each-both : (D : Part → Type 0) (xs ys : Parts) → Each D xs → Each D ys → Each D (xs ++ ys)
 each-both D [] ys g h = h
 each-both D (x ∷ xs) ys g h = (g.0, each-both D xs ys g.1 h)
-
-pub each-front : (D : Part → Type 0) (xs ys : Parts) → Each D (xs ++ ys) → Each D xs
-each-front D [] ys h = tt
-each-front D (x ∷ xs) ys h = (h.0, each-front D xs ys h.1)
 
 pub one-weaker : (D E : Part → Type 0) → ((x : Part) → D x → E x) → (x : Option Part) → OneOf D x → OneOf E x
 one-weaker D E g None h = tt

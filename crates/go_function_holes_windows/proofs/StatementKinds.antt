@@ -1,5 +1,5 @@
 -- Which kinds of nodes are read as statements, by the categories that are asked for.
-use Rattle.std.proofs.Common.{◌≡◌, ◌∙◌, ℕ, Bool, true, false, refl, sym, ap}
+use Rattle.std.proofs.Common.{◌≡◌, ◌∙◌, Bool, true, false, refl, sym}
 use Rattle.std.specs.Prelude.{◌&&◌}
 use Rattle.go_grammar.specs.declared.kind.Category.{Category}
 use Rattle.go_grammar.specs.declared.kind.Category.TheVariants as category
@@ -7,7 +7,6 @@ use Rattle.go_grammar.specs.declared.kind.Kind.{Kind}
 use Rattle.go_grammar.specs.declared.kind.Kind.TheVariants as kind
 use Rattle.go_grammar.specs.declared.kind.Place.{Place}
 use Rattle.go_grammar.specs.declared.kind.Sort.{Sort}
-use Rattle.go_grammar.specs.declared.kind.Sort.TheVariants as declaring
 use Rattle.go_grammar.specs.Categories.{within, is_type, is_expression}
 use Rattle.go_grammar.specs.Rules.{Rule, End, Then, Maybe, Unless, Many, item}
 use Rattle.go_grammar.specs.Grammar.{rule}

@@ -1,6 +1,6 @@
 -- What the parts of statements take: values take types, and names stand for what they are given.
-use Rattle.std.proofs.Common.{◌≡◌, ◌∙◌, ℕ, zero, suc, ◌-◌, Bool, true, false, if◌then◌else◌, List, [], ◌∷◌, ◌++◌, length, map, take, drop, replicate, Option, Some, None, refl, sym, ap, subst}
-use Rattle.std.specs.Prelude.{◌&&◌, ◌||◌, not, ◌==◌}
+use Rattle.std.proofs.Common.{◌≡◌, ◌∙◌, ℕ, zero, suc, Bool, true, false, List, [], ◌∷◌, ◌++◌, length, map, take, drop, replicate, Option, Some, None, refl, sym, ap, subst}
+use Rattle.std.specs.Prelude.{◌||◌, not, ◌==◌}
 use Rattle.std.specs.List.{list_any}
 use Rattle.go_grammar.specs.declared.kind.Kind.{Kind}
 use Rattle.go_grammar.specs.declared.kind.Kind.TheVariants as kind
@@ -15,15 +15,15 @@ use Rattle.go_typed.specs.Trees as sort
 use Rattle.go_exprs_rules.specs.declared.family.OpenKind.{OpenKind}
 use Rattle.go_exprs_rules.specs.declared.fault.TypeFault.{TypeFault}
 use Rattle.go_exprs_rules.specs.Operators.{operation_takes}
-use Rattle.go_exprs_rules.specs.Settling.{Part, Take, stay, default, as_type, settled, all_settled, defaulted, given}
-use Rattle.go_exprs_rules.specs.Sorts.{Stands, own_type, open_kind, default_type, takes_type, retyped, is_unknown}
-use Rattle.go_exprs_rules.specs.Tables.{Parts, present, on_two, is_lost, is_judged, made}
-use Rattle.go_stmts_defs.specs.Assigning.{Wanted, Taking, takes, stands, rests, type_or_default, variable, first_known, names_take, values_take, value_types_by, whole_results}
+use Rattle.go_exprs_rules.specs.Settling.{Part, Take, stay, default, as_type, settled, all_settled, defaulted}
+use Rattle.go_exprs_rules.specs.Sorts.{own_type, open_kind, default_type, takes_type, retyped}
+use Rattle.go_exprs_rules.specs.Tables.{Parts, present, on_two, is_lost, is_judged}
+use Rattle.go_stmts_defs.specs.Assigning.{Wanted, Taking, takes, stands, type_or_default, variable, first_known, names_take, values_take}
 use Rattle.go_stmts_defs.specs.Frames.{Frame, rights_of}
-use Rattle.go_stmts_defs.specs.Rules.{names_in, known_type, target_type, type_there, values_there, rest, type_stands, elements_stand, last_part, range_types, range_stands, operand_takes, is_first_number, target_there, loop_takes, taking, given_part, given_optional, all_given, built_by}
+use Rattle.go_stmts_defs.specs.Rules.{names_in, target_type, rest, type_stands, elements_stand, range_types, range_stands, operand_takes, is_first_number, target_there, loop_takes, taking, given_part, all_given, built_by}
 use Rattle.clone_window.specs.Masses.{is_constant, is_expression}
 use Rattle.go_stmts_final_types.specs.Known.{is_object}
-use Rattle.go_function_holes.proofs.Public.{OfHole, Sound, AllSound, EachSound, both, differ, given-holes, retyped-constant, sound-known, ungiven}
+use Rattle.go_function_holes.proofs.Public.{OfHole, EachSound, both, differ, given-holes, retyped-constant, sound-known, ungiven}
 use Rattle.go_function_holes_windows.proofs.Rows.{OneOf, Each, Good, Fine, IsBare, IsOwn, made-fine, bare-good}
 
 -- ---- one part

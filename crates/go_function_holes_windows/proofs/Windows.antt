@@ -1,5 +1,5 @@
 -- The holes of a window stand in its statements.
-use Rattle.std.proofs.Common.{◌≡◌, ◌∙◌, ℕ, zero, suc, ◌+◌, ◌-◌, ◌<◌, ◌≤◌, Bool, true, false, List, [], ◌∷◌, length, drop, take, Option, Some, None, slice_get, refl, sym, ap, subst, arith}
+use Rattle.std.proofs.Common.{◌≡◌, ◌∙◌, ℕ, zero, suc, ◌+◌, ◌<◌, ◌≤◌, Bool, true, false, List, [], ◌∷◌, length, drop, take, Some, slice_get, refl, sym, ap, subst, arith}
 use Rattle.std.specs.Prelude.{nat_lt}
 use Rattle.std.proofs.lemmas.Bool.Decides.{nat_tests}
 use Rattle.std.specs.List.{AllByRecursion}
@@ -14,7 +14,7 @@ use Rattle.go_grammar.specs.Rules.{Items}
 use Rattle.go_grammar.specs.Trees.{Tree, node, Trees, none, more, skip, kind_of, first, last, parts}
 use Rattle.go_rewriting.specs.Lists.{InOrder, Ordered, Subtree, items_at, has_run}
 use Rattle.go_rewriting.specs.Places.{Range, range, has_items, items_end}
-use Rattle.go_rewriting.specs.Replacing.{subtree_at, subtree_in, asked_at, asked_in}
+use Rattle.go_rewriting.specs.Replacing.{subtree_at, subtree_in, asked_in}
 use Rattle.go_rewriting.specs.Sites.{run_range}
 use Rattle.go_tree.specs.Views.{view}
 use Rattle.go_print_laws.specs.Calls.{AreStatements}
@@ -22,8 +22,8 @@ use Rattle.go_types.specs.Trees.{TypeTree}
 use Rattle.go_types_relations.specs.Renaming.{renamed}
 use Rattle.go_typed.specs.declared.window.Window.{Window}
 use Rattle.go_typed.specs.Contents.{Content, FuncContent}
-use Rattle.go_typed.specs.Lists.{statement_lists, statements_of}
-use Rattle.go_typed.specs.Trees.{Typed, first_of, last_of, mapped}
+use Rattle.go_typed.specs.Lists.{statements_of}
+use Rattle.go_typed.specs.Trees.{first_of, last_of}
 use Rattle.go_typed.specs.Windows as windows
 use Rattle.go_exprs_rules.specs.Settling.{Part}
 use Rattle.clone_window.specs.Spans.{last_from, range_over}

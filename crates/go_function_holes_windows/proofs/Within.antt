@@ -1,25 +1,20 @@
 -- Paths from a node to the expressions in its parts that may become names.
-use Rattle.std.proofs.Common.{◌≡◌, ◌∙◌, ℕ, zero, suc, Bool, true, false, List, [], ◌∷◌, Option, Some, None, refl, sym, ap, subst}
-use Rattle.std.specs.Prelude.{◌&&◌}
+use Rattle.std.proofs.Common.{◌≡◌, ◌∙◌, ℕ, Bool, true, false, List, [], ◌∷◌, Some, sym, ap, subst}
 use Rattle.go_grammar.specs.declared.kind.Category.{Category}
-use Rattle.go_grammar.specs.declared.kind.Category.TheVariants as category
 use Rattle.go_grammar.specs.declared.kind.Kind.{Kind}
 use Rattle.go_grammar.specs.declared.kind.Level.TheVariants as level
-use Rattle.go_grammar.specs.declared.kind.Place.{Place}
 use Rattle.go_grammar.specs.Categories.{place_of, is_expression}
 use Rattle.go_grammar.specs.Grammar.{rule}
 use Rattle.go_grammar.specs.Trees.{Tree, node, Trees, kind_of, first, last}
-use Rattle.go_rewriting.specs.Replacing.{asked_at, asked_in, takes_level}
+use Rattle.go_rewriting.specs.Replacing.{asked_in, takes_level}
 use Rattle.go_rewriting.specs.Sites.{may_change}
-use Rattle.go_types.specs.Relations.{Rights}
 use Rattle.go_typed.specs.Trees.{list_of, form_of, parts_of}
 use Rattle.go_exprs_rules.specs.Scopes.{Hint}
 use Rattle.go_exprs_rules.specs.Settling.{Part}
-use Rattle.go_exprs_rules.specs.Tables.{Parts, is_held, held, is_type}
-use Rattle.go_stmts_defs.specs.Targets.{is_target}
+use Rattle.go_exprs_rules.specs.Tables.{Parts, is_held, held}
 use Rattle.extract_names_derived.specs.Holes.{may_be_replaced, gives_operands}
 use Rattle.go_function_holes.specs.Holes.{is_operand_place}
-use Rattle.go_function_holes.proofs.Public.{Below, IsPart, OfHole, Holes, Sound, Operand, TypedPart, all-weaker, deeper, either, differ, holes-here, holes-weaker, is_whole, itself, judges_values}
+use Rattle.go_function_holes.proofs.Public.{Below, IsPart, OfHole, TypedPart, all-weaker, deeper, either, differ, holes-here, holes-weaker, itself, judges_values}
 use Rattle.go_function_holes_windows.proofs.Rows.{Each, Good, Fine, each-weaker}
 
 -- in a part: below it, or it itself
