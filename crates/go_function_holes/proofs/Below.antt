@@ -117,6 +117,11 @@ module _ (o : Bool) (c : Category) (k : Kind) (a b : ℕ) (ps : Trees) (n : ℕ)
         named = both-true (may_hold_holes k) (part_named o k n n path ps) at.holds (named-part p path o k n n ps at.there ∙ h.named);
       }
 
+  -- by a path through the part
+  pub deeper-path : (i j : ℕ) (h : Below (gives_operands k n) d p i j) (m : may_change k n (h.part ∷ h.path) ≡ true) → ((deeper i j h m).part ≡ n) × ((deeper i j h m).path ≡ h.part ∷ h.path)
+  unfolding deeper
+  deeper-path i j h m = (refl, refl)
+
   -- the part itself
   pub itself : is_expression (kind_of p) ≡ true → takes_level level.Primary d ≡ true → may_be_replaced o k n ≡ true → may_change k n [] ≡ true → Below o c (node k a b ps) (first p) (last p)
   itself e t r m = record {

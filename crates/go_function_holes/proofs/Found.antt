@@ -24,11 +24,11 @@ use Rattle.go_function_holes.proofs.Below.{Below, Operand, holes-here}
 use Rattle.go_function_holes.proofs.Holed.{OfHole, Here, Holes, AllHoles, differ, either, all-weaker, sound}
 use Rattle.go_function_holes.proofs.Operands.{typed-part}
 
-all-both : {A : Type 0} (P : A → Type 0) (xs ys : List A) → AllByRecursion P xs → AllByRecursion P ys → AllByRecursion P (xs ++ ys)
+pub all-both : {A : Type 0} (P : A → Type 0) (xs ys : List A) → AllByRecursion P xs → AllByRecursion P ys → AllByRecursion P (xs ++ ys)
 all-both P [] ys h k = k
 all-both P (x ∷ xs) ys h k = (h.0, all-both P xs ys h.1 k)
 
-all-at : {A : Type 0} (P : A → Type 0) (xs : List A) (n : ℕ) (x : A) → AllByRecursion P xs → slice_get xs n ≡ Some x → P x
+pub all-at : {A : Type 0} (P : A → Type 0) (xs : List A) (n : ℕ) (x : A) → AllByRecursion P xs → slice_get xs n ≡ Some x → P x
 all-at P [] n x h e = absurd cc
 all-at P (y ∷ xs) zero x h e = let same : y ≡ x = cc in subst P same h.0
 all-at P (y ∷ xs) (suc n) x h e = all-at P xs n x h.1 e
@@ -40,7 +40,7 @@ here A false true true e h = absurd (differ e)
 here A false false v e h = absurd (differ e)
 
 module _ (P : OfHole) where
-  abbrev At : Hole TypeTree → Type 0
+  abbrev pub At : Hole TypeTree → Type 0
   At h = P h.from h.upto
 
   mutual
@@ -49,7 +49,7 @@ module _ (P : OfHole) where
         either (AllByRecursion At) (is_hole a f l) (record { node = k; from = i; upto = j; sort = l.sort } ∷ []) (holes_among (suc k) (is_inside a f l) ps)
         (λ e. (here (P i j) a (is_expression f && is_constant l.sort) l.varies e h.0, tt)) (λ e. among-found (suc k) (is_inside a f l) ps h.1)
 
-    among-found : (k : ℕ) (a : Bool) (ps : Typeds TypeTree) → AllHoles P ps → AllByRecursion At (holes_among k a ps)
+    pub among-found : (k : ℕ) (a : Bool) (ps : Typeds TypeTree) → AllHoles P ps → AllByRecursion At (holes_among k a ps)
     among-found k a none h = tt
     among-found k a (more p ps) h = all-both At (holes_in k a p) (holes_among (k + size p) a ps) (holes-found k a p h.0) (among-found (k + size p) a ps h.1)
     among-found k a (skip ps) h = among-found k a ps h

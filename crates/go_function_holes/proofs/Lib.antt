@@ -5,3 +5,4 @@ mod Typed
 mod Expressions
 mod Operands
 mod Found
+pub mod Public

@@ -1,0 +1,17 @@
+mod Rows
+mod Takings
+mod Within
+mod Read
+mod Lists
+mod StatementKinds
+mod Layouts
+mod Declarations
+mod Assignments
+mod Loops
+mod Nodes
+mod Holding
+mod Reading
+mod Found
+mod Mapped
+mod Based
+mod Windows
