@@ -1,1 +1,3 @@
+mod Functions
+mod Known
 mod Checked
